@@ -1,0 +1,67 @@
+//! A list of bytes that grows where memory is left.
+ghost use Rattle.std.specs.Prelude.{◌≡◌, [], ◌++◌, OnOk, OnErr};
+
+use crate::no_memory::NoMemory;
+use std::alloc::Global;
+use std::marker::Model;
+
+/// A list of bytes, and contracts see it as that list.
+#[derive(Debug, Drop)]
+pub struct Bytes {
+    list: Vec<u8>,
+}
+
+impl Model for Bytes {
+    ghost use Rattle.std.specs.Prelude.{List, ℕ};
+
+    ghost Value = { List ℕ };
+
+    ghost view = { λ b. b.list.items };
+}
+
+impl Bytes {
+    /// An empty list, which takes no memory yet.
+    pub fn new(alloc: Global) -> Self
+        ensures { result ≡ [] }
+    {
+        Bytes {
+            list: Vec::new(alloc),
+        }
+    }
+
+    /// Appends the whole text. The room doubles as it grows, so each byte is moved a bounded
+    /// number of times. After `NoMemory` the list is as it was and good for further calls.
+    pub fn push_all(&mut self, text: &[u8]) -> Result<(), NoMemory>
+        ensures ok { OnOk result (self.new ≡ self.old ++ text.now) }
+        ensures no_memory { OnErr result (self.new ≡ self.old) }
+    {
+        self.list.extend_from_slice(text)?;
+        Ok(())
+    }
+
+    pub fn as_slice(&self) -> &[u8]
+        ensures { result.now ≡ self.now }
+    {
+        self.list.as_slice()
+    }
+}
+
+#[cfg(test)]
+mod tests {
+    use super::*;
+    use std::test::Fail;
+
+    #[test]
+    fn pieces_stand_one_after_another(rt: HostRuntime) -> Result<(), Fail> {
+        let pieces: [&[u8]; 4] = [b"get ", b"", b"\x00\xff", b"\r\n"];
+        let lengths = [4, 4, 6, 8];
+        let mut list = Bytes::new(rt.alloc());
+        assert_eq!(rt; list.as_slice(), b"".as_slice());
+        for (piece, length) in pieces.into_iter().zip(lengths) {
+            list.push_all(piece)?;
+            assert_eq!(rt; list.as_slice().len(), length);
+        }
+        assert_eq!(rt; list.as_slice(), b"get \x00\xff\r\n".as_slice());
+        Ok(())
+    }
+}
