@@ -1,0 +1,4 @@
+pub mod Places
+pub mod FlatMemory
+pub mod FlatStep
+pub mod TwoSides

@@ -1,0 +1,3 @@
+pub mod ScriptGrammar
+pub mod PrintedLines
+pub mod ScriptMeaning
