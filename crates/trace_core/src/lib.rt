@@ -7,6 +7,9 @@
 
 mod event;
 mod outcome;
+mod page;
+mod pages;
+mod range;
 
 pub use event::Event;
 pub use outcome::Outcome;
