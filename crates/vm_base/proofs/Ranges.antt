@@ -31,3 +31,8 @@ lowest_above test n end below fails = ap (find test) (range_front n end below) �
 -- no number is left
 pub lowest_none : (test : ℕ → Bool) (n end : ℕ) → end ≤ n → lowest test n (end - n) ≡ None
 lowest_none test n end past = let nothing : end - n ≡ 0 = omega arith in ap (lowest test n) nothing
+
+-- no number of a range passes a test that none passes
+pub lowest_fails : (n first : ℕ) (test : ℕ → Bool) → ((k : ℕ) → test k ≡ false) → lowest test first n ≡ None
+lowest_fails zero first test fails = refl
+lowest_fails (suc n) first test fails = cond-false (test first) _ _ (fails first) ∙ lowest_fails n (first + 1) test fails
