@@ -1,2 +1,4 @@
 //! The top calls of afkv.
 #![tactic(auto)]
+
+mod script;

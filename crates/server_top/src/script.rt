@@ -1,0 +1,2 @@
+//! Scripts: how their text is read, and how the lines that they print are spelled.
+mod printer;
