@@ -1,3 +1,4 @@
 pub mod ScriptGrammar
 pub mod PrintedLines
 pub mod ScriptMeaning
+pub mod ScriptReading

@@ -1,2 +1,6 @@
 //! Scripts: how their text is read, and how the lines that they print are spelled.
+mod line;
+mod number;
 mod printer;
+mod reader;
+mod tokens;
