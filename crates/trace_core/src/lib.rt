@@ -6,7 +6,13 @@
 #![tactic(auto)]
 
 mod event;
+mod kernel;
+mod memory;
 mod outcome;
+mod page;
+mod pages;
+mod range;
 
 pub use event::Event;
+pub use kernel::{Kernel, MOST_FRAMES};
 pub use outcome::Outcome;

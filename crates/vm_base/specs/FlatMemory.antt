@@ -1,5 +1,5 @@
 -- A memory as its owner sees it: areas, and the bytes of the pages that are present.
-use Rattle.std.specs.Prelude.{◌≡◌, ◌≢◌, ℕ, ◌+◌, ◌≤◌, ◌<◌, nat_le, nat_lt, Bool, ◌&&◌, List, [], ◌∷◌, Option, Some, None, IsSome, unwrap_or, length, slice_index, replicate, map}
+use Rattle.std.specs.Prelude.{◌≡◌, ◌≢◌, ℕ, ◌+◌, ◌≤◌, ◌<◌, nat_le, nat_lt, Bool, ◌&&◌, List, [], ◌∷◌, Option, Some, None, IsSome, unwrap_or, length, slice_index, replicate, map, take, drop, ◌++◌}
 use Rattle.std.specs.Ordering.{nat_cmp}
 use Rattle.std.specs.FinMap.{FinMap, get, empty}
 use Rattle.std.specs.List.{find, range_with_len}
@@ -12,10 +12,14 @@ pub record Area : Type 0 where
   pub pages : ℕ
   pub perm : Perm
 
--- the areas, and the 4096 bytes of each page that is present
+-- the pages that are present, each by its number, with its 4096 bytes
+abbrev pub PageMap : Type 0
+PageMap = FinMap nat_cmp (List ℕ)
+
+-- the areas, and the pages that are present
 pub record FlatMemory : Type 0 where
   pub areas : List Area
-  pub present : FinMap nat_cmp (List ℕ)
+  pub present : PageMap
 
 -- no area, and so no page
 abbrev pub empty_memory : FlatMemory
@@ -34,12 +38,16 @@ abbrev pub zero_page : List ℕ
 zero_page = replicate 4096 0
 
 -- the byte at an address: that of the present page, and 0 where the page is absent
-abbrev pub byte_at : FlatMemory → ℕ → ℕ
-byte_at memory address = slice_index (unwrap_or (get memory.present (page_of address)) []) (offset_of address)
+abbrev pub byte_at : PageMap → ℕ → ℕ
+byte_at present address = slice_index (unwrap_or (get present (page_of address)) []) (offset_of address)
 
 -- the bytes of a range, one address after another
-abbrev pub bytes_at : FlatMemory → ℕ → ℕ → List ℕ
-bytes_at memory address n = map (byte_at memory) (range_with_len address n)
+abbrev pub bytes_at : PageMap → ℕ → ℕ → List ℕ
+bytes_at present address n = map (byte_at present) (range_with_len address n)
+
+-- a page with some of its bytes, from a place on, replaced by others
+abbrev pub spliced : List ℕ → ℕ → List ℕ → List ℕ
+spliced page at bytes = take at page ++ bytes ++ drop (at + length bytes) page
 
 -- each area has a page, and lies below the areas behind it, with a gap or another permission between the two
 abbrev pub AreInOrder : List Area → Type 0

@@ -1,12 +1,11 @@
 -- Reading, touching, storing and mapping on a flat memory. A call gives the bytes or the new memory, or the first refusal that the areas give.
 use Rattle.std.specs.Prelude.{ℕ, ◌+◌, ◌-◌, ◌<◌, ◌≤◌, nat_le, nat_lt, ◌==◌, Bool, true, false, not, ◌&&◌, if◌then◌else◌, zero, suc, List, [], ◌∷◌, ◌++◌, length, Option, Some, None, is_some, unwrap_or, Result, Ok, Err, slice_set, filter}
-use Rattle.std.specs.Ordering.{nat_cmp}
-use Rattle.std.specs.FinMap.{FinMap, get, insert, contains_key, retain_keys}
+use Rattle.std.specs.FinMap.{get, insert, contains_key, retain_keys}
 use Rattle.std.specs.List.{find, range_with_len, flat_map}
 use Rattle.vm_base.specs.declared.permission.Perm.{Perm}
 use Rattle.vm_base.specs.declared.permission.Perm.TheVariants.{Read, ReadWrite}
 use Rattle.vm_base.specs.Places.{page_of, offset_of, page_count}
-use Rattle.vm_base.specs.FlatMemory.{Area, FlatMemory, holds, area_of, zero_page, bytes_at}
+use Rattle.vm_base.specs.FlatMemory.{Area, PageMap, FlatMemory, holds, area_of, zero_page, bytes_at}
 
 -- why a memory refuses: the lowest page that lies in no area, or may not be written, or is taken; or more areas than 128
 pub data Refusal : Type 0 where
@@ -49,17 +48,16 @@ or_refused why (Some page) answer = Err (why page)
 -- reading n bytes, above 0, from an address
 abbrev pub read_of : FlatMemory → ℕ → ℕ → Result (List ℕ) Refusal
 read_of memory address n =
-    or_refused OutsideAreas (outside memory.areas (page_of address) (page_count address n)) (Ok (bytes_at memory address n))
+    or_refused OutsideAreas (outside memory.areas (page_of address) (page_count address n)) (Ok (bytes_at memory.present address n))
 
--- the memory with a page of zeros where the page was absent
-abbrev pub with_page : FlatMemory → ℕ → FlatMemory
-with_page memory page =
-    if contains_key memory.present page then memory else record memory { present = insert memory.present page zero_page }
+-- a page of zeros where the page was absent
+abbrev pub with_page : PageMap → ℕ → PageMap
+with_page present page = if contains_key present page then present else insert present page zero_page
 
--- the memory with n pages present
-abbrev pub with_pages : FlatMemory → ℕ → ℕ → FlatMemory
-with_pages memory first zero = memory
-with_pages memory first (suc n) = with_pages (with_page memory first) (first + 1) n
+-- the same for n pages
+abbrev pub with_pages : PageMap → ℕ → ℕ → PageMap
+with_pages present first zero = present
+with_pages present first (suc n) = with_pages (with_page present first) (first + 1) n
 
 -- touching n bytes, above 0, from an address: each page of the range is present then
 abbrev pub touch_of : FlatMemory → ℕ → ℕ → Result FlatMemory Refusal
@@ -67,24 +65,26 @@ touch_of memory address n =
     let first = page_of address in
     let count = page_count address n in
     or_refused OutsideAreas (outside memory.areas first count)
-      (or_refused ReadOnly (unwritable memory.areas first count) (Ok (with_pages memory first count)))
+      (or_refused ReadOnly (unwritable memory.areas first count)
+        (Ok (record memory { present = with_pages memory.present first count })))
 
--- the memory with one byte changed, of a page that is present
-abbrev pub with_byte : FlatMemory → ℕ → ℕ → FlatMemory
-with_byte memory address byte =
-    let bytes = unwrap_or (get memory.present (page_of address)) zero_page in
-    record memory { present = insert memory.present (page_of address) (slice_set bytes (offset_of address) byte) }
+-- one byte of a present page changed
+abbrev pub with_byte : PageMap → ℕ → ℕ → PageMap
+with_byte present address byte =
+    insert present (page_of address)
+      (slice_set (unwrap_or (get present (page_of address)) zero_page) (offset_of address) byte)
 
--- the memory with these bytes from an address on, where all pages of the range are present
-abbrev pub with_bytes : FlatMemory → ℕ → List ℕ → FlatMemory
-with_bytes memory address [] = memory
-with_bytes memory address (byte ∷ bytes) = with_bytes (with_byte memory address byte) (address + 1) bytes
+-- these bytes from an address on, where all pages of the range are present
+abbrev pub with_bytes : PageMap → ℕ → List ℕ → PageMap
+with_bytes present address [] = present
+with_bytes present address (byte ∷ bytes) = with_bytes (with_byte present address byte) (address + 1) bytes
 
--- touching the range of the bytes and then storing them; what is refused stores nothing
+-- storing bytes in a memory that was touched; what is refused stores nothing
 abbrev pub stored : Result FlatMemory Refusal → ℕ → List ℕ → Result FlatMemory Refusal
-stored (Ok memory) address bytes = Ok (with_bytes memory address bytes)
+stored (Ok memory) address bytes = Ok (record memory { present = with_bytes memory.present address bytes })
 stored (Err refusal) address bytes = Err refusal
 
+-- writing bytes, at least one, from an address on: touching their range, and then storing them
 abbrev pub write_of : FlatMemory → ℕ → List ℕ → Result FlatMemory Refusal
 write_of memory address bytes = stored (touch_of memory address (length bytes)) address bytes
 

@@ -2,3 +2,4 @@ pub mod Places
 pub mod FlatMemory
 pub mod FlatStep
 pub mod TwoSides
+pub mod Codes

@@ -1,0 +1,14 @@
+-- Storing the rest gives what storing all gives, and the pages of the rest are present.
+use Rattle.std.proofs.Common.{◌≡◌, ◌+◌, ◌*◌, ◌≤◌, ◌<◌, ℕ, length, true}
+use Rattle.std.specs.Prelude.{is_some}
+use Rattle.std.specs.FinMap.{get}
+use Rattle.vm_base.specs.Places.{page_of}
+use Rattle.vm_base.specs.FlatStep.{with_bytes}
+use Rattle.trace_core.proofs.Storing.{Storing}
+use Rattle.trace_core.proofs.range.store_range.Given as goal
+
+abbrev pub invariant-loop-rest : goal.invariant-loop-rest
+invariant-loop-rest l = Storing l.pages l.at l.rest (l.addr + length l.bytes) (with_bytes l.fn.pages l.addr l.bytes)
+
+abbrev pub decreases-loop-rest : goal.decreases-loop-rest
+decreases-loop-rest l = length l.rest

@@ -1,0 +1,60 @@
+//! A page: 4096 bytes on the heap.
+ghost use Rattle.std.specs.Prelude.{◌≡◌, ◌+◌, ◌≤◌, length, IfOk};
+ghost use Rattle.vm_base.specs.FlatMemory.{zero_page, spliced};
+
+use std::alloc::Global;
+use std::marker::Model;
+use vm_base::NoMemory;
+
+/// Bytes in a page, as the x86-64 walk has it.
+pub const PAGE_BYTES: usize = 4096;
+
+/// The bytes of a present page. It is moved as a pointer.
+#[derive(Debug, Drop)]
+pub(crate) struct Page {
+    bytes: Box<[u8; PAGE_BYTES]>,
+}
+
+impl Model for Page {
+    ghost use Rattle.std.specs.Prelude.{List, ℕ, ◌≡◌, length};
+
+    ghost Value = { List ℕ };
+
+    ghost view = { λ page. page.bytes.value };
+
+    ghost invariant = { λ page. length page.bytes.value ≡ 4096 };
+}
+
+impl Page {
+    /// A page of zeros.
+    pub(crate) fn zeroed(alloc: Global) -> Result<Page, NoMemory>
+        ensures { IfOk result (λ page. page ≡ zero_page) }
+    {
+        let bytes = Box::new(alloc, [0; PAGE_BYTES])?;
+        Ok(Page { bytes })
+    }
+
+    pub(crate) fn bytes(&self) -> &[u8]
+        ensures value { result.now ≡ self.now }
+        ensures size { length result.now ≡ 4096 }
+    {
+        &*self.bytes
+    }
+
+    /// A page of the same bytes.
+    pub(crate) fn copy(&self, alloc: Global) -> Result<Page, NoMemory>
+        ensures { IfOk result (λ page. page ≡ self.now) }
+    {
+        let mut copy = Page::zeroed(alloc)?;
+        *copy.bytes = *self.bytes;
+        Ok(copy)
+    }
+
+    /// Writes the bytes from a place of the page on.
+    pub(crate) fn write(&mut self, at: usize, bytes: &[u8])
+        requires { at + length bytes.now ≤ 4096 }
+        ensures { self.new ≡ spliced self.old at bytes.now }
+    {
+        self.bytes[at..at + bytes.len()].copy_from_slice(bytes);
+    }
+}

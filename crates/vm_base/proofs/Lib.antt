@@ -1,0 +1,4 @@
+pub mod NumberedMaps
+pub mod Ranges
+pub mod FlatBytes
+pub mod FlatPages
