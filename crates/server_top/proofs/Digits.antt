@@ -1,5 +1,5 @@
 -- Digits in the bases of a script: the digit of a small number, and one digit more at the end.
-use Rattle.std.proofs.Common.{◌≡◌, ℕ, zero, suc, ◌+◌, ◌-◌, ◌*◌, ◌/◌, ◌%◌, ◌^◌, ◌<◌, ◌≤◌, Bool, true, false, cond, List, [], ◌∷◌, ◌++◌, codes, refl, sym, ap, ◌∙◌, append_assoc, arith, inl, inr}
+use Rattle.std.proofs.Common.{◌≡◌, ℕ, zero, suc, ◌+◌, ◌*◌, ◌/◌, ◌%◌, ◌^◌, ◌<◌, ◌≤◌, Bool, false, cond, List, [], ◌∷◌, ◌++◌, codes, refl, sym, ap, ◌∙◌, append_assoc, arith, inl, inr}
 use Rattle.std.specs.Fmt.{digits, digits_onto, digit_glyph, decimal}
 use Rattle.std.proofs.lemmas.Bool.{cases_lt, eq-eqb, ne_eqb, lt-ltb}
 use Rattle.std.proofs.lemmas.Fmt.{hex_one_digit, decimal_digit, decimal_step_wide}
@@ -60,6 +60,7 @@ pub record IsBase (base : ℕ) : Type 0 where
   pub one : (d : ℕ) → d < base → digits base false d ≡ digit_glyph false d ∷ []
   pub more : (n d : ℕ) → 0 < n → d < base → n * base + d < 2 ^ 80 → digits base false (n * base + d) ≡ digits base false n ++ digit_glyph false d ∷ []
   pub split : (n : ℕ) → base ≤ n → (front : ℕ) × (d : ℕ) × (n ≡ front * base + d) × (0 < front) × (d < base) × (front < n)
+  pub grows : (n : ℕ) → 0 < n → 0 < n * base
 
 hexadecimal_step : (n front last : ℕ) → n / 16 ≡ front → n % 16 ≡ last → 16 ≤ n → n < 2 ^ 80 → hexadecimal n ≡ hexadecimal front ++ glyph last ∷ []
 hexadecimal_step n front last front-is last-is large room =
@@ -78,6 +79,7 @@ base_16 = record {
   one = hex_one_digit false;
   more = hexadecimal_more;
   split = λ n large. (n / 16, n % 16, omega arith, omega arith, omega arith, omega arith);
+  grows = λ n some. omega arith;
 }
 
 decimal_glyph : (d : ℕ) → d < 10 → digit_glyph false d ≡ 48 + d
@@ -98,6 +100,7 @@ base_10 = record {
   one = λ d small. decimal_digit d small ∙ ap (λ (c : ℕ). c ∷ []) (sym (decimal_glyph d small));
   more = decimal_more;
   split = λ n large. (n / 10, n % 10, omega arith, omega arith, omega arith, omega arith);
+  grows = λ n some. omega arith;
 }
 
 -- ---- a page's address

@@ -4,3 +4,4 @@ pub mod ScriptMeaning
 pub mod CommandWords
 pub mod RunPromise
 pub mod ScriptRun
+pub mod ScriptReading

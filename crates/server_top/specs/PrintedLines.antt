@@ -1,5 +1,5 @@
 -- What an outcome prints: one line, with a line feed at its end. Pages are printed by the address of their first byte.
-use Rattle.std.specs.Prelude.{ℕ, ◌*◌, List, [], ◌∷◌, ◌++◌, codes}
+use Rattle.std.specs.Prelude.{ℕ, ◌*◌, List, ◌++◌, codes}
 use Rattle.std.specs.Fmt.{decimal}
 use Rattle.hex.specs.Hex.{encode_lower}
 use Rattle.trace_core.specs.declared.outcome.Outcome.{Outcome}

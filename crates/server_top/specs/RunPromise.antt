@@ -64,6 +64,17 @@ Ran streams WriteFault = WroteSomeLines streams
 Ran streams TooLong = TakesCount streams.left streams.left_after (script_limit + 1) × WroteNothing streams
 Ran streams NoMemory = TakesSome streams.left streams.left_after × (WroteNothing streams ⊎ WroteSomeLines streams)
 
+-- what was written for a text that was read, by status
+abbrev pub RanText : List ℕ → Option (List ℕ) → Option (List ℕ) → Status → Type 0
+RanText text written after Done = (frames : ℕ) × ((events : List Event) × (IsScript text frames events × Adds written after (script_lines events)))
+RanText text written after (Usage place) = ⊥
+RanText text written after (BadScript line) = (line ≡ 1) × IsNoScript text × (after ≡ written)
+RanText text written after ReadFault = ⊥
+RanText text written after WriteFault = (frames : ℕ) × ((events : List Event) × (IsScript text frames events × AddsPrefix written after (script_lines events)))
+RanText text written after TooLong = ⊥
+RanText text written after NoMemory =
+    (after ≡ written) ⊎ ((frames : ℕ) × ((events : List Event) × (IsScript text frames events × AddsPrefix written after (script_lines events))))
+
 -- the place of a bad word
 abbrev pub usage_of : Status → Option ℕ
 usage_of Done = None

@@ -1,8 +1,8 @@
 //! The top call of all that one thread does.
-ghost use Rattle.std.specs.Prelude.{◌≡◌, ◌≤◌, ◌↔◌};
+ghost use Rattle.std.specs.Prelude.{◌≡◌, ◌≤◌, None};
 ghost use Rattle.io_face.specs.Faults.{Rose};
 ghost use Rattle.server_top.specs.CommandWords.{bad_word};
-ghost use Rattle.server_top.specs.RunPromise.{Ran, usage_of};
+ghost use Rattle.server_top.specs.RunPromise.{Ran, RanText, usage_of};
 
 use crate::run::{RunError, run_events};
 use crate::script::{ScriptFault, read_script};

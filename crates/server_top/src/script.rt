@@ -1,4 +1,9 @@
 //! Scripts: how their text is read, and how the lines that they print are spelled.
+mod line;
+mod number;
 mod printer;
+mod reader;
+mod tokens;
 
 pub(crate) use printer::outcome_text;
+pub(crate) use reader::{ScriptFault, read_script};
