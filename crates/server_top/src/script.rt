@@ -3,4 +3,6 @@ mod line;
 mod number;
 mod printer;
 mod reader;
+#[cfg(test)]
+mod tests;
 mod tokens;
