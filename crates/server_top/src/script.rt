@@ -3,6 +3,8 @@ mod line;
 mod number;
 mod printer;
 mod reader;
+#[cfg(test)]
+mod tests;
 mod tokens;
 
 pub(crate) use printer::outcome_text;

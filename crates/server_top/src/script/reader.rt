@@ -74,7 +74,7 @@ fn read_events(alloc: Global, text: &[u8]) -> Result<Vec<Event>, ScriptFault>
         let Some((event, after)) = next_event(alloc, rest)? else {
             return Err(BAD);
         };
-        if seen.is_second(&event) {
+        if seen.sees_again(&event) {
             return Err(BAD);
         }
         events.push(event)?;
@@ -106,8 +106,8 @@ struct Seen {
 }
 
 impl Seen {
-    // Whether the event is a second one of its kind. It is seen afterwards.
-    fn is_second(&mut self, event: &Event) -> bool
+    // Sees the event, and answers whether it is a second one of a kind that may come once.
+    fn sees_again(&mut self, event: &Event) -> bool
         ensures second { result ≡ is_second self.old event.now }
         ensures after { self.new ≡ seen_after self.old event.now }
     {

@@ -9,10 +9,10 @@ returns-in_default-clause-refused c =
     let some : length c.loop-rest.rest.now ≡ 0 → ⊥ = eqb-false (length c.loop-rest.rest.now) 0 (sym c.loop-rest-test.ensures) in
     (refl, none_without_line c.args.text.now c.loop-rest.events.items c.loop-rest.seen c.loop-rest.rest.now c.loop-rest.invariant some none)
 
-pub returns-then-is_second-clause-refused : goal.returns-then-is_second-clause-refused
-returns-then-is_second-clause-refused c =
+pub returns-then-sees_again-clause-refused : goal.returns-then-sees_again-clause-refused
+returns-then-sees_again-clause-refused c =
     let next = sym (rw c.in-Some.is at c.in_ok-event.ensures) in
-    let second = sym c.is_second.ensures.second ∙ c.if-is_second.true in
+    let second = sym c.sees_again.ensures.second ∙ c.if-sees_again.true in
     (refl, none_with_second c.args.text.now c.loop-rest.events.items c.loop-rest.seen c.loop-rest.rest.now c.in-Some.event c.in-Some.after.now c.loop-rest.invariant next second)
 
 pub loop-rest-smaller : goal.loop-rest-smaller
@@ -22,6 +22,6 @@ loop-rest-smaller c =
 pub loop-rest-preserved : goal.loop-rest-preserved
 loop-rest-preserved c =
     let next = sym (rw c.in-Some.is at c.in_ok-event.ensures) in
-    let first = sym c.is_second.ensures.second ∙ c.if-is_second.false in
-    rw (c.in_ok-push.ensures.items, c.is_second.ensures.after)
+    let first = sym c.sees_again.ensures.second ∙ c.if-sees_again.false in
+    rw (c.in_ok-push.ensures.items, c.sees_again.ensures.after)
     (one_more c.args.text.now c.loop-rest.events.items c.loop-rest.seen c.loop-rest.rest.now c.in-Some.event c.in-Some.after.now c.loop-rest.invariant next first)
