@@ -1,5 +1,5 @@
 -- What the reads and writes in memory tell is what every source and sink tells.
-use Rattle.std.proofs.Common.{◌≡◌, ℕ, ◌+◌, ◌-◌, ◌<◌, ◌≤◌, ◌↔◌, List, [], ◌∷◌, ◌++◌, length, take, drop, min, Result, Ok, Err, Some, IfOk, refl, sym, ap, ◌∙◌, arith, length-append, length-take, length-drop}
+use Rattle.std.proofs.Common.{◌≡◌, ℕ, ◌+◌, ◌<◌, ◌≤◌, ◌↔◌, List, [], ◌∷◌, ◌++◌, length, take, drop, min, Result, Ok, Err, Some, IfOk, sym, ap, ◌∙◌, arith, length-append, length-take, length-drop}
 use Rattle.std.proofs.lemmas.List.{drop-drop, drop_min, take_at, take_all, take-append-drop, length-take-le, nil_from_length}
 use Rattle.io_face.specs.Calls.{CallLog, after_call}
 use Rattle.io_face.specs.Told.{Takes}

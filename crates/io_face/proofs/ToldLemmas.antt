@@ -1,10 +1,10 @@
 -- Bytes taken or added in several steps.
-use Rattle.std.proofs.Common.{◌≡◌, ℕ, ◌+◌, ◌≤◌, List, [], ◌++◌, length, take, drop, Option, Some, None, refl, sym, ap, ◌∙◌, append_assoc, arith}
+use Rattle.std.proofs.Common.{◌≡◌, ℕ, ◌+◌, ◌≤◌, List, [], ◌++◌, take, drop, Option, Some, None, refl, sym, ap, ◌∙◌, append_assoc, arith}
 use Rattle.std.specs.Option.{option_map}
 use Rattle.std.proofs.lemmas.List.{append-nil}
 use Rattle.std.proofs.Math.Seq.{take-add}
-use Rattle.io_face.specs.Faults.{Rose, next_count}
-use Rattle.io_face.specs.Told.{Takes, Adds, AddsPrefix}
+use Rattle.io_face.specs.Faults.{Rose}
+use Rattle.io_face.specs.Told.{Takes, Adds}
 
 -- taking nothing
 pub Takes-nothing : (left : Option (List ℕ)) → Takes left left []

@@ -1,5 +1,5 @@
 -- Sources and sinks in memory, as their callers see them.
-use Rattle.std.specs.Prelude.{◌≡◌, ℕ, ◌+◌, ◌<◌, List, [], ◌∷◌, ◌++◌, length, drop, min, max}
+use Rattle.std.specs.Prelude.{ℕ, List, [], ◌∷◌, ◌++◌, drop, min, max}
 use Rattle.io_face.specs.Calls.{CallLog, after_call, after_fault}
 
 -- the bytes that remain, the greatest sizes of the reads to come, and the calls

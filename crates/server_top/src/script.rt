@@ -6,3 +6,6 @@ mod reader;
 #[cfg(test)]
 mod tests;
 mod tokens;
+
+pub(crate) use printer::outcome_text;
+pub(crate) use reader::{ScriptFault, read_script};

@@ -39,6 +39,13 @@ impl Bytes {
         Ok(())
     }
 
+    /// Empties the list, and keeps its room for the bytes that come.
+    pub fn clear(&mut self)
+        ensures { self.new ≡ [] }
+    {
+        self.list.clear();
+    }
+
     pub fn as_slice(&self) -> &[u8]
         ensures { result.now ≡ self.now }
     {

@@ -1,4 +1,4 @@
-use Rattle.std.proofs.Common.{arith, length, drop, take, length-drop, ◌-◌}
+use Rattle.std.proofs.Common.{arith, length-drop}
 use Rattle.std.proofs.lemmas.List.{take_rest}
 use Rattle.io_face.proofs.ToldLemmas.{Adds-next}
 use Rattle.io_face.proofs.sink.write_all.Goals as goal
