@@ -1,9 +1,9 @@
 -- Absent pages of a range, and the zeros that are placed there.
-use Rattle.std.proofs.Common.{◌≡◌, ℕ, zero, suc, ◌+◌, ◌-◌, ◌<◌, ◌≤◌, Bool, true, false, List, [], ◌∷◌, ◌++◌, length, replicate, cond, refl, sym, ◌∙◌, ap, subst, arith}
+use Rattle.std.proofs.Common.{◌≡◌, ℕ, zero, suc, ◌+◌, ◌-◌, ◌<◌, ◌≤◌, true, false, List, [], ◌∷◌, ◌++◌, length, replicate, cond, refl, sym, ◌∙◌, ap, arith}
 use Rattle.std.specs.Prelude.{is_some}
 use Rattle.std.specs.FinMap.{get, insert}
 use Rattle.std.proofs.lemmas.Bool.{cond-true, cond-false}
-use Rattle.std.proofs.lemmas.List.{replicate_more, same_from_push, length-replicate, length_push, nil_from_length}
+use Rattle.std.proofs.lemmas.List.{replicate_more, same_from_push, length-replicate, length_push}
 use Rattle.vm_base.specs.FlatMemory.{PageMap, zero_page}
 use Rattle.vm_base.specs.FlatStep.{with_page, with_pages}
 use Rattle.vm_base.proofs.NumberedMaps.{get_inserted_apart}
@@ -56,12 +56,12 @@ pub placing_here : (present : PageMap) (zeros less : List (List ℕ)) (one : Lis
 placing_here present zeros less one page end all below absent last placing =
     let left : ℕ = absent_count present (page + 1) (end - (page + 1)) in
     let pushed : replicate left zero_page ++ zero_page ∷ [] ≡ less ++ one ∷ [] =
-      replicate_more left zero_page ∙ ap (λ n. replicate n zero_page) (sym (absent_here present page end below absent)) ∙ sym placing.alike ∙ last in
+    replicate_more left zero_page ∙ ap (λ n. replicate n zero_page) (sym (absent_here present page end below absent)) ∙ sym placing.alike ∙ last in
     let same : (replicate left zero_page ≡ less) × (zero_page ≡ one) = same_from_push (replicate left zero_page) less zero_page one pushed in
     record {
       alike = sym same.0 ∙ ap (λ n. replicate n zero_page) (sym (absent_above (end - (page + 1)) present page (page + 1) one (omega arith)));
       rest = ap (λ m. with_pages m (page + 1) (end - (page + 1))) (ap (insert present page) (sym same.1) ∙ sym (with_page_absent present page absent))
-        ∙ sym (touch_step present page end below) ∙ placing.rest;
+          ∙ sym (touch_step present page end below) ∙ placing.rest;
     }
 
 -- an absent page finds zeros left

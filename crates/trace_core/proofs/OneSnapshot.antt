@@ -1,14 +1,13 @@
 -- A world with at most one snapshot, and nothing lost.
-use Rattle.std.proofs.Common.{◌≡◌, ℕ, zero, suc, ◌+◌, ◌-◌, List, [], ◌∷◌, Option, Some, None, Bool, true, false, cond, eqb, refl, subst, sym, ◌∙◌, ap, arith, inl, inr}
+use Rattle.std.proofs.Common.{◌≡◌, ℕ, List, [], ◌∷◌, Option, Some, None, cond, eqb, refl, subst, sym, ◌∙◌, ap}
 use Rattle.std.specs.Prelude.{Result, Ok, Err, IfOk, is_some}
 use Rattle.std.specs.Ordering.{nat_cmp}
-use Rattle.std.specs.Cmp.{nat_cmp_total}
 use Rattle.std.specs.FinMap.{FinMap, get, insert, empty, len, get-empty, empty_of_len}
 use Rattle.std.proofs.lemmas.Bool.{true≢false}
 use Rattle.vm_base.specs.Places.{cells_of_range, page_of, page_count}
 use Rattle.vm_base.specs.FlatMemory.{FlatMemory, bytes_at}
 use Rattle.vm_base.specs.FlatStep.{Refusal, OutsideAreas, or_refused, outside, read_of}
-use Rattle.vm_base.specs.TwoSides.{World, Loss, forked, SnapRefusal, OutsideSnapshot, CellLost, first_loss, or_snap_refused, kept_read_of}
+use Rattle.vm_base.specs.TwoSides.{World, Loss, forked, OutsideSnapshot, CellLost, first_loss, or_snap_refused, kept_read_of}
 use Rattle.vm_base.proofs.NumberedMaps.{get_inserted, get_inserted_here}
 use Rattle.trace_core.specs.declared.outcome.Outcome.{Outcome}
 use Rattle.trace_core.specs.declared.kernel.Snapshot.{Snapshot}
@@ -32,7 +31,7 @@ same_answer (Some page) bytes = refl
 pub kept_read_is : (memory : FlatMemory) (n address size : ℕ) → snap_read_outcome (kept_read_of (Some memory) [] n address size) ≡ read_outcome (read_of memory address size)
 kept_read_is memory n address size =
     ap (λ found. snap_read_outcome (or_snap_refused OutsideSnapshot (outside memory.areas (page_of address) (page_count address size)) (or_snap_refused CellLost found (Ok (bytes_at memory.present address size)))))
-      (first_loss_none n (cells_of_range address size))
+    (first_loss_none n (cells_of_range address size))
     ∙ same_answer (outside memory.areas (page_of address) (page_count address size)) (bytes_at memory.present address size)
 
 -- what a map of one entry has
@@ -80,6 +79,6 @@ pub snap_read_answers : (snapshots : FinMap nat_cmp FlatMemory) (losses : List L
     → IfOk (bytes_outcome_of read) (λ outcome. outcome ≡ snap_read_outcome (kept_read_of (get snapshots number) losses number address size))
 snap_read_answers snapshots losses number memory address size read found whole is =
     let same : read_outcome (read_of memory address size) ≡ snap_read_outcome (kept_read_of (get snapshots number) losses number address size) =
-      sym (ap (λ found. snap_read_outcome (kept_read_of found losses number address size)) found
-        ∙ ap (λ none. snap_read_outcome (kept_read_of (Some memory) none number address size)) whole ∙ kept_read_is memory number address size) in
+    sym (ap (λ found. snap_read_outcome (kept_read_of found losses number address size)) found
+    ∙ ap (λ none. snap_read_outcome (kept_read_of (Some memory) none number address size)) whole ∙ kept_read_is memory number address size) in
     subst (λ (answer : Outcome). IfOk (bytes_outcome_of read) (λ outcome. outcome ≡ answer)) same (read_answers read (read_of memory address size) is)

@@ -1,14 +1,11 @@
 -- What slots hold as a finite map from pages.
-use Rattle.std.proofs.Common.{◌≡◌, subst, ℕ, zero, suc, ◌+◌, ◌-◌, ◌<◌, ◌≤◌, List, [], ◌∷◌, length, Option, Some, None, get_or, set, replicate, cond, ltb, eqb, refl, sym, ◌∙◌, ap, arith, true, false, inl, inr}
-use Rattle.std.specs.Ordering.{nat_cmp, eq_by_cmp}
-use Rattle.std.specs.Cmp.{nat_cmp_total}
-use Rattle.std.specs.FinMap.{FinMap, get, insert, empty, get-insert, get-empty, same_map, nat_cmp-IsAntisymmetric}
-use Rattle.std.proofs.lemmas.Bool.{cases_lt, cases_order, cases_eq, lt-ltb, le-ltb, cond-true, cond-false, eq-eqb, ne_eqb}
-use Rattle.std.proofs.lemmas.Bool.Decides.{nat_tests}
+use Rattle.std.proofs.Common.{◌≡◌, subst, ℕ, zero, suc, ◌+◌, ◌-◌, ◌<◌, List, [], ◌∷◌, length, Option, Some, None, get_or, set, replicate, cond, ltb, eqb, refl, sym, ◌∙◌, ap, arith, inl, inr}
+use Rattle.std.specs.Ordering.{nat_cmp}
+use Rattle.std.specs.FinMap.{get, insert, empty, get-empty}
+use Rattle.std.proofs.lemmas.Bool.{cases_lt, cases_eq, lt-ltb, le-ltb, cond-true, cond-false, eq-eqb, ne_eqb}
 use Rattle.std.proofs.lemmas.List.{get_or-set_same, get_or-set_other, length-replicate, get_or-replicate, get_or_read}
 use Rattle.std.proofs.lemmas.Option.{none-some}
 use Rattle.std.specs.Option.{option_map, IfSome, ForSome}
-use Rattle.std.proofs.lemmas.Grind.{common_steps}
 use Rattle.vm_base.specs.FlatMemory.{PageMap, spliced}
 use Rattle.vm_base.proofs.NumberedMaps.{get_inserted, same_numbered}
 use Rattle.trace_core.specs.Pages.{present_from, AreSlots}
@@ -19,9 +16,9 @@ slot_from first slots q = cond (ltb q first) None (get_or slots (q - first) None
 
 slot_from_past : (first q : ℕ) → None ≡ slot_from first [] q
 slot_from_past first q = elim (cases_lt q first) [
-    | inl below ↦ sym (cond-true (ltb q first) _ _ (lt-ltb q first below))
-    | inr above ↦ sym (cond-false (ltb q first) _ _ (le-ltb q first above))
-  ]
+  | inl below ↦ sym (cond-true (ltb q first) _ _ (lt-ltb q first below))
+  | inr above ↦ sym (cond-false (ltb q first) _ _ (le-ltb q first above))
+]
 
 slot_from_here : (first : ℕ) (slot : Option (List ℕ)) (slots : List (Option (List ℕ))) → slot ≡ slot_from first (slot ∷ slots) first
 slot_from_here first slot slots =
@@ -30,32 +27,31 @@ slot_from_here first slot slots =
 
 slot_from_more : (first q : ℕ) (slot : Option (List ℕ)) (slots : List (Option (List ℕ))) → (q ≡ first → ⊥) → slot_from (first + 1) slots q ≡ slot_from first (slot ∷ slots) q
 slot_from_more first q slot slots apart = elim (cases_lt q first) [
-    | inl below ↦ cond-true (ltb q (first + 1)) _ _ (lt-ltb q (first + 1) (omega arith)) ∙ sym (cond-true (ltb q first) _ _ (lt-ltb q first below))
-    | inr above ↦
-        let more : q - first ≡ suc (q - (first + 1)) = omega arith in
-        cond-false (ltb q (first + 1)) _ _ (le-ltb q (first + 1) (omega arith))
-        ∙ sym (cond-false (ltb q first) _ _ (le-ltb q first above) ∙ ap (λ i. get_or (slot ∷ slots) i None) more)
-  ]
+  | inl below ↦ cond-true (ltb q (first + 1)) _ _ (lt-ltb q (first + 1) (omega arith)) ∙ sym (cond-true (ltb q first) _ _ (lt-ltb q first below))
+  | inr above ↦
+      let more : q - first ≡ suc (q - (first + 1)) = omega arith in
+      cond-false (ltb q (first + 1)) _ _ (le-ltb q (first + 1) (omega arith))
+      ∙ sym (cond-false (ltb q first) _ _ (le-ltb q first above) ∙ ap (λ i. get_or (slot ∷ slots) i None) more)
+]
 
 -- what slots have at a page
 pub get-present_from : (slots : List (Option (List ℕ))) (first q : ℕ) → get (present_from first slots) q ≡ slot_from first slots q
 unfolding present_from
 get-present_from [] first q = get-empty nat_cmp q ∙ slot_from_past first q
 get-present_from (None ∷ slots) first q = elim (cases_eq q first) [
-    | inl here ↦ get-present_from slots (first + 1) q
-        ∙ cond-true (ltb q (first + 1)) _ _ (lt-ltb q (first + 1) (omega arith))
-        ∙ slot_from_here first None slots ∙ ap (slot_from first (None ∷ slots)) (sym here)
-    | inr apart ↦ get-present_from slots (first + 1) q ∙ slot_from_more first q None slots apart
-  ]
+  | inl here ↦ get-present_from slots (first + 1) q
+      ∙ cond-true (ltb q (first + 1)) _ _ (lt-ltb q (first + 1) (omega arith))
+      ∙ slot_from_here first None slots ∙ ap (slot_from first (None ∷ slots)) (sym here)
+  | inr apart ↦ get-present_from slots (first + 1) q ∙ slot_from_more first q None slots apart
+]
 get-present_from (Some bytes ∷ slots) first q = elim (cases_eq q first) [
-    | inl here ↦ get_inserted (present_from (first + 1) slots) first bytes q
-        ∙ cond-true (eqb q first) _ _ (eq-eqb q first here)
-        ∙ slot_from_here first (Some bytes) slots ∙ ap (slot_from first (Some bytes ∷ slots)) (sym here)
-    | inr apart ↦ get_inserted (present_from (first + 1) slots) first bytes q
-        ∙ cond-false (eqb q first) _ _ (ne_eqb q first apart)
-        ∙ get-present_from slots (first + 1) q ∙ slot_from_more first q (Some bytes) slots apart
-  ]
-
+  | inl here ↦ get_inserted (present_from (first + 1) slots) first bytes q
+      ∙ cond-true (eqb q first) _ _ (eq-eqb q first here)
+      ∙ slot_from_here first (Some bytes) slots ∙ ap (slot_from first (Some bytes ∷ slots)) (sym here)
+  | inr apart ↦ get_inserted (present_from (first + 1) slots) first bytes q
+      ∙ cond-false (eqb q first) _ _ (ne_eqb q first apart)
+      ∙ get-present_from slots (first + 1) q ∙ slot_from_more first q (Some bytes) slots apart
+]
 
 -- what slots have at a page, where the first slot is that of page 0
 pub get-slots : (slots : List (Option (List ℕ))) (q : ℕ) → get (present_from 0 slots) q ≡ get_or slots q None
@@ -66,9 +62,9 @@ pub present_from-set : (slots : List (Option (List ℕ))) (page : ℕ) (bytes : 
 present_from-set slots page bytes inside = same_numbered _ _ (λ q. get-slots (set slots page (Some bytes)) q ∙ sym (get_inserted (present_from 0 slots) page bytes q ∙ step q)) where
   step : (q : ℕ) → cond (eqb q page) (Some bytes) (get (present_from 0 slots) q) ≡ get_or (set slots page (Some bytes)) q None
   step q = elim (cases_eq q page) [
-      | inl here ↦ cond-true (eqb q page) _ _ (eq-eqb q page here) ∙ sym (ap (λ i. get_or (set slots page (Some bytes)) i None) here ∙ get_or-set_same slots page (Some bytes) None inside)
-      | inr apart ↦ cond-false (eqb q page) _ _ (ne_eqb q page apart) ∙ get-slots slots q ∙ sym (get_or-set_other slots page q (Some bytes) None apart)
-    ]
+    | inl here ↦ cond-true (eqb q page) _ _ (eq-eqb q page here) ∙ sym (ap (λ i. get_or (set slots page (Some bytes)) i None) here ∙ get_or-set_same slots page (Some bytes) None inside)
+    | inr apart ↦ cond-false (eqb q page) _ _ (ne_eqb q page apart) ∙ get-slots slots q ∙ sym (get_or-set_other slots page q (Some bytes) None apart)
+  ]
 
 -- slots without a page are the empty map
 pub present_from-nothing : (n first : ℕ) → present_from first (replicate n None) ≡ empty

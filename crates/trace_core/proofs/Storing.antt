@@ -1,5 +1,5 @@
 -- Storing bytes piece by piece.
-use Rattle.std.proofs.Common.{◌≡◌, ℕ, zero, suc, ◌+◌, ◌-◌, ◌*◌, ◌/◌, ◌%◌, ◌<◌, ◌≤◌, Bool, true, false, List, [], ◌∷◌, ◌++◌, length, Option, Some, None, refl, sym, ◌∙◌, ap, subst, arith, inl, inr}
+use Rattle.std.proofs.Common.{◌≡◌, ℕ, ◌+◌, ◌*◌, ◌<◌, ◌≤◌, true, List, ◌++◌, length, Option, Some, None, refl, sym, ◌∙◌, ap, arith, inl, inr}
 use Rattle.std.specs.Prelude.{is_some}
 use Rattle.std.specs.Option.{IfSome}
 use Rattle.std.proofs.lemmas.Bool.{cases_eq, false≢true}
@@ -30,12 +30,12 @@ stored_piece present next at rest front back end all (Some old) is whole written
     record {
       ends = omega (arith, ap length parts, length-append front back, storing.ends);
       there = λ page above below. elim (cases_eq page (page_of at)) [
-          | inl here ↦ ap (λ m. is_some (get m page)) written ∙ ap is_some (get_inserted_here present (page_of at) new page here)
-          | inr apart ↦ ap (λ m. is_some (get m page)) written ∙ ap is_some (get_inserted_apart present (page_of at) new page apart)
-              ∙ storing.there page (omega arith) below
-        ];
+        | inl here ↦ ap (λ m. is_some (get m page)) written ∙ ap is_some (get_inserted_here present (page_of at) new page here)
+        | inr apart ↦ ap (λ m. is_some (get m page)) written ∙ ap is_some (get_inserted_apart present (page_of at) new page apart)
+            ∙ storing.there page (omega arith) below
+      ];
       given = ap (λ m. with_bytes m (at + length front) back) (written ∙ sym (with_bytes_in present at front old is whole room))
-        ∙ sym (with_bytes-append present at front back) ∙ ap (with_bytes present at) (sym parts) ∙ storing.given;
+          ∙ sym (with_bytes-append present at front back) ∙ ap (with_bytes present at) (sym parts) ∙ storing.given;
     }
 
 -- a piece within one page is written there

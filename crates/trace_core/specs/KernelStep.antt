@@ -1,5 +1,5 @@
 -- What an event answers and what it leaves, on the two flat memories of parent and snapshot. No request for a frame is refused here.
-use Rattle.std.specs.Prelude.{◌≡◌, ℕ, ◌+◌, ◌*◌, ◌^◌, ◌≤◌, ◌<◌, List, [], length, Result, Ok, Err}
+use Rattle.std.specs.Prelude.{◌≡◌, ℕ, ◌+◌, ◌^◌, ◌≤◌, ◌<◌, List, [], length, Result, Ok, Err}
 use Rattle.std.specs.FinMap.{len}
 use Rattle.vm_base.specs.declared.fork_mode.Mode.TheVariants.{Eager}
 use Rattle.vm_base.specs.FlatMemory.{FlatMemory}

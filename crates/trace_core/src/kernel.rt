@@ -57,12 +57,12 @@ impl Model for Kernel {
     ghost use Rattle.trace_core.specs.Sides.{snapshots_of, copies_of};
 
     ghost view = { λ kernel. record {
-        parent = kernel.parent;
-        snapshots = snapshots_of kernel.snapshot;
-        losses = [];
-        last = kernel.last;
-        refused = 0;
-        refused_copies = copies_of kernel.snapshot;
+      parent = kernel.parent;
+      snapshots = snapshots_of kernel.snapshot;
+      losses = [];
+      last = kernel.last;
+      refused = 0;
+      refused_copies = copies_of kernel.snapshot;
     } };
 }
 

@@ -43,7 +43,11 @@ fn piece_of_page(addr: u64, len: u64) -> usize
     ensures room { offset_of addr + result ≤ 4096 }
 {
     let room = PAGE_BYTES - (addr % PAGE_BYTES as u64) as usize;
-    if len < room as u64 { len as usize } else { room }
+    if len < room as u64 {
+        len as usize
+    } else {
+        room
+    }
 }
 
 /// The bytes of a range within one page.

@@ -1,5 +1,5 @@
 -- The bytes of a range, piece by piece.
-use Rattle.std.proofs.Common.{◌≡◌, ℕ, zero, suc, ◌+◌, ◌-◌, ◌*◌, ◌/◌, ◌%◌, ◌<◌, ◌≤◌, List, [], ◌∷◌, ◌++◌, length, map, take, drop, get_or, replicate, Option, Some, None, refl, sym, ◌∙◌, ap, arith}
+use Rattle.std.proofs.Common.{◌≡◌, ℕ, ◌+◌, ◌/◌, ◌%◌, ◌<◌, ◌≤◌, List, [], ◌++◌, length, map, take, drop, get_or, replicate, Option, Some, None, refl, sym, ◌∙◌, ap, arith}
 use Rattle.std.specs.Prelude.{unwrap_or}
 use Rattle.std.specs.List.{range_with_len}
 use Rattle.std.specs.FinMap.{get}
@@ -35,13 +35,13 @@ byte_in_page present address k page there room =
 pub bytes_at-present : (present : PageMap) (address n : ℕ) (page : List ℕ) → get present (page_of address) ≡ Some page → length page ≡ 4096 → offset_of address + n ≤ 4096 → bytes_at present address n ≡ take n (drop (offset_of address) page)
 bytes_at-present present address n page there whole room =
     same_bytes present address n (take n (drop (offset_of address) page))
-      (length-take-le n (drop (offset_of address) page) (rw (length-drop (offset_of address) page) (omega arith)))
-      (λ k d small. get_or-take n (drop (offset_of address) page) k d small ∙ get_or-drop (offset_of address) page k d
-        ∙ get_or_default page (offset_of address + k) d 0 (omega arith)
-        ∙ sym (byte_in_page present address k (Some page) there (omega arith)))
+    (length-take-le n (drop (offset_of address) page) (rw (length-drop (offset_of address) page) (omega arith)))
+    (λ k d small. get_or-take n (drop (offset_of address) page) k d small ∙ get_or-drop (offset_of address) page k d
+    ∙ get_or_default page (offset_of address + k) d 0 (omega arith)
+    ∙ sym (byte_in_page present address k (Some page) there (omega arith)))
 
 -- a range within an absent page
 pub bytes_at-absent : (present : PageMap) (address n : ℕ) → get present (page_of address) ≡ None → offset_of address + n ≤ 4096 → bytes_at present address n ≡ replicate n 0
 bytes_at-absent present address n absent room =
     same_bytes present address n (replicate n 0) (length-replicate n 0)
-      (λ k d small. get_or-replicate n k 0 d small ∙ sym (byte_in_page present address k None absent (omega arith)))
+    (λ k d small. get_or-replicate n k 0 d small ∙ sym (byte_in_page present address k None absent (omega arith)))

@@ -1,6 +1,6 @@
 -- Touching and storing, page by page.
-use Rattle.std.proofs.Common.{◌≡◌, inl, inr, ℕ, zero, suc, ◌+◌, ◌-◌, ◌*◌, ◌/◌, ◌%◌, ◌<◌, ◌≤◌, Bool, true, false, List, [], ◌∷◌, ◌++◌, length, take, drop, set, cond, Option, Some, None, refl, sym, ◌∙◌, ap, arith}
-use Rattle.std.specs.FinMap.{get, insert, contains_key}
+use Rattle.std.proofs.Common.{◌≡◌, inl, inr, ℕ, zero, suc, ◌+◌, ◌<◌, ◌≤◌, true, false, List, [], ◌∷◌, ◌++◌, length, take, drop, set, Some, refl, sym, ◌∙◌, ap, arith}
+use Rattle.std.specs.FinMap.{get, insert}
 use Rattle.std.proofs.lemmas.List.{append-nil, append_assoc, take-append-drop, set_split, take_more_set, drop-set-lt, length-set}
 use Rattle.std.proofs.lemmas.Bool.{cases_eq, cases_Bool, cond-true, cond-false}
 use Rattle.std.specs.Prelude.{unwrap_or, is_some}
@@ -60,7 +60,7 @@ with_bytes_in present address (byte ∷ next ∷ bytes) page there whole room =
     let there_then : get (insert present (page_of address) changed) (page_of (address + 1)) ≡ Some changed = get_inserted_here present (page_of address) changed (page_of (address + 1)) same_page in
     ap (λ now. with_bytes now (address + 1) (next ∷ bytes)) (with_byte_in present address byte page there)
     ∙ with_bytes_in (insert present (page_of address) changed) (address + 1) (next ∷ bytes) changed there_then
-        (length-set page (offset_of address) byte ∙ whole) (omega arith)
+    (length-set page (offset_of address) byte ∙ whole) (omega arith)
     ∙ ap (λ p. insert (insert present (page_of address) changed) p (spliced changed (offset_of (address + 1)) (next ∷ bytes))) same_page
     ∙ insert-insert present (page_of address) changed (spliced changed (offset_of (address + 1)) (next ∷ bytes))
     ∙ ap (λ at. insert present (page_of address) (spliced changed at (next ∷ bytes))) place
@@ -76,16 +76,16 @@ with_page_absent present page absent = cond-false (is_some (get present page)) _
 -- what touching a page leaves at another
 get-with_page_apart : (present : PageMap) (page q : ℕ) → (q ≡ page → ⊥) → get (with_page present page) q ≡ get present q
 get-with_page_apart present page q apart = elim (cases_Bool (is_some (get present page))) [
-    | inl there ↦ ap (λ m. get m q) (with_page_there present page there)
-    | inr absent ↦ ap (λ m. get m q) (with_page_absent present page absent) ∙ get_inserted_apart present page zero_page q apart
-  ]
+  | inl there ↦ ap (λ m. get m q) (with_page_there present page there)
+  | inr absent ↦ ap (λ m. get m q) (with_page_absent present page absent) ∙ get_inserted_apart present page zero_page q apart
+]
 
 -- a page that was touched is there
 is_some-with_page : (present : PageMap) (page q : ℕ) → q ≡ page → is_some (get (with_page present page) q) ≡ true
 is_some-with_page present page q here = elim (cases_Bool (is_some (get present page))) [
-    | inl there ↦ ap (λ m. is_some (get m q)) (with_page_there present page there) ∙ ap (λ p. is_some (get present p)) here ∙ there
-    | inr absent ↦ ap (λ m. is_some (get m q)) (with_page_absent present page absent) ∙ ap is_some (get_inserted_here present page zero_page q here)
-  ]
+  | inl there ↦ ap (λ m. is_some (get m q)) (with_page_there present page there) ∙ ap (λ p. is_some (get present p)) here ∙ there
+  | inr absent ↦ ap (λ m. is_some (get m q)) (with_page_absent present page absent) ∙ ap is_some (get_inserted_here present page zero_page q here)
+]
 
 -- touching pages leaves those below
 pub get-with_pages_below : (n : ℕ) (present : PageMap) (first q : ℕ) → q < first → get (with_pages present first n) q ≡ get present q
@@ -97,6 +97,6 @@ get-with_pages_below (suc n) present first q below =
 pub is_some-with_pages : (n : ℕ) (present : PageMap) (first q : ℕ) → first ≤ q → q < first + n → is_some (get (with_pages present first n) q) ≡ true
 is_some-with_pages zero present first q above below = absurd (omega arith)
 is_some-with_pages (suc n) present first q above below = elim (cases_eq q first) [
-    | inl here ↦ ap is_some (get-with_pages_below n (with_page present first) (first + 1) q (omega arith)) ∙ is_some-with_page present first q here
-    | inr apart ↦ is_some-with_pages n (with_page present first) (first + 1) q (omega arith) (omega arith)
-  ]
+  | inl here ↦ ap is_some (get-with_pages_below n (with_page present first) (first + 1) q (omega arith)) ∙ is_some-with_page present first q here
+  | inr apart ↦ is_some-with_pages n (with_page present first) (first + 1) q (omega arith) (omega arith)
+]

@@ -1,9 +1,8 @@
 -- Finite maps whose keys are numbers.
-use Rattle.std.proofs.Common.{◌≡◌, ℕ, Option, Some, None, cond, eqb, refl, sym, ◌∙◌, ap, arith, true, false, inl, inr}
-use Rattle.std.specs.Option.{is_some}
+use Rattle.std.proofs.Common.{◌≡◌, ℕ, Some, cond, eqb, sym, ◌∙◌, ap, arith, inl, inr}
 use Rattle.std.specs.Ordering.{nat_cmp}
 use Rattle.std.specs.Cmp.{nat_cmp_total}
-use Rattle.std.specs.FinMap.{FinMap, get, insert, contains_key, get-insert, same_map, nat_cmp-IsAntisymmetric}
+use Rattle.std.specs.FinMap.{FinMap, get, insert, get-insert, same_map, nat_cmp-IsAntisymmetric}
 use Rattle.std.proofs.lemmas.Bool.{cases_eq, cond-true, cond-false, eq-eqb, ne_eqb}
 use Rattle.std.proofs.lemmas.Bool.Decides.{nat_tests}
 
@@ -26,13 +25,13 @@ same_numbered m n alike = same_map nat_cmp_total nat_cmp-IsAntisymmetric m n ali
 -- to insert what is there changes nothing
 pub insert_same : {X : Type 0} (m : FinMap nat_cmp X) (k : ℕ) (v : X) → get m k ≡ Some v → insert m k v ≡ m
 insert_same m k v there = same_numbered _ _ (λ q. elim (cases_eq q k) [
-    | inl here ↦ get_inserted_here m k v q here ∙ sym (ap (get m) here ∙ there)
-    | inr apart ↦ get_inserted_apart m k v q apart
-  ])
+  | inl here ↦ get_inserted_here m k v q here ∙ sym (ap (get m) here ∙ there)
+  | inr apart ↦ get_inserted_apart m k v q apart
+])
 
 -- of two inserts at one key the later one counts
 pub insert-insert : {X : Type 0} (m : FinMap nat_cmp X) (k : ℕ) (u v : X) → insert (insert m k u) k v ≡ insert m k v
 insert-insert m k u v = same_numbered _ _ (λ q. elim (cases_eq q k) [
-    | inl here ↦ get_inserted_here (insert m k u) k v q here ∙ sym (get_inserted_here m k v q here)
-    | inr apart ↦ get_inserted_apart (insert m k u) k v q apart ∙ get_inserted_apart m k u q apart ∙ sym (get_inserted_apart m k v q apart)
-  ])
+  | inl here ↦ get_inserted_here (insert m k u) k v q here ∙ sym (get_inserted_here m k v q here)
+  | inr apart ↦ get_inserted_apart (insert m k u) k v q apart ∙ get_inserted_apart m k u q apart ∙ sym (get_inserted_apart m k v q apart)
+])

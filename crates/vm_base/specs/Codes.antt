@@ -1,5 +1,5 @@
 -- How a memory and a world are stored as numbers and lists, so that a proof can tell two of them apart.
-use Rattle.std.specs.Prelude.{◌≡◌, ℕ, Bool, true, false, List, Option, refl}
+use Rattle.std.specs.Prelude.{◌≡◌, ℕ, Bool, true, false, List, refl}
 use Rattle.std.specs.Coded.{Coded, code_by, coded×, coded_ℕ, coded_bool, coded_list}
 use Rattle.std.specs.Ordering.{nat_cmp}
 use Rattle.std.specs.FinMap as map
@@ -39,8 +39,8 @@ loss_code = code_by (ℕ × (ℕ × ℕ)) (coded× coded_ℕ (coded× coded_ℕ 
 abbrev pub world_code : Coded World
 world_code =
     code_by (FlatMemory × (map.FinMap nat_cmp FlatMemory × (List Loss × (ℕ × (ℕ × map.FinMap nat_cmp ℕ)))))
-      (coded× flat_memory_code (coded× (map.code coded_ℕ flat_memory_code)
-        (coded× (coded_list loss_code) (coded× coded_ℕ (coded× coded_ℕ (map.code coded_ℕ coded_ℕ))))))
-      (λ w. (w.parent, (w.snapshots, (w.losses, (w.last, (w.refused, w.refused_copies))))))
-      (λ p. record { parent = p.0; snapshots = p.1.0; losses = p.1.1.0; last = p.1.1.1.0; refused = p.1.1.1.1.0; refused_copies = p.1.1.1.1.1 })
-      (λ _. refl)
+    (coded× flat_memory_code (coded× (map.code coded_ℕ flat_memory_code)
+    (coded× (coded_list loss_code) (coded× coded_ℕ (coded× coded_ℕ (map.code coded_ℕ coded_ℕ))))))
+    (λ w. (w.parent, (w.snapshots, (w.losses, (w.last, (w.refused, w.refused_copies))))))
+    (λ p. record { parent = p.0; snapshots = p.1.0; losses = p.1.1.0; last = p.1.1.1.0; refused = p.1.1.1.1.0; refused_copies = p.1.1.1.1.1 })
+    (λ _. refl)

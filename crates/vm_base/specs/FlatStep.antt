@@ -1,11 +1,11 @@
 -- Reading, touching, storing and mapping on a flat memory. A call gives the bytes or the new memory, or the first refusal that the areas give.
-use Rattle.std.specs.Prelude.{ℕ, ◌+◌, ◌-◌, ◌<◌, ◌≤◌, nat_le, nat_lt, ◌==◌, Bool, true, false, not, ◌&&◌, if◌then◌else◌, zero, suc, List, [], ◌∷◌, ◌++◌, length, Option, Some, None, is_some, unwrap_or, Result, Ok, Err, slice_set, filter}
+use Rattle.std.specs.Prelude.{ℕ, ◌+◌, ◌-◌, nat_le, nat_lt, ◌==◌, Bool, true, false, not, ◌&&◌, if◌then◌else◌, zero, suc, List, [], ◌∷◌, ◌++◌, length, Option, Some, None, is_some, unwrap_or, Result, Ok, Err, slice_set}
 use Rattle.std.specs.FinMap.{get, insert, contains_key, retain_keys}
 use Rattle.std.specs.List.{find, range_with_len, flat_map}
 use Rattle.vm_base.specs.declared.permission.Perm.{Perm}
 use Rattle.vm_base.specs.declared.permission.Perm.TheVariants.{Read, ReadWrite}
 use Rattle.vm_base.specs.Places.{page_of, offset_of, page_count}
-use Rattle.vm_base.specs.FlatMemory.{Area, PageMap, FlatMemory, holds, area_of, zero_page, bytes_at}
+use Rattle.vm_base.specs.FlatMemory.{Area, PageMap, FlatMemory, area_of, zero_page, bytes_at}
 
 -- why a memory refuses: the lowest page that lies in no area, or may not be written, or is taken; or more areas than 128
 pub data Refusal : Type 0 where
@@ -65,14 +65,14 @@ touch_of memory address n =
     let first = page_of address in
     let count = page_count address n in
     or_refused OutsideAreas (outside memory.areas first count)
-      (or_refused ReadOnly (unwritable memory.areas first count)
-        (Ok (record memory { present = with_pages memory.present first count })))
+    (or_refused ReadOnly (unwritable memory.areas first count)
+    (Ok (record memory { present = with_pages memory.present first count })))
 
 -- one byte of a present page changed
 abbrev pub with_byte : PageMap → ℕ → ℕ → PageMap
 with_byte present address byte =
     insert present (page_of address)
-      (slice_set (unwrap_or (get present (page_of address)) zero_page) (offset_of address) byte)
+    (slice_set (unwrap_or (get present (page_of address)) zero_page) (offset_of address) byte)
 
 -- these bytes from an address on, where all pages of the range are present
 abbrev pub with_bytes : PageMap → ℕ → List ℕ → PageMap
@@ -140,7 +140,7 @@ abbrev pub map_of : FlatMemory → ℕ → ℕ → Perm → Result FlatMemory Re
 map_of memory first n perm =
     let area : Area = record { first = first; pages = n; perm = perm } in
     or_refused Taken (taken memory.areas first n)
-      (at_most_128 (record memory { areas = joined (with_area area memory.areas) }))
+    (at_most_128 (record memory { areas = joined (with_area area memory.areas) }))
 
 -- the pages that do not lie among n pages
 abbrev pub is_outside : ℕ → ℕ → ℕ → Bool
@@ -159,4 +159,4 @@ abbrev pub protect_of : FlatMemory → ℕ → ℕ → Perm → Result FlatMemor
 protect_of memory first n perm =
     let area : Area = record { first = first; pages = n; perm = perm } in
     or_refused OutsideAreas (outside memory.areas first n)
-      (at_most_128 (record memory { areas = joined (with_area area (areas_without first n memory.areas)) }))
+    (at_most_128 (record memory { areas = joined (with_area area (areas_without first n memory.areas)) }))

@@ -1,5 +1,5 @@
 -- The world of a parent and its snapshots. A fork copies the parent's whole memory at once, as POSIX fork does; what comes later on one side does not reach the other.
-use Rattle.std.specs.Prelude.{ℕ, ◌+◌, ◌==◌, Bool, not, ◌&&◌, List, [], ◌∷◌, ◌++◌, Option, Some, None, if◌then◌else◌, Result, Ok, Err, filter}
+use Rattle.std.specs.Prelude.{ℕ, ◌+◌, ◌==◌, not, ◌&&◌, List, [], ◌∷◌, ◌++◌, Option, Some, None, if◌then◌else◌, Result, Ok, Err, filter}
 use Rattle.std.specs.Ordering.{nat_cmp}
 use Rattle.std.specs.FinMap.{FinMap, get, insert, remove, empty}
 use Rattle.vm_base.specs.Places.{page_of, page_count, cells_of_range}
@@ -98,7 +98,7 @@ abbrev pub kept_read_of : Option FlatMemory → List Loss → ℕ → ℕ → �
 kept_read_of None losses snapshot address n = Err NotLive
 kept_read_of (Some memory) losses snapshot address n =
     or_snap_refused OutsideSnapshot (outside memory.areas (page_of address) (page_count address n))
-      (or_snap_refused CellLost (first_loss losses snapshot (cells_of_range address n)) (Ok (bytes_at memory.present address n)))
+    (or_snap_refused CellLost (first_loss losses snapshot (cells_of_range address n)) (Ok (bytes_at memory.present address n)))
 
 -- reading n bytes, above 0, from an address of a snapshot
 abbrev pub snap_read_of : World → ℕ → ℕ → ℕ → Result (List ℕ) SnapRefusal

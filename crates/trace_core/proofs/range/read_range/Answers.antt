@@ -14,6 +14,6 @@ loop-at-preserved c =
       above = omega arith;
       within = omega (arith, c.piece_of_page-piece.ensures.within);
       told = c.in_ok-push_all.ensures.ok ∙ ap (λ b. b ++ c.bytes_in_page.result.now) c.loop-at.invariant.told
-        ∙ ap (λ b. bytes_at c.args.pages.now c.args.addr so_far ++ b) (c.bytes_in_page.ensures ∙ ap (λ a. bytes_at c.args.pages.now a piece) here)
-        ∙ sym (bytes_at-split c.args.pages.now c.args.addr so_far piece) ∙ ap (bytes_at c.args.pages.now c.args.addr) further;
+          ∙ ap (λ b. bytes_at c.args.pages.now c.args.addr so_far ++ b) (c.bytes_in_page.ensures ∙ ap (λ a. bytes_at c.args.pages.now a piece) here)
+          ∙ sym (bytes_at-split c.args.pages.now c.args.addr so_far piece) ∙ ap (bytes_at c.args.pages.now c.args.addr) further;
     }

@@ -16,4 +16,4 @@ loop-rest-preserved c =
     let room : offset_of c.loop-rest.at + length front ≤ 4096 = omega (arith, size, piece.ensures.room) in
     let parts : c.loop-rest.rest.now ≡ front ++ back = sym (take-append-drop piece.result c.loop-rest.rest.now) ∙ ap (λ f. f ++ drop piece.result c.loop-rest.rest.now) (sym c.split_at.ensures.front) ∙ ap (λ b. front ++ b) (sym c.split_at.ensures.back) in
     subst (λ n. Storing c.write.new.self (c.loop-rest.at + n) back (c.args.addr + length c.args.bytes.now) (with_bytes c.args.pages.now c.args.addr c.args.bytes.now)) size
-      (storing_more c.loop-rest.pages c.write.new.self c.loop-rest.at c.loop-rest.rest.now front back _ _ c.write.ensures.whole c.write.ensures.written some room parts c.loop-rest.invariant)
+    (storing_more c.loop-rest.pages c.write.new.self c.loop-rest.at c.loop-rest.rest.now front back _ _ c.write.ensures.whole c.write.ensures.written some room parts c.loop-rest.invariant)

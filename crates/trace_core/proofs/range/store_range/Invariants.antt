@@ -1,8 +1,5 @@
 -- Storing the rest gives what storing all gives, and the pages of the rest are present.
-use Rattle.std.proofs.Common.{◌≡◌, ◌+◌, ◌*◌, ◌≤◌, ◌<◌, ℕ, length, true}
-use Rattle.std.specs.Prelude.{is_some}
-use Rattle.std.specs.FinMap.{get}
-use Rattle.vm_base.specs.Places.{page_of}
+use Rattle.std.proofs.Common.{◌+◌, length}
 use Rattle.vm_base.specs.FlatStep.{with_bytes}
 use Rattle.trace_core.proofs.Storing.{Storing}
 use Rattle.trace_core.proofs.range.store_range.Given as goal

@@ -1,5 +1,5 @@
 -- A page that is there adds nothing, and an absent one adds a page of zeros.
-use Rattle.std.proofs.Common.{◌≡◌, ◌+◌, ◌∷◌, ◌++◌, [], List, ℕ, true, false, sym, ◌∙◌, ap, subst, arith}
+use Rattle.std.proofs.Common.{◌≡◌, ◌+◌, ◌∷◌, ◌++◌, [], List, ℕ, sym, ◌∙◌, ap, subst}
 use Rattle.vm_base.specs.FlatMemory.{zero_page}
 use Rattle.trace_core.specs.Pages.{absent_count}
 use Rattle.trace_core.proofs.Absent.{Counting, counting_there, counting_here}
@@ -10,10 +10,10 @@ pub loop-page-preserved : goal.loop-page-preserved
 loop-page-preserved c =
     let P = λ (zeros : List (List ℕ)). Counting c.args.pages.now zeros (c.loop-page.page + 1) (c.args.first + c.args.count) (absent_count c.args.pages.now c.args.first c.args.count) in
     elim c.if-not-contains.branch [
-    | then-not-contains+in_ok-zeroed+in_ok-push w ↦
-        let pushed : c.if-not-contains.zeros.items ≡ c.loop-page.zeros.items ++ zero_page ∷ [] =
+      | then-not-contains+in_ok-zeroed+in_ok-push w ↦
+          let pushed : c.if-not-contains.zeros.items ≡ c.loop-page.zeros.items ++ zero_page ∷ [] =
           ap (λ v. v.items) w.zeros-is ∙ w.in_ok-push.ensures.items ∙ ap (λ z. c.loop-page.zeros.items ++ z ∷ []) w.in_ok-zeroed.ensures in
-        subst P (sym pushed) (counting_here c.args.pages.now c.loop-page.zeros.items c.loop-page.page _ _ c.loop-page-test.true (sym c.contains.ensures ∙ w.if-not-contains.true) c.loop-page.invariant)
-    | else-not-contains w ↦
-        subst P (sym (ap (λ v. v.items) w.zeros-is)) (counting_there c.args.pages.now c.loop-page.zeros.items c.loop-page.page _ _ c.loop-page-test.true (sym c.contains.ensures ∙ w.if-not-contains.false) c.loop-page.invariant)
-  ]
+          subst P (sym pushed) (counting_here c.args.pages.now c.loop-page.zeros.items c.loop-page.page _ _ c.loop-page-test.true (sym c.contains.ensures ∙ w.if-not-contains.true) c.loop-page.invariant)
+      | else-not-contains w ↦
+          subst P (sym (ap (λ v. v.items) w.zeros-is)) (counting_there c.args.pages.now c.loop-page.zeros.items c.loop-page.page _ _ c.loop-page-test.true (sym c.contains.ensures ∙ w.if-not-contains.false) c.loop-page.invariant)
+    ]

@@ -1,5 +1,5 @@
 -- A page that may be written, or lies in no area, is passed over.
-use Rattle.std.proofs.Common.{◌≡◌, sym, ◌∙◌, ap, false}
+use Rattle.std.proofs.Common.{◌≡◌, sym, ◌∙◌, false}
 use Rattle.vm_base.specs.FlatMemory.{area_of}
 use Rattle.vm_base.specs.FlatStep.{is_read_only}
 use Rattle.vm_base.proofs.Ranges.{lowest_above}

@@ -1,5 +1,5 @@
 -- The first area finds no other.
-use Rattle.std.proofs.Common.{◌≡◌, Ok, sym, ◌∙◌, ap, ◌∷◌, []}
+use Rattle.std.proofs.Common.{Ok, sym, ◌∙◌, ap, ◌∷◌, []}
 use Rattle.vm_base.specs.FlatMemory.{FlatMemory}
 use Rattle.trace_core.proofs.FirstArea.{map_of-first}
 use Rattle.trace_core.proofs.memory.Memory.map.Goals as goal

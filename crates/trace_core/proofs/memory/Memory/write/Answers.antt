@@ -1,8 +1,7 @@
 -- The pages that are stored to have been touched.
-use Rattle.std.proofs.Common.{◌≡◌, ℕ, ◌<◌, ◌+◌, ◌≤◌, ◌*◌, ◌/◌, sym, ◌∙◌, ap, arith, length, true}
+use Rattle.std.proofs.Common.{◌<◌, ◌+◌, ◌/◌, ◌∙◌, ap, arith}
 use Rattle.std.specs.Prelude.{is_some}
 use Rattle.std.specs.FinMap.{get}
-use Rattle.vm_base.specs.Places.{page_of, page_count}
 use Rattle.vm_base.proofs.FlatPages.{is_some-with_pages}
 use Rattle.trace_core.proofs.memory.Memory.write.Goals as goal
 

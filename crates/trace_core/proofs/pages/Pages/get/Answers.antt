@@ -1,5 +1,5 @@
 -- The slot of the page is what the map has there.
-use Rattle.std.proofs.Common.{◌≡◌, ◌<◌, sym, ◌∙◌, ap, length, get_or, None, arith}
+use Rattle.std.proofs.Common.{◌<◌, sym, ◌∙◌, ap, length, None, arith}
 use Rattle.std.proofs.lemmas.List.{get_or_read}
 use Rattle.std.specs.FinMap as map
 use Rattle.trace_core.proofs.Slots.{get-slots}

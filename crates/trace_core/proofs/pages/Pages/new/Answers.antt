@@ -1,8 +1,7 @@
 -- Slots without a page are the empty map.
-use Rattle.std.proofs.Common.{◌≡◌, sym, ◌∙◌, ap, None, Option, List, ℕ}
-use Rattle.std.specs.FinMap as map
+use Rattle.std.proofs.Common.{◌∙◌, ap}
 use Rattle.trace_core.proofs.Slots.{present_from-nothing, slots_without_pages}
-use Rattle.trace_core.specs.Pages.{present_from, AreSlots}
+use Rattle.trace_core.specs.Pages.{present_from}
 use Rattle.trace_core.proofs.pages.Pages.new.Goals as goal
 
 pub invariant_of-result : goal.invariant_of-result

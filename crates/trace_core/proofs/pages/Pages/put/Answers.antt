@@ -1,5 +1,5 @@
 -- To fill the slot is to insert the page.
-use Rattle.std.proofs.Common.{◌≡◌, sym, ◌∙◌, ap, get_or, None, arith}
+use Rattle.std.proofs.Common.{◌∙◌, ap, arith}
 use Rattle.std.specs.FinMap as map
 use Rattle.trace_core.proofs.Slots.{present_from-set}
 use Rattle.trace_core.proofs.pages.Pages.put.Goals as goal
