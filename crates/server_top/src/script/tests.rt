@@ -16,7 +16,8 @@ fn a_script_is_read_line_by_line(rt: HostRuntime) -> Result<(), Fail> {
         (b"machine 2048\n", 2048, 0),
         (b"machine 65536\n", 65_536, 0),
         (
-            b"machine 2048\nmap 100000 2 rw\nwrite 100000 6162\nfork 1 eager\nwrite 100000 7a\nread 100000 2\nsread 1 100000 2\nsread 2 100000 1\n",
+            b"machine 2048\nmap 100000 2 rw\nwrite 100000 6162\nfork 1 eager\n\
+              write 100000 7a\nread 100000 2\nsread 1 100000 2\nsread 2 100000 1\n",
             2048,
             7,
         ),
@@ -196,8 +197,8 @@ fn each_outcome_prints_its_line(rt: HostRuntime) -> Result<(), Fail> {
     for outcome in &outcomes {
         outcome_text(rt.alloc(), outcome, &mut out)?;
     }
-    let lines =
-        b"ok\n0061ff\nnoarea 0\nnowrite 100000\noverlap fffffffffffff000\nnoarea ffffffffffffffff000\nareasfull\nnosnap\nlost 10\n";
+    let lines = b"ok\n0061ff\nnoarea 0\nnowrite 100000\noverlap fffffffffffff000\n\
+                  noarea ffffffffffffffff000\nareasfull\nnosnap\nlost 10\n";
     assert_eq!(rt; out.as_slice(), lines.as_slice());
     Ok(())
 }
