@@ -2,7 +2,7 @@
 _afkv() {
   # A command has no words behind it.
   if [ "$COMP_CWORD" = 1 ]; then
-    COMPREPLY=($(compgen -W 'trace' -- "$2"))
+    mapfile -t COMPREPLY < <(compgen -W 'trace' -- "$2")
   else
     COMPREPLY=()
   fi
