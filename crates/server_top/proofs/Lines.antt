@@ -25,7 +25,7 @@ pushed_line old now world after lines longer events i event all inside read next
     let parts : lines_from world (drop i events) ≡ line ++ coming = ap (lines_from world) (next_event events i event inside read) in
     let then : Writing old now (lines ++ line) coming all = writing_more old now lines line coming all (subst (λ rest. Writing old now lines rest all) parts writing) in
     subst (λ waiting. Writing old now waiting (lines_from after (drop (i + 1) events)) all) (sym more)
-      (subst (λ w. Writing old now (lines ++ line) (lines_from w (drop (i + 1) events)) all) (sym next) then)
+    (subst (λ w. Writing old now (lines ++ line) (lines_from w (drop (i + 1) events)) all) (sym next) then)
 
 -- the kernel is ready for the event
 pub ready_at : (world : World) (events : List Event) (i : ℕ) (event : Event) → i < length events → event ≡ get_or events i event → IsReady world (drop i events) → IsReady world (event ∷ drop (i + 1) events)

@@ -42,7 +42,7 @@ areas_touched memory address bytes world None None first count = refl
 areas_written : (world : World) (address : ℕ) (bytes : List ℕ) → (changed world (write_of world.parent address bytes)).parent.areas ≡ world.parent.areas
 areas_written world address bytes =
     areas_touched world.parent address bytes world (outside world.parent.areas (page_of address) (page_count address (length bytes)))
-      (unwritable world.parent.areas (page_of address) (page_count address (length bytes))) (page_of address) (page_count address (length bytes))
+    (unwritable world.parent.areas (page_of address) (page_count address (length bytes))) (page_of address) (page_count address (length bytes))
 
 -- a change of the parent leaves the snapshots as they are
 same_snapshots : (world : World) (answer : Result FlatMemory Refusal) → ((changed world answer).snapshots ≡ world.snapshots) × ((changed world answer).last ≡ world.last)

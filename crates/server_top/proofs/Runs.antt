@@ -22,14 +22,17 @@ ran_text streams text WriteFault read ran = record {
   lines = ran.1.1.1;
 }
 ran_text streams text TooLong read ran = absurd ran
-ran_text streams text NoMemory read ran = ((text, read.taken), elim ran [
+ran_text streams text NoMemory read ran = (
+  (text, read.taken),
+  elim ran [
     | inl nothing ↦ inl nothing
     | inr some ↦ inr (record {
-        events = some.1.0;
-        script = record { text = text; frames = some.0; was_read = read; is_script = some.1.1.0 };
-        lines = some.1.1.1;
-      })
-  ])
+      events = some.1.0;
+      script = record { text = text; frames = some.0; was_read = read; is_script = some.1.1.0 };
+      lines = some.1.1.1;
+    })
+  ],
+)
 
 -- a text that was read breaks no word
 pub no_usage : (text : List ℕ) (written after : Option (List ℕ)) (status : Status) → RanText text written after status → usage_of status ≡ None

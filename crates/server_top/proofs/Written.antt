@@ -32,7 +32,7 @@ writing_more old now waiting line coming all writing = record {
   done = writing.done;
   added = writing.added;
   whole = ap (λ front. front ++ coming) (sym (append_assoc writing.done waiting line))
-    ∙ append_assoc (writing.done ++ waiting) line coming ∙ writing.whole;
+      ∙ append_assoc (writing.done ++ waiting) line coming ∙ writing.whole;
 }
 
 -- what waited is written
@@ -62,12 +62,16 @@ writing_part old now new waiting coming all writing part =
     let text : List ℕ = writing.done ++ take count waiting in
     let rest : List ℕ = drop count waiting ++ coming in
     let parts : text ++ rest ≡ all =
-      append_assoc writing.done (take count waiting) rest
-      ∙ ap (λ back. writing.done ++ back) (sym (append_assoc (take count waiting) (drop count waiting) coming) ∙ ap (λ w. w ++ coming) (take-append-drop count waiting))
-      ∙ sym (append_assoc writing.done waiting coming) ∙ writing.whole in
-    let front : take (length text) all ≡ text = ap (take (length text)) (sym parts) ∙ take_at text rest (length text) refl in
-    (length text, (omega (arith, ap length parts, length-append text rest),
-      adds_more old now new writing.done (take count waiting) writing.added part.1.1 ∙ ap (λ t. option_map (λ before. before ++ t) old) (sym front)))
+    append_assoc writing.done (take count waiting) rest
+    ∙ ap (λ back. writing.done ++ back) (sym (append_assoc (take count waiting) (drop count waiting) coming) ∙ ap (λ w. w ++ coming) (take-append-drop count waiting))
+    ∙ sym (append_assoc writing.done waiting coming) ∙ writing.whole in
+    let front : take (length text) all ≡ text = ap (take (length text)) (sym parts) ∙ take_at text rest (length text) refl in (
+      length text,
+      (
+        omega (arith, ap length parts, length-append text rest),
+        adds_more old now new writing.done (take count waiting) writing.added part.1.1 ∙ ap (λ t. option_map (λ before. before ++ t) old) (sym front),
+      ),
+    )
 
 -- what holds anyway holds on an error
 pub on_err : {X E : Type 0} (result : Result X E) (P : Type 0) → P → OnErr result P

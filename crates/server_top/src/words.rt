@@ -9,21 +9,9 @@ pub(crate) fn bad_word(words: &[Bytes]) -> Option<u64>
     ensures { result ≡ bad_word words.now }
 {
     match words {
-        [] => Some(0),
-        [word] => {
-            if is_trace(word) {
-                None
-            } else {
-                Some(0)
-            }
-        }
-        [word, ..] => {
-            if is_trace(word) {
-                Some(1)
-            } else {
-                Some(0)
-            }
-        }
+        [word] if is_trace(word) => None,
+        [word, _, ..] if is_trace(word) => Some(1),
+        _ => Some(0),
     }
 }
 
