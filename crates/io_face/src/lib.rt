@@ -1,8 +1,9 @@
 //! The outside as the program sees it: where bytes come from and where they go.
 //!
-//! The main types are the traits [`Source`], [`Sink`] and [`Folder`]: `write_all(&mut sink, b"ok\n")?` hands a
-//! whole text over. A caller may rely on one sentence: a call answers [`Failed`] only where the
-//! count of faults of that source or sink rose in that call. The README goes on from here.
+//! The main types are the traits [`Source`], [`Sink`] and [`Folder`]:
+//! `write_all(&mut sink, b"ok\n")?` hands a whole text over. A caller may rely on one sentence: a
+//! call answers [`Failed`] only where the count of faults of its object rose in that call. The
+//! README goes on from here.
 #![tactic(auto)]
 
 mod calls;
