@@ -3,7 +3,7 @@ use Rattle.std.proofs.Common.{◌≡◌, ℕ, ◌+◌, ◌<◌, ◌≤◌, ◌�
 use Rattle.std.proofs.lemmas.List.{drop-drop, drop_min, take_at, take_all, take-append-drop, length-take-le, nil_from_length}
 use Rattle.io_face.specs.Calls.{CallLog, after_call}
 use Rattle.io_face.specs.Told.{Takes}
-use Rattle.io_face.specs.Memory.{Script, Record, read_size, after_read, after_write}
+use Rattle.io_face.specs.Memory.{SourceState, SinkState, read_size, after_read, after_write}
 
 -- three clauses on the value of an `Ok` give a fourth
 pub IfOk-of_three : {T E : Type 0} (r : Result T E) (P Q R S : T → Type 0) → ((x : T) → P x → Q x → R x → S x) → IfOk r P → IfOk r Q → IfOk r R → IfOk r S
@@ -29,30 +29,30 @@ read_size-zero (cut ∷ cuts) room left h e = omega arith
 read_front : (left buf after : List ℕ) (n : ℕ) → n ≤ length left → after ≡ take n left ++ drop n buf → take n after ≡ take n left
 read_front left buf after n h e = ap (take n) e ∙ take_at (take n left) (drop n buf) n (length-take-le n left h)
 
-pub read-count : (old : Script) (buf after : List ℕ) (n : ℕ) → n ≡ read_size old.cuts (length buf) (length old.left) → after ≡ take n old.left ++ drop n buf → n ≤ length after
+pub read-count : (old : SourceState) (buf after : List ℕ) (n : ℕ) → n ≡ read_size old.cuts (length buf) (length old.left) → after ≡ take n old.left ++ drop n buf → n ≤ length after
 read-count old buf after n size placed =
     let fits = read_size-room old.cuts (length buf) (length old.left) in
     let there = read_size-left old.cuts (length buf) (length old.left) in
     omega (arith, ap length placed, length-append (take n old.left) (drop n buf), length-take n old.left, length-drop n buf)
 
-pub read-taken : (old new : Script) (buf after : List ℕ) (n : ℕ) → n ≡ read_size old.cuts (length buf) (length old.left) → after ≡ take n old.left ++ drop n buf → new ≡ after_read old n → Takes (Some old.left) (Some new.left) (take n after)
+pub read-taken : (old new : SourceState) (buf after : List ℕ) (n : ℕ) → n ≡ read_size old.cuts (length buf) (length old.left) → after ≡ take n old.left ++ drop n buf → new ≡ after_read old n → Takes (Some old.left) (Some new.left) (take n after)
 read-taken old new buf after n size placed ok =
     let there : n ≤ length old.left = omega (arith, read_size-left old.cuts (length buf) (length old.left)) in
     let front = read_front old.left buf after n there placed in
     let rest : new.left ≡ drop n old.left = ap (λ s. s.left) ok in
     ap Some (sym (ap (λ piece. piece ++ new.left) front ∙ ap (λ bytes. take n old.left ++ bytes) rest ∙ take-append-drop n old.left))
 
-pub read-end : (old : Script) (buf : List ℕ) (n : ℕ) → 0 < length buf → n ≡ read_size old.cuts (length buf) (length old.left) → (n ≡ 0) ↔ (old.left ≡ [])
+pub read-end : (old : SourceState) (buf : List ℕ) (n : ℕ) → 0 < length buf → n ≡ read_size old.cuts (length buf) (length old.left) → (n ≡ 0) ↔ (old.left ≡ [])
 read-end old buf n room size =
     let there = read_size-left old.cuts (length buf) (length old.left) in
     (λ e. nil_from_length old.left (read_size-zero old.cuts (length buf) (length old.left) room (sym size ∙ e)), λ e. omega (arith, ap length e))
 
-pub write-added : (old new : Record) (piece : List ℕ) (n : ℕ) → n ≡ length piece → new ≡ after_write old piece → Some new.written ≡ Some (old.written ++ take n piece)
+pub write-added : (old new : SinkState) (piece : List ℕ) (n : ℕ) → n ≡ length piece → new ≡ after_write old piece → Some new.written ≡ Some (old.written ++ take n piece)
 write-added old new piece n size ok =
     ap Some (ap (λ s. s.written) ok ∙ ap (λ bytes. old.written ++ bytes) (sym (take_all n piece (omega arith))))
 
 -- a source in memory, by its parts
-abbrev script : ℕ → List ℕ → List ℕ → CallLog → Script
+abbrev script : ℕ → List ℕ → List ℕ → CallLog → SourceState
 script room left cuts calls = record { left = left; cuts = cuts; room = room; calls = calls }
 
 -- the source whose places moved on by a read is the source after that read

@@ -6,7 +6,7 @@ use Rattle.std.proofs.lemmas.List.{map-append, reverse-append}
 use Rattle.std.specs.FinMap.{from_entries, get-from_entries}
 use Rattle.std.specs.Option.{option_map}
 use Rattle.io_face.specs.Folder.{Loads}
-use Rattle.io_face.specs.Memory.{Script, text_of, longest}
+use Rattle.io_face.specs.Memory.{SourceState, text_of, longest}
 
 -- the test that the look-up makes is the one that the code makes
 tested : (name key : List ℕ) (b : Bool) → pointwise nat_eq key name ≡ b → eq_by_cmp (slice_cmp nat_cmp) name key ≡ b
@@ -23,11 +23,11 @@ text_of-past entry entries rest name h e =
     ap (λ es. text_of es name) h ∙ ap (λ b. cond b (Some entry.1) (text_of rest name)) (tested name entry.0 false e)
 
 -- a loaded file tells what stands under its name
-pub text_is_told : (entries : List (List ℕ × List ℕ)) (name : List ℕ) (found : Option Script) → option_map (λ input. input.left) found ≡ text_of entries name → Loads (Some (from_entries entries)) name (option_map (λ input. Some input.left) found)
+pub text_is_told : (entries : List (List ℕ × List ℕ)) (name : List ℕ) (found : Option SourceState) → option_map (λ input. input.left) found ≡ text_of entries name → Loads (Some (from_entries entries)) name (option_map (λ input. Some input.left) found)
 text_is_told entries name found h =
     told found (text_of entries name) h ∙ ap (option_map Some) (sym (get-from_entries nat_list_cmp_total entries name))
   where
-    told : (found : Option Script) (text : Option (List ℕ)) → option_map (λ input. input.left) found ≡ text → option_map (λ input. Some input.left) found ≡ option_map Some text
+    told : (found : Option SourceState) (text : Option (List ℕ)) → option_map (λ input. input.left) found ≡ text → option_map (λ input. Some input.left) found ≡ option_map Some text
     told None text e = ap (option_map Some) e
     told (Some input) text e = ap (option_map Some) e
 

@@ -10,7 +10,7 @@ use Rattle.io_face.specs.Calls.{CallLog, IsDue, after_call, after_fault}
 
 -- the bytes that remain, the greatest sizes of the reads to come, how many bytes the memory under
 -- them can hold, and the calls
-pub record Script : Type 0 where
+pub record SourceState : Type 0 where
   pub left : List ℕ
   pub cuts : List ℕ
   pub room : ℕ
@@ -22,7 +22,7 @@ read_size [] room left = min room left
 read_size (cut ∷ cuts) room left = min (min room (max cut 1)) left
 
 -- the source after a read that placed so many bytes
-abbrev pub after_read : Script → ℕ → Script
+abbrev pub after_read : SourceState → ℕ → SourceState
 after_read old count = record {
   left = drop count old.left;
   cuts = drop 1 old.cuts;
@@ -31,17 +31,17 @@ after_read old count = record {
 }
 
 -- the source after a read that failed
-abbrev pub after_failed_read : Script → Script
+abbrev pub after_failed_read : SourceState → SourceState
 after_failed_read old = record old { calls = after_fault (after_call old.calls) }
 
 -- what was written, how many bytes may be written in all, and the calls
-pub record Record : Type 0 where
+pub record SinkState : Type 0 where
   pub written : List ℕ
   pub room : ℕ
   pub calls : CallLog
 
 -- the sink after a write that took the piece
-abbrev pub after_write : Record → List ℕ → Record
+abbrev pub after_write : SinkState → List ℕ → SinkState
 after_write old piece = record {
   written = old.written ++ piece;
   room = old.room;
@@ -49,11 +49,11 @@ after_write old piece = record {
 }
 
 -- the sink after a write that failed
-abbrev pub after_failed_write : Record → Record
+abbrev pub after_failed_write : SinkState → SinkState
 after_failed_write old = record old { calls = after_fault (after_call old.calls) }
 
 -- the sink before anything was written, with no write that is to fail
-abbrev pub empty_record : ℕ → Record
+abbrev pub empty_record : ℕ → SinkState
 empty_record room = record {
   written = [];
   room = room;
@@ -126,14 +126,14 @@ after_return calls zero = calls
 after_return calls (suc faults) = after_fault calls
 
 -- the folder after a read file was closed, whose memory becomes the buffer where that was out
-abbrev pub after_close : Shelf → Script → Shelf
+abbrev pub after_close : Shelf → SourceState → Shelf
 after_close old input = record old {
   buffer = Some (unwrap_or old.buffer input.room);
   calls = after_return old.calls input.calls.faults;
 }
 
 -- the folder after a file was abandoned
-abbrev pub after_abandon : Shelf → Record → Shelf
+abbrev pub after_abandon : Shelf → SinkState → Shelf
 after_abandon old out = record old { calls = after_return old.calls out.calls.faults }
 
 -- the length of the longest file, and at least this

@@ -20,9 +20,9 @@ pub struct MemSink {
 
 impl Model for MemSink {
     ghost use Rattle.std.specs.Prelude.{◌≤◌, vec_len, vec_capacity};
-    ghost use Rattle.io_face.specs.Memory.{Record};
+    ghost use Rattle.io_face.specs.Memory.{SinkState};
 
-    ghost Value = { Record };
+    ghost Value = { SinkState };
 
     ghost view = { λ s. record { written = s.text.items; room = s.room; calls = s.calls } };
 

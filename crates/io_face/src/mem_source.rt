@@ -24,9 +24,9 @@ pub struct MemSource {
 
 impl Model for MemSource {
     ghost use Rattle.std.specs.Prelude.{◌≤◌, drop, vec_len, vec_capacity};
-    ghost use Rattle.io_face.specs.Memory.{Script};
+    ghost use Rattle.io_face.specs.Memory.{SourceState};
 
-    ghost Value = { Script };
+    ghost Value = { SourceState };
 
     ghost view = { λ s. record {
       left = drop s.at s.bytes.items;
@@ -39,9 +39,9 @@ impl Model for MemSource {
 }
 
 impl MemSource {
-    /// A source of these bytes. `cuts` has the greatest size of each read that succeeds, in order;
-    /// a 0 counts as 1, and reads past the list have no such bound. `fails` has the numbers of the
-    /// reads that fail, counted from 1.
+    /// A source of these bytes. Each read that does not fail uses up one of the `cuts`, and places
+    /// no more bytes than that, but at least one; once they are used up only the buffer bounds a
+    /// read. `fails` numbers the reads that fail, the first being 1.
     pub fn new(bytes: Vec<u8>, cuts: Vec<usize>, fails: Vec<u64>) -> Self
         ensures { result ≡ record {
           left = bytes.items;

@@ -28,7 +28,7 @@ pub trait Sink {
 }
 
 /// Hands the whole text to the sink, in as many writes as it wants. After `Failed` a prefix of the
-/// text was written, and no one can tell how long it is.
+/// text was written, and the caller is not told how long it is.
 pub fn write_all<K: Sink>(sink: &mut K, text: &[u8]) -> Result<(), Failed>
     ensures ok { OnOk result (Adds (K.written sink.old) (K.written sink.new) text.now) }
     ensures failed { OnErr result (AddsPrefix (K.written sink.old) (K.written sink.new) text.now) }

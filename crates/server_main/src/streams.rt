@@ -39,7 +39,7 @@ impl<R: Read> Source for InputStream<R> {
     }
 }
 
-/// A writer as a sink. It holds nothing back.
+/// A writer as a sink. It keeps no bytes of its own, and never flushes the writer.
 #[derive(Drop)]
 pub struct OutputStream<W: Write> {
     writer: W,
@@ -74,5 +74,75 @@ impl<W: Write> Sink for OutputStream<W> {
         }
         self.faults = self.faults.saturating_add(1);
         Err(Failed)
+    }
+}
+
+#[cfg(test)]
+mod tests {
+    use super::*;
+    use std::io;
+    use std::test::Fail;
+
+    /// Is interrupted so many times, and then gives and takes this many bytes, or fails.
+    #[derive(Drop)]
+    struct Device {
+        interruptions: u32,
+        count: Option<usize>,
+    }
+
+    impl Device {
+        fn next(&mut self) -> io::Result<usize> {
+            if self.interruptions > 0 {
+                self.interruptions -= 1;
+                return Err(io::Error::from(ErrorKind::Interrupted));
+            }
+            match self.count {
+                Some(count) => Ok(count),
+                None => Err(io::Error::from(ErrorKind::Other)),
+            }
+        }
+    }
+
+    impl Read for Device {
+        fn read(&mut self, buf: &mut [u8]) -> io::Result<usize> {
+            Ok(self.next()?.min(buf.len()))
+        }
+    }
+
+    impl Write for Device {
+        fn write(&mut self, piece: &[u8]) -> io::Result<usize> {
+            Ok(self.next()?.min(piece.len()))
+        }
+
+        fn flush(&mut self) -> io::Result<()> {
+            Ok(())
+        }
+    }
+
+    #[test]
+    fn a_broken_device_is_a_counted_fault(rt: HostRuntime) -> Result<(), Fail> {
+        let cases = [
+            (0, Some(3), Ok(3), Ok(3)),
+            (63, Some(3), Ok(3), Ok(3)),
+            (64, Some(3), Err(Failed), Err(Failed)),
+            (0, Some(0), Ok(0), Err(Failed)),
+            (0, None, Err(Failed), Err(Failed)),
+            (1, None, Err(Failed), Err(Failed)),
+        ];
+        for (interruptions, count, read, written) in cases {
+            let mut input = InputStream::new(Device {
+                interruptions,
+                count,
+            });
+            assert!(rt; input.read(&mut [0; 8]) == read);
+            assert_eq!(rt; input.faults == 0, read.is_ok());
+            let mut output = OutputStream::new(Device {
+                interruptions,
+                count,
+            });
+            assert!(rt; output.write(b"12345678") == written);
+            assert_eq!(rt; output.faults == 0, written.is_ok());
+        }
+        Ok(())
     }
 }

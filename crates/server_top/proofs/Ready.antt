@@ -12,7 +12,7 @@ use Rattle.vm_base.specs.FlatStep.{Refusal, OutsideAreas, ReadOnly, or_refused, 
 use Rattle.vm_base.specs.TwoSides.{World, opening_world}
 use Rattle.trace_core.specs.declared.event.Event.{Event}
 use Rattle.trace_core.specs.declared.event.Event.TheVariants.{Map, Read, Write, Fork, SnapRead}
-use Rattle.trace_core.specs.KernelStep.{changed, world_after, IsTaken}
+use Rattle.trace_core.specs.KernelStep.{changed, world_after, IsServed}
 use Rattle.server_top.specs.ScriptGrammar.{IsScript, IsWithinBounds, is_map, is_fork}
 use Rattle.server_top.specs.ScriptRun.{IsReady}
 
@@ -50,7 +50,7 @@ same_snapshots world (Ok memory) = (refl, refl)
 same_snapshots world (Err refusal) = (refl, refl)
 
 -- the kernel takes the first event
-pub ready_first : (world : World) (event : Event) (events : List Event) → IsReady world (event ∷ events) → IsTaken world event
+pub ready_first : (world : World) (event : Event) (events : List Event) → IsReady world (event ∷ events) → IsServed world event
 ready_first world (Map first pages perm) events ready =
     let bounds = all_first (Map first pages perm) events ready.bounds in
     (bounds.0, bounds.1, ready.unmapped (omega (arith, count_yes is_map (Map first pages perm) events refl)))

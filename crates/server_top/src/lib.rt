@@ -15,4 +15,5 @@ mod tests;
 mod words;
 
 pub use plain::run_plain;
+pub use script::one_spelling;
 pub use status::Status;

@@ -3,7 +3,7 @@ ghost use Rattle.std.specs.Prelude.{◌≡◌, ◌≤◌, ◌++◌, OnOk, OnErr,
 ghost use Rattle.io_face.specs.Faults.{Rose};
 ghost use Rattle.io_face.specs.Told.{Adds, AddsPrefix};
 ghost use Rattle.vm_base.specs.TwoSides.{opening_world};
-ghost use Rattle.trace_core.specs.KernelStep.{IsTaken, outcome_of, world_after};
+ghost use Rattle.trace_core.specs.KernelStep.{IsServed, outcome_of, world_after};
 ghost use Rattle.server_top.specs.PrintedLines.{outcome_line};
 ghost use Rattle.server_top.specs.ScriptMeaning.{script_lines};
 ghost use Rattle.server_top.specs.ScriptRun.{IsReady};
@@ -61,7 +61,7 @@ fn push_line(
     event: &Event,
     lines: &mut Bytes,
 ) -> Result<(), RunError>
-    requires { IsTaken kernel.old event.now }
+    requires { IsServed kernel.old event.now }
     ensures world { OnOk result (kernel.new ≡ world_after kernel.old event.now) }
     ensures line { OnOk result (lines.new ≡ lines.old ++ outcome_line (outcome_of kernel.old event.now)) }
     ensures no_memory { IfErr result (λ error. error ≡ RunError.NoMemory) }

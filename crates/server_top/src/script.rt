@@ -8,4 +8,5 @@ mod tests;
 mod tokens;
 
 pub(crate) use printer::outcome_text;
+pub use reader::one_spelling;
 pub(crate) use reader::{ScriptFault, read_script};

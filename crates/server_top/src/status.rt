@@ -7,7 +7,7 @@ pub enum Status {
     /// The index, from 0, of the first word that no accepted list of words goes on with, or the
     /// number of words where more were to come.
     Usage { place: u64 },
-    /// The line, from 1, at which the input is no script.
+    /// The input is no script. The line is told as 1, wherever the fault is.
     BadScript { line: u64 },
     /// A read of the input failed.
     ReadFault,

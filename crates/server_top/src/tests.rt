@@ -154,6 +154,21 @@ fn a_failing_stream_ends_the_run(rt: HostRuntime) -> Result<(), Fail> {
 }
 
 #[test]
+fn lines_are_written_in_pieces(rt: HostRuntime) -> Result<(), Fail> {
+    let script = b"machine 2048\nmap 0 16 rw\nread 0 65536\nread 0 1\n";
+    for (failing_writes, status, size) in [
+        (&[][..], Status::Done, 131_079),
+        (&[2][..], Status::WriteFault, 131_076),
+        (&[1][..], Status::WriteFault, 0),
+    ] {
+        let run = run(rt.alloc(), &[b"trace"], script, 4096, &[], failing_writes)?;
+        assert!(rt; run.status == status);
+        assert_eq!(rt; run.written.written().len(), size);
+    }
+    Ok(())
+}
+
+#[test]
 fn an_input_past_its_limit_is_too_long(rt: HostRuntime) -> Result<(), Fail> {
     let alloc = rt.alloc();
     for (size, status) in [

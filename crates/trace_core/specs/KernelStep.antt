@@ -60,9 +60,9 @@ abbrev pub IsInFirstCell : ℕ → ℕ → Type 0
 IsInFirstCell addr len = (0 < len) × (addr + len ≤ 2 ^ 21)
 
 -- the events that the kernel takes in this world: in the first cell, one area, one fork
-abbrev pub IsTaken : World → Event → Type 0
-IsTaken world (Map first pages perm) = (0 < pages) × (first + pages ≤ 512) × (world.parent.areas ≡ [])
-IsTaken world (Read addr len) = IsInFirstCell addr len
-IsTaken world (Write addr bytes) = IsInFirstCell addr (length bytes)
-IsTaken world (Fork number mode) = (mode ≡ Eager) × (world.last < number) × (len world.snapshots ≡ 0)
-IsTaken world (SnapRead number addr len) = IsInFirstCell addr len
+abbrev pub IsServed : World → Event → Type 0
+IsServed world (Map first pages perm) = (0 < pages) × (first + pages ≤ 512) × (world.parent.areas ≡ [])
+IsServed world (Read addr len) = IsInFirstCell addr len
+IsServed world (Write addr bytes) = IsInFirstCell addr (length bytes)
+IsServed world (Fork number mode) = (mode ≡ Eager) × (world.last < number) × (len world.snapshots ≡ 0)
+IsServed world (SnapRead number addr len) = IsInFirstCell addr len

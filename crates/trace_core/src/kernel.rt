@@ -3,7 +3,7 @@ ghost use Rattle.std.specs.Prelude.{◌≡◌, ◌≤◌, ◌==◌, if◌then◌
 ghost use Rattle.std.specs.Option.{option_copied};
 ghost use Rattle.std.specs.FinMap.{get, len as count};
 ghost use Rattle.vm_base.specs.TwoSides.{opening_world, forked, snap_read_of};
-ghost use Rattle.trace_core.specs.KernelStep.{outcome_of, world_after, snap_read_outcome, IsTaken, IsInFirstCell};
+ghost use Rattle.trace_core.specs.KernelStep.{outcome_of, world_after, snap_read_outcome, IsServed, IsInFirstCell};
 ghost use Rattle.trace_core.specs.PlainAnswers.{bytes_outcome_of, done_outcome_of, fault_outcome_of};
 
 use crate::event::Event;
@@ -13,7 +13,7 @@ use std::alloc::Global;
 use std::marker::Model;
 use vm_base::{Bytes, NoMemory, Perm};
 
-/// The most frames that a run can need at this stage: on each side a directory of three tables,
+/// The most frames that a run in the first cell can need: on each side a directory of three tables,
 /// one leaf table, and the 512 pages of the first cell.
 pub const MOST_FRAMES: u32 = 2 * (3 + 1 + 512);
 
@@ -83,7 +83,7 @@ impl Kernel {
 
     /// Runs one event. After `NoMemory` nothing has changed.
     pub fn step(&mut self, alloc: Global, event: &Event) -> Result<Outcome, NoMemory>
-        requires { IsTaken self.old event.now }
+        requires { IsServed self.old event.now }
         ensures outcome { IfOk result (λ outcome. outcome ≡ outcome_of self.old event.now) }
         ensures world { OnOk result (self.new ≡ world_after self.old event.now) }
         ensures no_memory { OnErr result (self.new ≡ self.old) }
@@ -93,7 +93,9 @@ impl Kernel {
                 self.parent.map(*first, *pages, *perm);
                 Ok(Outcome::Done)
             }
-            Event::Read { addr, len } => bytes_outcome(self.parent.read(alloc, *addr, *len as u64)),
+            Event::Read { addr, len } => bytes_outcome(
+                self.parent.read(alloc, *addr, u64::from(*len)),
+            ),
             Event::Write { addr, bytes } => {
                 done_outcome(self.parent.write(alloc, *addr, bytes.as_slice()))
             }

@@ -1,5 +1,5 @@
 //! A memory on plain pages: at most one area, and the pages that are present.
-ghost use Rattle.std.specs.Prelude.{◌≡◌, ◌+◌, ◌/◌, ◌≤◌, ◌<◌, ℕ, [], length, IfOk, Ok, is_some};
+ghost use Rattle.std.specs.Prelude.{◌≡◌, ◌+◌, ◌*◌, ◌/◌, ◌≤◌, ◌<◌, ℕ, [], length, IfOk, Ok, is_some};
 ghost use Rattle.vm_base.specs.Places.{page_count};
 ghost use Rattle.vm_base.specs.FlatMemory.{empty_memory, area_of, holds};
 ghost use Rattle.vm_base.specs.FlatStep.{outside, unwritable, is_read_only, is_writable, map_of, read_of, write_of};
@@ -189,6 +189,7 @@ fn page_count(addr: u64, len: u64) -> u64
     requires { IsInFirstCell addr len }
     ensures count { result ≡ page_count addr len }
     ensures inside { addr / 4096 + result ≤ 512 }
+    ensures whole { addr + len ≤ (addr / 4096 + result) * 4096 }
 {
     (addr + len - 1) / PAGE_BYTES as u64 + 1 - addr / PAGE_BYTES as u64
 }

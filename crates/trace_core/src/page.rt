@@ -9,20 +9,20 @@ use vm_base::NoMemory;
 /// Bytes in a page, as the x86-64 walk has it.
 pub const PAGE_BYTES: usize = 4096;
 
-/// The bytes of a present page. It is moved as a pointer.
+/// The bytes of a present page. They stay where they are as it is moved.
 #[derive(Debug, Drop)]
 pub(crate) struct Page {
-    bytes: Box<[u8; PAGE_BYTES]>,
+    bytes: Vec<u8>,
 }
 
 impl Model for Page {
-    ghost use Rattle.std.specs.Prelude.{List, ℕ, ◌≡◌, length};
+    ghost use Rattle.std.specs.Prelude.{List, ℕ, ◌≡◌, vec_len};
 
     ghost Value = { List ℕ };
 
-    ghost view = { λ page. page.bytes.value };
+    ghost view = { λ page. page.bytes.items };
 
-    ghost invariant = { λ page. length page.bytes.value ≡ 4096 };
+    ghost invariant = { λ page. vec_len page.bytes ≡ 4096 };
 }
 
 impl Page {
@@ -30,7 +30,7 @@ impl Page {
     pub(crate) fn zeroed(alloc: Global) -> Result<Page, NoMemory>
         ensures { IfOk result (λ page. page ≡ zero_page) }
     {
-        let bytes = Box::new(alloc, [0; PAGE_BYTES])?;
+        let bytes = vec![in alloc; 0; PAGE_BYTES]?;
         Ok(Page { bytes })
     }
 
@@ -38,16 +38,15 @@ impl Page {
         ensures value { result.now ≡ self.now }
         ensures size { length result.now ≡ 4096 }
     {
-        &*self.bytes
+        &self.bytes
     }
 
     /// A page of the same bytes.
     pub(crate) fn copy(&self, alloc: Global) -> Result<Page, NoMemory>
         ensures { IfOk result (λ page. page ≡ self.now) }
     {
-        let mut copy = Page::zeroed(alloc)?;
-        *copy.bytes = *self.bytes;
-        Ok(copy)
+        let bytes = Vec::from_slice(alloc, &self.bytes)?;
+        Ok(Page { bytes })
     }
 
     /// Writes the bytes from a place of the page on.

@@ -1,14 +1,15 @@
 -- Small cases of the definitions, worked out.
-use Rattle.std.proofs.Common.{◌≡◌, ℕ, List, [], ◌∷◌, refl, ap, lit≤}
+use Rattle.std.proofs.Common.{◌≡◌, ℕ, ◌*◌, List, [], ◌∷◌, map, refl, ap, lit≤}
 use Rattle.std.specs.Prelude.{Some, None, Ok, Err}
 use Rattle.std.specs.Ordering.{nat_cmp}
 use Rattle.std.specs.FinMap.{empty, get-empty}
+use Rattle.std.specs.List.{range_with_len}
 use Rattle.vm_base.specs.declared.permission.Perm.{Perm}
 use Rattle.vm_base.specs.declared.permission.Perm.TheVariants.{Read, ReadWrite}
 use Rattle.vm_base.specs.Places.{page_of, offset_of, cell_of, page_count, cells_of_range, directory_frames}
 use Rattle.vm_base.specs.FlatMemory.{Area, FlatMemory, bytes_at, spliced}
-use Rattle.vm_base.specs.FlatStep.{Taken, areas_without, outside, unwritable, map_of, protect_of}
-use Rattle.vm_base.specs.TwoSides.{World, with_parent, forked, kept_read_of, snap_read_of}
+use Rattle.vm_base.specs.FlatStep.{Taken, TooManyAreas, OutsideAreas, areas_without, outside, unwritable, read_of, touch_of, map_of, protect_of}
+use Rattle.vm_base.specs.TwoSides.{World, Loss, NotLive, OutsideSnapshot, CellLost, with_parent, forked, kept_read_of, snap_read_of}
 use Rattle.vm_base.proofs.FlatBytes.{bytes_at-absent}
 use Rattle.vm_base.proofs.NumberedMaps.{get_inserted_here}
 
@@ -69,3 +70,26 @@ a_snapshot_keeps_its_memory : (world : World) (n address size : ℕ) (later : Fl
     → snap_read_of (with_parent (forked world n) later) n address size ≡ kept_read_of (Some world.parent) world.losses n address size
 a_snapshot_keeps_its_memory world n address size later =
     ap (λ found. kept_read_of found world.losses n address size) (get_inserted_here world.snapshots n world.parent n refl)
+
+-- 128 areas with gaps between them: one more is too many, and none is too many where it joins two
+abbrev every_other_page : List Area
+every_other_page = map (λ n. area (2 * n) 1 ReadWrite) (range_with_len 0 128)
+
+too_many_areas : map_of (mapped every_other_page) 1000 1 ReadWrite ≡ Err TooManyAreas
+too_many_areas = refl
+
+a_gap_closed : map_of (mapped (area 0 1 ReadWrite ∷ area 2 1 ReadWrite ∷ [])) 1 1 ReadWrite ≡ Ok (mapped (area 0 3 ReadWrite ∷ []))
+a_gap_closed = refl
+
+-- a page outside stands before an earlier page that may only be read
+outside_first : touch_of (mapped (area 1 1 Read ∷ [])) 0x1fff 2 ≡ Err (OutsideAreas 2)
+outside_first = refl
+
+abbrev loss : ℕ → ℕ → ℕ → Loss
+loss snapshot cell at = record { snapshot = snapshot; cell = cell; at = at }
+
+-- no snapshot, then no area, then the lowest lost cell of the range
+refused_reads : (kept_read_of None (loss 1 0 9 ∷ []) 1 0 1 ≡ Err NotLive)
+    × (kept_read_of (Some (mapped [])) (loss 1 0 9 ∷ []) 1 0 1 ≡ Err (OutsideSnapshot 0))
+    × (kept_read_of (Some (mapped (area 0 1024 ReadWrite ∷ []))) (loss 2 0 5 ∷ loss 1 1 7 ∷ loss 1 0 9 ∷ []) 1 0x1fffff 2 ≡ Err (CellLost 9))
+refused_reads = (refl, refl, refl)

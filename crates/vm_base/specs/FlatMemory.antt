@@ -1,10 +1,10 @@
 -- A memory as its owner sees it: areas, and the bytes of the pages that are present.
-use Rattle.std.specs.Prelude.{◌≡◌, ◌≢◌, ℕ, ◌+◌, ◌≤◌, ◌<◌, nat_le, nat_lt, Bool, ◌&&◌, List, [], ◌∷◌, Option, Some, IsSome, unwrap_or, length, slice_index, replicate, map, take, drop, ◌++◌}
+use Rattle.std.specs.Prelude.{◌≡◌, ◌≢◌, ℕ, ◌+◌, ◌≤◌, ◌<◌, nat_le, nat_lt, Bool, ◌&&◌, List, [], ◌∷◌, Option, Some, IsSome, unwrap_or, length, slice_index, replicate, map, take, drop, ◌++◌, All}
 use Rattle.std.specs.Ordering.{nat_cmp}
-use Rattle.std.specs.FinMap.{FinMap, get, empty}
+use Rattle.std.specs.FinMap.{FinMap, get, empty, keys}
 use Rattle.std.specs.List.{find, range_with_len}
 use Rattle.vm_base.specs.declared.permission.Perm.{Perm}
-use Rattle.vm_base.specs.Places.{page_of, offset_of}
+use Rattle.vm_base.specs.Places.{page_of, offset_of, cell_of}
 
 -- an area: its first page, how many pages it has, and what they may be used for
 pub record Area : Type 0 where
@@ -49,14 +49,20 @@ bytes_at present address n = map (byte_at present) (range_with_len address n)
 abbrev pub spliced : List ℕ → ℕ → List ℕ → List ℕ
 spliced page at bytes = take at page ++ bytes ++ drop (at + length bytes) page
 
+-- the cells of a memory: those of its present pages, where a cell may come more than once
+abbrev pub cells_of : FlatMemory → List ℕ
+cells_of memory = map cell_of (keys memory.present)
+
 -- each area has a page, and lies below the areas behind it, with a gap or another permission between the two
 abbrev pub AreInOrder : List Area → Type 0
 AreInOrder [] = Unit {0}
 AreInOrder (a ∷ []) = 0 < a.pages
 AreInOrder (a ∷ b ∷ areas) = (0 < a.pages) × (a.first + a.pages ≤ b.first) × (a.first + a.pages ≡ b.first → a.perm ≢ b.perm) × AreInOrder (b ∷ areas)
 
--- what each memory keeps: areas in order, and whole pages that lie in them
+-- areas in order, and whole pages that lie in them
 pub record IsFlat (memory : FlatMemory) : Type 0 where
   pub in_order : AreInOrder memory.areas
+  pub few : length memory.areas ≤ 128
+  pub bytes : (page : ℕ) (bytes : List ℕ) → get memory.present page ≡ Some bytes → All (λ byte. byte < 256) bytes
   pub whole : (page : ℕ) (bytes : List ℕ) → get memory.present page ≡ Some bytes → length bytes ≡ 4096
   pub in_areas : (page : ℕ) → IsSome (get memory.present page) → IsSome (area_of memory.areas page)

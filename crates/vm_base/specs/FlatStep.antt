@@ -143,15 +143,15 @@ map_of memory first n perm =
     (at_most_128 (record memory { areas = joined (with_area area memory.areas) }))
 
 -- the pages that do not lie among n pages
-abbrev pub is_outside : ℕ → ℕ → ℕ → Bool
-is_outside first n page = not (nat_le first page && nat_lt page (first + n))
+abbrev pub is_beyond : ℕ → ℕ → ℕ → Bool
+is_beyond first n page = not (nat_le first page && nat_lt page (first + n))
 
 -- unmapping n pages, above 0: they lie in no area then, and none of them is present
 abbrev pub unmap_of : FlatMemory → ℕ → ℕ → Result FlatMemory Refusal
 unmap_of memory first n =
     at_most_128 (record {
       areas = areas_without first n memory.areas;
-      present = retain_keys memory.present (is_outside first n);
+      present = retain_keys memory.present (is_beyond first n);
     })
 
 -- giving n pages, above 0, another permission: they lie in areas, and keep all bytes

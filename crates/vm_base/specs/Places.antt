@@ -14,15 +14,15 @@ offset_of address = address % 4096
 abbrev pub cell_of : ℕ → ℕ
 cell_of page = page / 512
 
--- how many pages a range of n bytes, above 0, from an address meets
+-- how many pages a range of n bytes from an address meets; one without bytes meets none
 abbrev pub page_count : ℕ → ℕ → ℕ
-page_count address n = page_of (address + n - 1) + 1 - page_of address
+page_count address n = if n == 0 then 0 else page_of (address + n - 1) + 1 - page_of address
 
--- the cells that the range meets, lowest first
+-- the cells that a range of n bytes from an address meets, lowest first
 abbrev pub cells_of_range : ℕ → ℕ → List ℕ
 cells_of_range address n =
     let first = cell_of (page_of address) in
-    range_with_len first (cell_of (page_of (address + n - 1)) + 1 - first)
+    if n == 0 then [] else range_with_len first (cell_of (page_of (address + n - 1)) + 1 - first)
 
 -- the members of a list, each once
 abbrev pub distinct : List ℕ → List ℕ

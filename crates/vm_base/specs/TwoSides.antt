@@ -1,6 +1,7 @@
 -- The world of a parent and its snapshots. A fork copies the parent's whole memory at once, as POSIX fork does; what comes later on one side does not reach the other.
-use Rattle.std.specs.Prelude.{ℕ, ◌+◌, ◌==◌, not, ◌&&◌, List, [], ◌∷◌, ◌++◌, Option, Some, None, if◌then◌else◌, Result, Ok, Err, filter}
+use Rattle.std.specs.Prelude.{ℕ, ◌+◌, ◌==◌, not, ◌&&◌, List, [], ◌∷◌, ◌++◌, Option, Some, None, if◌then◌else◌, Result, Ok, Err, filter, unwrap_or}
 use Rattle.std.specs.Ordering.{nat_cmp}
+use Rattle.std.specs.Option.{option_or}
 use Rattle.std.specs.FinMap.{FinMap, get, insert, remove, empty}
 use Rattle.vm_base.specs.Places.{page_of, page_count, cells_of_range}
 use Rattle.vm_base.specs.FlatMemory.{FlatMemory, empty_memory, bytes_at}
@@ -54,6 +55,10 @@ forked world n = record world {
 abbrev pub with_refused : World → World
 with_refused world = record world { refused = world.refused + 1 }
 
+-- a copy of snapshot n was refused
+abbrev pub with_refused_copy : World → ℕ → World
+with_refused_copy world n = record world { refused_copies = insert world.refused_copies n (unwrap_or (get world.refused_copies n) 0 + 1) }
+
 -- snapshot n has lost a cell
 abbrev pub with_loss : World → ℕ → ℕ → ℕ → World
 with_loss world n cell at = record world { losses = world.losses ++ record { snapshot = n; cell = cell; at = at } ∷ [] }
@@ -72,15 +77,10 @@ loss_of [] n cell = None
 loss_of (loss ∷ losses) n cell =
     (if (loss.snapshot == n) && (loss.cell == cell) then Some loss.at else loss_of losses n cell)
 
--- the first value of two
-abbrev pub first_of_two : Option ℕ → Option ℕ → Option ℕ
-first_of_two (Some n) other = Some n
-first_of_two None other = other
-
 -- the count of the first of these cells that snapshot n has lost
 abbrev pub first_loss : List Loss → ℕ → List ℕ → Option ℕ
 first_loss losses n [] = None
-first_loss losses n (cell ∷ cells) = first_of_two (loss_of losses n cell) (first_loss losses n cells)
+first_loss losses n (cell ∷ cells) = option_or (loss_of losses n cell) (first_loss losses n cells)
 
 -- why a snapshot can't be read: none of that number lives; the lowest page that lies in no area of it; or the count at which the lowest lost cell of the range was lost
 pub data SnapRefusal : Type 0 where

@@ -29,8 +29,8 @@ impl Bytes {
         }
     }
 
-    /// Appends the whole text. The room doubles as it grows, so each byte is moved a bounded
-    /// number of times. After `NoMemory` the list is as it was and good for further calls.
+    /// Appends the whole text. The room doubles as it grows, so pushing pieces is linear in the
+    /// bytes of all of them. After `NoMemory` the list is as it was and good for further calls.
     pub fn push_all(&mut self, text: &[u8]) -> Result<(), NoMemory>
         ensures ok { OnOk result (self.new ≡ self.old ++ text.now) }
         ensures no_memory { OnErr result (self.new ≡ self.old) }

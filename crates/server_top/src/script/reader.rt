@@ -120,7 +120,7 @@ impl Seen {
 }
 
 /// No spelling of one script is a spelling of another.
-pub(crate) fn one_spelling()
+pub fn one_spelling()
     ensures { (text : List ℕ) (frames others : ℕ) (events more : List Event)
         → IsScript text frames events → IsScript text others more
         → (frames ≡ others) × (events ≡ more) }

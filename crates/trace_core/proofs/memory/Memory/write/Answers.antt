@@ -7,5 +7,5 @@ use Rattle.trace_core.proofs.memory.Memory.write.Goals as goal
 
 pub store_range-requires-clause-present : goal.store_range-requires-clause-present
 store_range-requires-clause-present c page above below =
-    let inside : page < c.args.addr / 4096 + c.page_count-count.result = omega (arith, c.page_count-count.ensures.count) in
+    let inside : page < c.args.addr / 4096 + c.page_count-count.result = omega (arith, c.page_count-count.ensures.whole) in
     ap (λ m. is_some (get m page)) c.in-Ok.ensures.ok ∙ is_some-with_pages c.page_count-count.result c.self.inside.pages (c.args.addr / 4096) page above inside
