@@ -85,29 +85,28 @@ fn a_script_prints_its_lines_however_it_is_cut(rt: HostRuntime) -> Result<(), Fa
     Ok(())
 }
 
+/// Whether a run on the text ends as a bad script, with nothing written.
+fn is_no_script(alloc: Global, text: &[u8]) -> Result<bool, NoMemory> {
+    let run = run(alloc, &[b"trace"], text, 65536, &[], &[])?;
+    Ok(run.status == Status::BadScript { line: 1 } && run.written.written().is_empty())
+}
+
 #[test]
 fn a_text_that_is_no_script_writes_nothing(rt: HostRuntime) -> Result<(), Fail> {
     let alloc = rt.alloc();
+    let texts: [&[u8]; 4] = [b"", b"\0\0\0", b"machine 2048", b"machine 2047\n"];
+    for text in texts {
+        assert!(rt; is_no_script(alloc, text)?);
+    }
+    assert!(rt; is_no_script(alloc, &BOTH_SIDES[..BOTH_SIDES.len() - 1])?);
     let mut ninth_line = Vec::from_slice(alloc, BOTH_SIDES)?;
     ninth_line.extend_from_slice(b"read 300000 1\n")?;
+    assert!(rt; is_no_script(alloc, &ninth_line)?);
     let long_number = vec![in alloc; b'7'; 1000]?;
+    assert!(rt; is_no_script(alloc, &long_number)?);
     let mut long_line = Vec::from_slice(alloc, b"machine 2048\nwrite 0 ")?;
     long_line.extend_from_slice(&vec![in alloc; b'6'; 1 << 20]?)?;
-    let texts: [&[u8]; 8] = [
-        b"",
-        b"\0\0\0",
-        b"machine 2048",
-        b"machine 2047\n",
-        &BOTH_SIDES[..BOTH_SIDES.len() - 1],
-        &ninth_line,
-        &long_number,
-        &long_line,
-    ];
-    for text in texts {
-        let run = run(alloc, &[b"trace"], text, 65536, &[], &[])?;
-        assert!(rt; run.status == Status::BadScript { line: 1 });
-        assert!(rt; run.written.written().is_empty());
-    }
+    assert!(rt; is_no_script(alloc, &long_line)?);
     Ok(())
 }
 
