@@ -1,0 +1,202 @@
+-- Each step of a lock keeps its rule.
+use Rattle.std.proofs.Common.{◌≡◌, ℕ, ◌+◌, ◌<◌, ◌≤◌, eqb, ◌≢◌, List, [], ◌∷◌, ◌++◌, length, get_or, set, sym, refl, ap, ◌∙◌, subst, ⊎_elim, arith, length-set, get_or-set_same, eq-eqb, ne_eqb, true, false}
+use Rattle.std.specs.Prelude.{Option, Some, None}
+use mathlib.Core.Logic.{dite}
+use mathlib.Core.Option.{some, some-injective}
+use native.Mathlib.Decide.{ℕ_discrete}
+use lib.ListN.{get_elem?}
+use prog.Atomic.{either}
+use Rattle.atomic_table.specs.Table.{State, Me, Act, keeps, takes, gives, Valid, homes_after, carried_after, stepped, Allows, Splits, Joins}
+use Rattle.atomic_table.proofs.Lists.{at_set, set_again, set_here, exchanged}
+use Rattle.turn_cell.specs.declared.known.Known.{Known}
+use Rattle.turn_cell.specs.declared.known.Role.TheVariants.{Maker, Numbered, Guest, Spent}
+use Rattle.turn_cell.specs.declared.cell.Start.{Start}
+use Rattle.turn_cell.specs.History.{IsPrefix, AllBegin, longer, entries_of, AllMadeBy}
+use Rattle.turn_cell.specs.Rule.{first_value, Fits, Standing}
+use Rattle.turn_cell.specs.Steps.{Holder, StandsSince, Took, Missed, tried, Heard, looked, gave}
+use Rattle.turn_cell.proofs.Lists.{at_end, prefix_refl, prefix_nil, prefix_more, begin_more, begin_end, prefix_shorter, entries_more, entries_same}
+
+module _ {T E Opening : Type 0} (opening : T → Opening) (stands : Opening → List E → T → Type 0) (by : E → ℕ) (key : Start T) where
+  abbrev St : Type 0
+  St = State (Option T) (Known T E)
+
+  abbrev Rule : St → Type 0
+  Rule = Standing opening stands by key
+
+  abbrev word : St → ℕ
+  word s = get_or s.words 0 0
+
+  abbrev Fit : ℕ → ℕ → ℕ → (ℕ → ℕ) → List E → ℕ → Known T E → Type 0
+  Fit = Fits opening stands by key
+
+  -- a change of the word by one seat, after which the others know what they knew
+  moved : (s : St) (r : Rule s) (n id : ℕ) (c : List (ℕ × Option T)) (w : Known T E) (a : Act (Option T)) (log : List E)
+      → n ≤ r.made
+      → (n ≡ 0 → (x : T) × (get_elem? (homes_after s.homes c a) 0 ≡ some (some (Some x))) × stands (opening (first_value key)) log x)
+      → ((m : ℕ) → r.made ≤ m → entries_of by m log ≡ [])
+      → Fit n r.made r.maker r.place log id w
+      → ((j : ℕ) (d : Known T E) → j ≢ id → Fit (word s) r.made r.maker r.place r.log j d → Fit n r.made r.maker r.place log j d)
+      → Rule (stepped s 0 n id c w a)
+  moved s r n id c w a log most free none own rest =
+      let wide = r.wide in
+      let now : get_or (set s.words 0 n) 0 0 ≡ n = get_or-set_same s.words 0 n 0 (omega arith) in record {
+        log = log;
+        made = r.made;
+        maker = r.maker;
+        place = r.place;
+        wide = length-set s.words 0 n ∙ r.wide;
+        within = r.within;
+        word = rw now most;
+        free = λ z. free (sym now ∙ z);
+        others = none;
+        each = λ j d at. subst (λ (z : ℕ). Fit z r.made r.maker r.place log j d) (sym now) (⊎_elim
+            (λ t. subst (λ (z : ℕ). Fit n r.made r.maker r.place log z d) (sym t.0) (subst (λ (z : Known T E). Fit n r.made r.maker r.place log id z) t.1 own))
+            (λ t. rest j d t.0 (r.each j d t.1))
+            (at_set s.views id j w d at));
+      }
+
+  -- what another seat knows, when a seat takes the turn
+  others_take : (made maker : ℕ) (place : ℕ → ℕ) (log : List E) (k id j : ℕ) (d : Known T E) → place k ≡ id → j ≢ id
+      → Fit 0 made maker place log j d → Fit (k + 1) made maker place log j d
+  others_take made maker place log k id j d mine ne f = record {
+    begins = f.begins;
+    heard = f.heard;
+    same = f.same;
+    numbered = f.numbered;
+    holding = λ h. let p = f.holding h in let q = p.1 in absurd (omega arith);
+    resting = λ is rests eq. let same : d.number ≡ k = omega arith in ne (sym (f.numbered is).1 ∙ (ap place same ∙ mine));
+    making = λ is. let p = f.making is in (
+      p.0,
+      p.1,
+      λ n h. let q = p.2 n h in
+          (q.0, (λ eq. let same : n ≡ k = omega arith in ne (p.0 ∙ (sym (p.0) ∙ (sym q.0 ∙ (ap place same ∙ mine))))), q.2),
+    );
+  }
+
+  -- what another seat knows, when a seat gives the turn back with its entries
+  others_give : (made maker : ℕ) (place : ℕ → ℕ) (log es : List E) (k id j : ℕ) (d : Known T E) → place k ≡ id → j ≢ id → AllMadeBy by k es
+      → Fit (k + 1) made maker place log j d → Fit 0 made maker place (log ++ es) j d
+  others_give made maker place log es k id j d mine ne all f = record {
+    begins = prefix_more d.seen log es f.begins;
+    heard = begin_more d.heard log es f.heard;
+    same = f.same;
+    numbered = λ is. let p = f.numbered is in
+        let other : d.number ≢ k = λ eq. ne (sym p.1 ∙ (ap place eq ∙ mine)) in
+        (p.0, p.1, p.2 ∙ sym (entries_same by k d.number log es other all));
+    holding = λ h. let p = f.holding h in
+        let same : d.number ≡ k = let q = p.1 in omega arith in absurd (ne (sym (f.numbered p.0).1 ∙ (ap place same ∙ mine)));
+    resting = λ is rests eq. omega arith;
+    making = λ is. let p = f.making is in (
+      p.0,
+      p.1,
+      λ n h. let q = p.2 n h in
+          let other : n ≢ k = λ eq. ne (sym q.0 ∙ (ap place eq ∙ mine)) in
+          (q.0, (λ eq. omega arith), entries_same by k n log es other all ∙ q.2),
+    );
+  }
+
+  -- an exchange of the word takes the turn where it is free
+  pub takes_turn : (id : ℕ) (v : Known T E) → v.role ≡ Numbered → v.holds ≡ false
+      → Allows Rule 1 id (v, []) 0 (λ n. either (eqb n 0) (v.number + 1) n) (tried opening stands by (v, []))
+  takes_turn id v is rests s r one at small =
+      let f = r.each id v at in
+      let num = f.numbered is in dite (ℕ_discrete (word s) 0)
+      (λ hit.
+      let f0 : Fit 0 r.made r.maker r.place r.log id v = subst (λ (z : ℕ). Fit z r.made r.maker r.place r.log id v) hit f in
+      let here = r.free hit in
+      let w : Known T E = record v { holds = true; seen = r.log; met = v.met ++ 0 ∷ [] } in
+      let below = num.0 in (
+        w,
+        takes 0 (Some here.0),
+        here.1,
+        subst (λ b. Rule (stepped s 0 (either b (v.number + 1) (word s)) id [] w (takes 0 (Some here.0)))) (sym (eq-eqb (word s) 0 hit))
+            (moved s r (v.number + 1) id [] w (takes 0 (Some here.0)) r.log (omega arith) (λ z. absurd (omega arith)) r.others
+            (record {
+              begins = prefix_refl r.log;
+              heard = f.heard;
+              same = f.same;
+              numbered = f.numbered;
+              holding = λ _. (is, refl, refl);
+              resting = λ _ no. absurd (cc);
+              making = λ m. absurd (cc);
+            })
+            (λ j d ne o. others_take r.made r.maker r.place r.log v.number id j d num.1 ne (subst (λ (z : ℕ). Fit z r.made r.maker r.place r.log j d) hit o))),
+        (
+          (λ _. record {
+            log = r.log;
+            value = here.0;
+            view = refl;
+            slot = refl;
+            begins = f.begins;
+            own = num.2;
+            meaning = λ g e. let same : first_value key ≡ g = let a = (f.same (λ z. absurd (cc))).0 in cc in
+                subst (λ (z : T). stands (opening z) r.log here.0) same here.2;
+          }),
+          (λ no. absurd (no hit)),
+        ),
+      ))
+      (λ miss.
+      let w : Known T E = record v { met = v.met ++ word s ∷ [] } in
+      let most = r.word in let bound = r.within in (
+        w,
+        keeps,
+        tt,
+        subst (λ b. Rule (stepped s 0 (either b (v.number + 1) (word s)) id [] w keeps)) (sym (ne_eqb (word s) 0 miss))
+            (moved s r (word s) id [] w keeps r.log r.word r.free r.others
+            (record { begins = f.begins; heard = f.heard; same = f.same; numbered = f.numbered; holding = f.holding; resting = f.resting; making = f.making })
+            (λ j d ne o. o)),
+        (
+          (λ hit. absurd (miss hit)),
+          (λ _. record {
+            view = refl;
+            slot = refl;
+            within = let a : v.seats ≡ key.seats = (f.same (λ z. absurd (cc))).1 in omega arith;
+            other = f.resting is rests;
+          }),
+        ),
+      ))
+
+  -- a store of 0 gives the turn back, with a value that stands for the history and the entries
+  pub gives_turn : (id : ℕ) (v : Known T E) (x : T) (es : List E) → v.holds ≡ true → AllMadeBy by v.number es
+      → StandsSince opening stands by v.first (v.seen ++ es) x
+      → Allows Rule 1 id (v, (0, Some x) ∷ []) 0 (λ _. 0) (λ _ m'. gave es (v, (0, Some x) ∷ []) m')
+  gives_turn id v x es holds all means s r one at small =
+      let f = r.each id v at in
+      let h = f.holding holds in
+      let num = f.numbered h.0 in
+      let first : v.first ≡ Some (first_value key) = (f.same (λ z. let a = h.0 in absurd (cc))).0 in
+      let w : Known T E = record v { holds = false; seen = v.seen ++ es; mine = v.mine ++ es } in
+      let log : v.seen ++ es ≡ r.log ++ es = ap (λ l. l ++ es) h.2 in (
+        w,
+        gives,
+        tt,
+        moved s r 0 id ((0, Some x) ∷ []) w gives (r.log ++ es) (omega arith)
+            (λ _. (x, set_here s.homes 0 (some (Some x)) (omega arith), subst (λ l. stands (opening (first_value key)) l x) log (means (first_value key) first)))
+            (λ m le. let below = num.0 in entries_same by v.number m r.log es (λ eq. omega arith) all ∙ r.others m le)
+            (record {
+              begins = subst (λ l. IsPrefix l (r.log ++ es)) (sym log) (prefix_refl (r.log ++ es));
+              heard = begin_more v.heard r.log es f.heard;
+              same = f.same;
+              numbered = λ _. (num.0, num.1, ap (λ l. l ++ es) num.2 ∙ sym (entries_more by v.number r.log es all));
+              holding = λ no. absurd (cc);
+              resting = λ _ _ eq. omega arith;
+              making = λ m. let a = h.0 in absurd (cc);
+            })
+            (λ j d ne o. others_give r.made r.maker r.place r.log es v.number id j d num.1 ne all (subst (λ (z : ℕ). Fit z r.made r.maker r.place r.log j d) h.1 o)),
+        (refl, refl),
+      )
+
+  -- the same at a seat that holds no slot
+  pub takes_slot : (slots id own : ℕ) (m : Holder T E) → slots ≡ 1 → own ≡ m.0.number + 1 → m.1 ≡ [] → m.0.role ≡ Numbered → m.0.holds ≡ false
+      → Allows Rule slots id m 0 (λ n. either (eqb n 0) own n) (tried opening stands by m)
+  takes_slot slots id own m one is none role rests =
+      subst (λ (z : ℕ × ℕ × List (ℕ × Option T)). Allows Rule z.0 id (m.0, z.2) 0 (λ n. either (eqb n 0) z.1 n) (tried opening stands by (m.0, z.2)))
+      (λ i. (sym one i, sym is i, sym none i)) (takes_turn id m.0 role rests)
+
+  -- the same at a seat that holds the slot with this value
+  pub gives_back : (slots id : ℕ) (m : Holder T E) (v : Known T E) (x : T) (es : List E) → slots ≡ 1 → m ≡ (v, (0, Some x) ∷ []) → v.holds ≡ true → AllMadeBy by v.number es
+      → StandsSince opening stands by v.first (v.seen ++ es) x
+      → Allows Rule slots id m 0 (λ _. 0) (λ _ m'. gave es m m')
+  gives_back slots id m v x es one is holds all means =
+      subst (λ (z : ℕ × Holder T E). Allows Rule z.0 id z.1 0 (λ _. 0) (λ _ m'. gave es z.1 m'))
+      (λ i. (sym one i, sym is i)) (gives_turn id v x es holds all means)
