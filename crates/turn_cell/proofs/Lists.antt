@@ -1,8 +1,10 @@
 -- Lists: what begins a list, and the entries of one seat.
-use Rattle.std.proofs.Common.{◌≡◌, ℕ, eqb, subst, eq-eqb, ne_eqb, zero, suc, ◌+◌, ◌<◌, ◌≤◌, ◌≢◌, ◌⊎◌, List, [], ◌∷◌, ◌++◌, length, sym, refl, ap, ◌∙◌, inl, inr, ⊎_elim, arith, true, false, append_assoc, length-append}
-use Rattle.std.proofs.lemmas.List.{append-nil, append_cancel_left}
+use Rattle.std.proofs.Common.{◌≡◌, ℕ, eqb, subst, eq-eqb, ne_eqb, zero, suc, ◌+◌, ◌<◌, ◌≤◌, ◌≢◌, ◌⊎◌, List, [], ◌∷◌, ◌++◌, length, sym, refl, ap, ◌∙◌, inl, inr, ⊎_elim, arith, true, false, append_assoc, length-append, get_or, cond}
+use Rattle.std.proofs.lemmas.Bool.Decides.{leb_tells}
+use Rattle.std.proofs.lemmas.List.{append-nil, nil_from_length}
 use Rattle.std.proofs.lemmas.List.Elements.{filter-append}
 use Rattle.std.specs.List.{filter}
+use Rattle.std.specs.Prelude.{Option, Some, None, is_some}
 use mathlib.Core.Option.{some, some-injective, some-ne-none}
 use lib.ListN.{get_elem?}
 use Rattle.turn_cell.specs.History.{IsPrefix, AllBegin, longer, entries_of, AllMadeBy}
@@ -14,6 +16,17 @@ module _ {A : Type 0} where
   at_end [] a b (suc j) e = absurd (some-ne-none b (sym e))
   at_end (x ∷ xs) a b zero e = inl e
   at_end (x ∷ xs) a b (suc j) e = ⊎_elim inl (λ p. inr (ap suc p.0, p.1)) (at_end xs a b j e)
+
+module _ {A : Type 0} where
+  pub same_some : (a b : A) → Some a ≡ Some b → a ≡ b
+  same_some a b e = cc
+
+  pub some_of : (x : Option A) → true ≡ is_some x → (a : A) × (x ≡ Some a)
+  some_of (Some a) e = (a, refl)
+  some_of None e = absurd (cc)
+
+  pub not_both : (x : Option A) (a : A) → x ≡ None → x ≡ Some a → ⊥
+  not_both x a e f = let g : None ≡ Some a = sym e ∙ f in cc
 
 module _ {E : Type 0} where
   pub prefix_refl : (xs : List E) → IsPrefix xs xs
@@ -64,3 +77,41 @@ module _ {E : Type 0} where
 
     pub entries_same : (n m : ℕ) (log es : List E) → m ≢ n → AllMadeBy by n es → entries_of by m (log ++ es) ≡ entries_of by m log
     entries_same n m log es ne p = entries-append m log es ∙ (ap (λ l. entries_of by m log ++ l) (no_entries n m es ne p) ∙ append-nil (entries_of by m log))
+
+    -- a list that lies between two with the same entries of a seat has them too
+    pub entries_between : (n : ℕ) (xs ys log m : List E) → IsPrefix xs ys → IsPrefix ys log → m ≡ entries_of by n xs → m ≡ entries_of by n log → m ≡ entries_of by n ys
+    entries_between n xs ys log m p q low high =
+        let more : List E = entries_of by n p.rest in
+        let rest : List E = entries_of by n q.rest in
+        let a : entries_of by n ys ≡ m ++ more = ap (entries_of by n) p.whole ∙ (entries-append n xs p.rest ∙ ap (λ l. l ++ more) (sym low)) in
+        let b : m ≡ (m ++ more) ++ rest = high ∙ (ap (entries_of by n) q.whole ∙ (entries-append n ys q.rest ∙ ap (λ l. l ++ rest) a)) in
+        let none : more ≡ [] = nil_from_length more (let c = ap length b in let d = length-append (m ++ more) rest in let e = length-append m more in omega arith) in
+        sym (a ∙ (ap (λ l. m ++ l) none ∙ append-nil m))
+
+  -- the longer of two lists is one of them, and the other is no longer
+  pub longer_cases : (xs ys : List E) → ((longer xs ys ≡ ys) × (length xs ≤ length ys)) ⊎ ((longer xs ys ≡ xs) × (length ys ≤ length xs))
+  longer_cases xs ys = ⊎_elim
+      (λ t. let h = t.1 in inl (ap (λ b. cond b ys xs) t.0, omega arith))
+      (λ t. let h = t.1 in inr (ap (λ b. cond b ys xs) t.0, omega arith))
+      (leb_tells (suc (length xs)) (length ys))
+
+  -- of two beginnings of one list both begin the longer, which begins that list
+  pub longer_begins : (xs ys log : List E) → IsPrefix xs log → IsPrefix ys log → IsPrefix xs (longer xs ys) × IsPrefix ys (longer xs ys) × IsPrefix (longer xs ys) log
+  longer_begins xs ys log p q = ⊎_elim
+      (λ t. (
+        subst (λ l. IsPrefix xs l) (sym t.0) (prefix_shorter xs ys log p q t.1),
+        subst (λ l. IsPrefix ys l) (sym t.0) (prefix_refl ys),
+        subst (λ l. IsPrefix l log) (sym t.0) q,
+      ))
+      (λ t. (
+        subst (λ l. IsPrefix xs l) (sym t.0) (prefix_refl xs),
+        subst (λ l. IsPrefix ys l) (sym t.0) (prefix_shorter ys xs log q p t.1),
+        subst (λ l. IsPrefix l log) (sym t.0) p,
+      ))
+      (longer_cases xs ys)
+
+  -- each of the lists begins the history, by its place
+  pub begin_at : (ls : List (List E)) (log : List E) (n : ℕ) → AllBegin ls log → IsPrefix (get_or ls n []) log
+  begin_at [] log n p = prefix_nil log
+  begin_at (l ∷ ls) log zero p = p.0
+  begin_at (l ∷ ls) log (suc n) p = begin_at ls log n p.1

@@ -9,7 +9,7 @@ use Rattle.turn_cell.specs.declared.seat.Seat.{Seat}
 use Rattle.turn_cell.specs.declared.turns.Turn.{Turn}
 use Rattle.turn_cell.specs.declared.told.Told.{Ghosts}
 use Rattle.turn_cell.specs.contracts.turns.Turn.{the_row}
-use Rattle.turn_cell.specs.History.{IsPrefix, entries_of}
+use Rattle.turn_cell.specs.History.{IsPrefix, longer, entries_of}
 use Rattle.turn_cell.specs.Rule.{first_value}
 use Rattle.turn_cell.specs.Steps.{StandsSince}
 
@@ -95,6 +95,16 @@ module _ {T E : Type 0} (by : E → ℕ) where
     pub same : IsSameSeat s s'
     pub seen_is : seen s' ≡ seen s ++ es
     pub mine_is : mine s' ≡ mine s ++ es
+
+  -- the seat has seen the longer of what it and the other had seen, and both begin it
+  pub record WasTold (c : CellId T) (from s s' : Seat T E) : Type 0 where
+    pub seat : IsSeatOf c s'
+    pub same : IsSameSeat s s'
+    pub longer_is : seen s' ≡ longer (seen s) (seen from)
+    pub begins : IsPrefix (seen s) (seen s')
+    pub other_begins : IsPrefix (seen from) (seen s')
+    pub mine_is : mine s' ≡ mine s
+    pub found_is : found s' ≡ found s
 
 module _ {T E Opening : Type 0} (opening : T → Opening) (stands : Opening → List E → T → Type 0) (by : E → ℕ) where
   -- the value stands for the list, since the opening of this cell

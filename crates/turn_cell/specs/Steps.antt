@@ -36,6 +36,7 @@ module _ {T E Opening : Type 0} (opening : T → Opening) (stands : Opening → 
   abbrev pub tried : Holder T E → ℕ → Holder T E → Type 0
   tried m found m' = (found ≡ 0 → Took m m') × (found ≢ 0 → Missed m found m')
 
+module _ {T E : Type 0} (by : E → ℕ) where
   -- the seat has seen as much as another told it
   pub record Heard (l : List E) (m m' : Holder T E) : Type 0 where
     pub view : m'.0 ≡ record m.0 { seen = longer m.0.seen l; heard = [] }
@@ -71,7 +72,7 @@ module _ {T E : Type 0} where
 
   -- v was told what w has seen
   abbrev pub told : Known T E → Known T E → Known T E
-  told v w = record v { heard = w.seen ∷ v.heard }
+  told v w = record v { heard = w.seen ∷ [] }
 
   -- the maker has taken in the seat of the next number
   abbrev pub gathered : Known T E → Known T E → Known T E

@@ -15,6 +15,13 @@ pub struct Start<T> {
     pub seats: u32,
 }
 
+impl<T> Drop for Start<T> {
+    fn drop(self) {
+        let Self { value, seats: _ } = self;
+        drop(value);
+    }
+}
+
 /// The rule: whenever the word is free, the value in the slot stands for the one history.
 pub struct OneHistory<T> {
     value: PhantomData<T>,

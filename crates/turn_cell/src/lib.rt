@@ -3,13 +3,15 @@
 
 mod cell;
 mod known;
+mod life;
 mod plays;
 mod seat;
 mod told;
 mod turns;
 
 pub use cell::{OneHistory, Start, TurnCell};
+pub use life::NoMemory;
 pub use known::{Known, Role};
-pub use seat::Seat;
+pub use seat::{Seat, SeatList};
 pub use told::{Note, Told};
 pub use turns::{Busy, Turn};

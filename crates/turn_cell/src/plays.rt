@@ -43,3 +43,46 @@ impl<E> Adds<E> for Nothing {
 
     ghost added = { [] };
 }
+
+/// A seat is cut off that tells what this one has seen.
+pub(crate) struct Ask;
+
+impl<T, E> Split<Known<T, E>> for Ask {
+    ghost left = { λ v. v };
+
+    ghost right = { guest };
+}
+
+/// A seat is told what another has seen.
+pub(crate) struct Hear;
+
+impl<T, E> Join<Known<T, E>> for Hear {
+    ghost both = { told };
+
+    ghost spent = { spent };
+}
+
+/// A look, after which the seat has seen what it was told.
+pub(crate) struct Look;
+
+impl<T: Told> Play<Option<T>, Known<T, T::Entry>> for Look {
+    ghost then = { λ s m r n. looked T.seat_of m n };
+}
+
+/// The maker gives the next number to a new seat.
+pub(crate) struct Number;
+
+impl<T, E> Split<Known<T, E>> for Number {
+    ghost left = { numbering };
+
+    ghost right = { numbered };
+}
+
+/// The maker takes in the seat of the next number.
+pub(crate) struct Gather;
+
+impl<T, E> Join<Known<T, E>> for Gather {
+    ghost both = { gathered };
+
+    ghost spent = { spent };
+}
