@@ -39,6 +39,7 @@ impl<T: Told> TableRule<Option<T>, Known<T, T::Entry>, Start<T>> for OneHistory<
 pub(crate) type Place<T, E> = atomic_table::Seat<Option<T>, Known<T, E>>;
 
 /// A lock whose value stands for the list of all that was told under it.
+#[derive(Drop)]
 pub struct TurnCell<T: Told> {
     pub(crate) table: Table<Option<T>, Known<T, T::Entry>, Start<T>, OneHistory<T>, Global>,
     /// How many seats are asleep, or on their way there.
