@@ -1,14 +1,14 @@
 -- What a contract says of a seat, from what the steps told it.
-use Rattle.std.proofs.Common.{◌≡◌, ℕ, ◌+◌, ◌<◌, ◌≢◌, List, [], ◌∷◌, ◌++◌, sym, refl, ap, ◌∙◌, subst, true, false, set, get_or, length, length-set, get_or-set_same, get_or-set_other}
+use Rattle.std.proofs.Common.{◌≡◌, ℕ, ◌<◌, List, [], ◌∷◌, ◌++◌, sym, refl, ap, ◌∙◌, subst, false, set, get_or, length, length-set, get_or-set_same, get_or-set_other}
 use Rattle.std.specs.Prelude.{Option, Some, None, MatchOption}
 use Rattle.atomic_table.specs.declared.shared.Seat as table
 use Rattle.turn_cell.specs.declared.known.Known.{Known}
 use Rattle.turn_cell.specs.declared.seat.Seat.{Seat}
 use Rattle.turn_cell.specs.declared.seat.SeatList.{SeatList}
 use Rattle.turn_cell.specs.History.{IsPrefix, longer, entries_of, AllMadeBy}
-use Rattle.turn_cell.specs.Steps.{Holder, Heard}
-use Rattle.turn_cell.specs.Seats.{CellId, seat_id, seen, mine, IsSameSeat, IsNumbered, IsSeatOf, IsHolder, GaveBack, WasTold}
-use Rattle.turn_cell.specs.Lists.{list_slots, slot_at, list_id, HasNone, IsSeatIn, IsLeastOf, IsList}
+use Rattle.turn_cell.specs.Steps.{Heard}
+use Rattle.turn_cell.specs.Seats.{CellId, seat_id, seen, IsSeatOf, IsHolder, GaveBack, WasTold}
+use Rattle.turn_cell.specs.Lists.{list_slots, list_id, HasNone, IsSeatIn, IsLeastOf, IsList}
 use mathlib.Core.Logic.{dite}
 use native.Mathlib.Decide.{ℕ_discrete}
 use Rattle.turn_cell.proofs.Lists.{entries_more}
@@ -77,18 +77,18 @@ module _ {T E : Type 0} (by : E → ℕ) where
       → ((s : Seat T E) → x ≡ Some s → IsSeatOf by (list_id l) s × (s.number ≡ k)) → IsList by l → IsList by l'
   list_kept l l' k x same slots inside right old =
       let id : list_id l' ≡ list_id l = ap (λ (m : table.Seat (Option T) (Known T E)). record { table = m.table_id; first = m.me.0.first; seats = m.me.0.seats }) same in record {
-    role = ap (λ (m : table.Seat (Option T) (Known T E)). m.me.0.role) same ∙ old.role;
-    made = ap (λ (m : table.Seat (Option T) (Known T E)). m.me.0.number) same ∙ (old.made ∙ sym (ap (λ (m : table.Seat (Option T) (Known T E)). m.me.0.seats) same));
-    parts = ap (λ (m : table.Seat (Option T) (Known T E)). m.me.0.parts) same ∙ old.parts;
-    heard = ap (λ (m : table.Seat (Option T) (Known T E)). m.me.0.heard) same ∙ old.heard;
-    none = ap (λ (m : table.Seat (Option T) (Known T E)). m.me.1) same ∙ old.none;
-    size = ap length slots ∙ (length-set (list_slots l) k x ∙ (old.size ∙ sym (ap (λ (z : CellId T). z.seats) id)));
-    each = λ n s e.
-        let at : get_or (set (list_slots l) k x) n None ≡ Some s = sym (ap (λ (z : List (Option (Seat T E))). get_or z n None) slots) ∙ e in
-        subst (λ (z : CellId T). IsSeatOf by z s × (s.number ≡ n)) (sym id) (dite (ℕ_discrete n k)
+        role = ap (λ (m : table.Seat (Option T) (Known T E)). m.me.0.role) same ∙ old.role;
+        made = ap (λ (m : table.Seat (Option T) (Known T E)). m.me.0.number) same ∙ (old.made ∙ sym (ap (λ (m : table.Seat (Option T) (Known T E)). m.me.0.seats) same));
+        parts = ap (λ (m : table.Seat (Option T) (Known T E)). m.me.0.parts) same ∙ old.parts;
+        heard = ap (λ (m : table.Seat (Option T) (Known T E)). m.me.0.heard) same ∙ old.heard;
+        none = ap (λ (m : table.Seat (Option T) (Known T E)). m.me.1) same ∙ old.none;
+        size = ap length slots ∙ (length-set (list_slots l) k x ∙ (old.size ∙ sym (ap (λ (z : CellId T). z.seats) id)));
+        each = λ n s e.
+            let at : get_or (set (list_slots l) k x) n None ≡ Some s = sym (ap (λ (z : List (Option (Seat T E))). get_or z n None) slots) ∙ e in
+            subst (λ (z : CellId T). IsSeatOf by z s × (s.number ≡ n)) (sym id) (dite (ℕ_discrete n k)
             (λ here. let r = right s (sym (get_or-set_same (list_slots l) k x None inside) ∙ (sym (ap (λ (z : ℕ). get_or (set (list_slots l) k x) z None) here) ∙ at)) in (r.0, r.1 ∙ sym here))
             (λ other. old.each n s (sym (get_or-set_other (list_slots l) k n x None other) ∙ at)));
-  }
+      }
 
   -- what the take of a place gave, which is the first that is not empty
   pub list_taken : (P : Type 0) (l : SeatList T E) (at : ℕ) (r x left : Option (Seat T E)) → IsList by l → at < length (list_slots l) → HasNone (list_slots l) at → IsSeatIn (list_slots l) at

@@ -1,6 +1,6 @@
 -- Each step of a lock keeps its rule.
 use Rattle.std.proofs.Common.{◌≡◌, ℕ, ◌+◌, ◌<◌, ◌≤◌, eqb, ◌≢◌, List, [], ◌∷◌, ◌++◌, length, get_or, set, sym, refl, ap, ◌∙◌, subst, ⊎_elim, arith, length-set, length-append, cond, ◌-◌, get_or-set_same, eq-eqb, ne_eqb, true, false}
-use Rattle.std.specs.Prelude.{Option, Some, None}
+use Rattle.std.specs.Prelude.{Option, Some}
 use mathlib.Core.Logic.{dite}
 use mathlib.Core.Option.{some, some-ne-none}
 use native.Mathlib.Decide.{ℕ_discrete}
@@ -12,11 +12,11 @@ use Rattle.atomic_table.proofs.Lists.{at_set, set_again, set_else, set_here}
 use Rattle.std.proofs.lemmas.List.{get_or_append_left}
 use Rattle.std.proofs.Math.Seq.{get_or-append_seam}
 use Rattle.turn_cell.specs.declared.known.Known.{Known}
-use Rattle.turn_cell.specs.declared.known.Role.TheVariants.{Maker, Numbered, Guest, Spent}
+use Rattle.turn_cell.specs.declared.known.Role.TheVariants.{Maker, Numbered}
 use Rattle.turn_cell.specs.declared.cell.Start.{Start}
 use Rattle.turn_cell.specs.History.{IsPrefix, AllBegin, longer, entries_of, AllMadeBy}
 use Rattle.turn_cell.specs.Rule.{first_value, first_view, Fits, Standing}
-use Rattle.turn_cell.specs.Steps.{Holder, StandsSince, Took, Missed, tried, Heard, looked, gave, numbering, numbered, guest, told, gathered, spent}
+use Rattle.turn_cell.specs.Steps.{Holder, StandsSince, tried, Heard, looked, gave, numbering, numbered, guest, told, gathered, spent}
 use Rattle.turn_cell.proofs.Lists.{at_end, prefix_refl, prefix_nil, prefix_more, begin_more, begin_end, entries_more, entries_same, entries_between, longer_begins}
 
 module _ {T E Opening : Type 0} (opening : T → Opening) (stands : Opening → List E → T → Type 0) (by : E → ℕ) (key : Start T) where
@@ -233,53 +233,53 @@ module _ {T E Opening : Type 0} (opening : T → Opening) (stands : Opening → 
   splits_guest id v is s r at =
       let f = r.each id v at in
       let same : set s.views id v ≡ s.views = set_again s.views id v at in record {
-    log = r.log;
-    made = r.made;
-    maker = r.maker;
-    place = r.place;
-    wide = r.wide;
-    within = r.within;
-    word = r.word;
-    free = r.free;
-    others = r.others;
-    each = λ j d there. ⊎_elim
-        (λ old. r.each j d (subst (λ (l : List (Known T E)). get_elem? l j ≡ some d) same old))
-        (λ new. subst (λ (z : Known T E). Fit (word s) r.made r.maker r.place r.log j z) new.1
+        log = r.log;
+        made = r.made;
+        maker = r.maker;
+        place = r.place;
+        wide = r.wide;
+        within = r.within;
+        word = r.word;
+        free = r.free;
+        others = r.others;
+        each = λ j d there. ⊎_elim
+            (λ old. r.each j d (subst (λ (l : List (Known T E)). get_elem? l j ≡ some d) same old))
+            (λ new. subst (λ (z : Known T E). Fit (word s) r.made r.maker r.place r.log j z) new.1
             (fits_guest (word s) r.made r.maker j r.place r.log v f.begins (f.same (λ z. absurd (cc)))))
-        (at_end (set s.views id v) (guest v) d j there);
-  }
+            (at_end (set s.views id v) (guest v) d j there);
+      }
 
   -- a seat may be told what another has seen, which is spent
   pub joins_told : (id other : ℕ) (v w : Known T E) → Joins Rule id v other w (told v w) spent
   joins_told id other v w s r at apart there =
       let f = r.each id v at in
       let g = r.each other w (sym (set_else s.views id other (told v w) apart) ∙ there) in record {
-    log = r.log;
-    made = r.made;
-    maker = r.maker;
-    place = r.place;
-    wide = r.wide;
-    within = r.within;
-    word = r.word;
-    free = r.free;
-    others = r.others;
-    each = λ j d e. ⊎_elim
-        (λ t. subst (λ (z : Known T E). Fit (word s) r.made r.maker r.place r.log j z) t.1 (fits_spent (word s) r.made r.maker j r.place r.log))
-        (λ t. ⊎_elim
+        log = r.log;
+        made = r.made;
+        maker = r.maker;
+        place = r.place;
+        wide = r.wide;
+        within = r.within;
+        word = r.word;
+        free = r.free;
+        others = r.others;
+        each = λ j d e. ⊎_elim
+            (λ t. subst (λ (z : Known T E). Fit (word s) r.made r.maker r.place r.log j z) t.1 (fits_spent (word s) r.made r.maker j r.place r.log))
+            (λ t. ⊎_elim
             (λ u. subst (λ (z : Known T E). Fit (word s) r.made r.maker r.place r.log j z) u.1
-                (subst (λ (z : ℕ). Fit (word s) r.made r.maker r.place r.log z (told v w)) (sym u.0) (record {
-                  begins = f.begins;
-                  heard = (g.begins, tt);
-                  same = f.same;
-                  numbered = f.numbered;
-                  holding = f.holding;
-                  resting = f.resting;
-                  making = f.making;
-                })))
+            (subst (λ (z : ℕ). Fit (word s) r.made r.maker r.place r.log z (told v w)) (sym u.0) (record {
+              begins = f.begins;
+              heard = (g.begins, tt);
+              same = f.same;
+              numbered = f.numbered;
+              holding = f.holding;
+              resting = f.resting;
+              making = f.making;
+            })))
             (λ u. r.each j d u.1)
             (at_set s.views id j (told v w) d t.1))
-        (at_set (set s.views id (told v w)) other j spent d e);
-  }
+            (at_set (set s.views id (told v w)) other j spent d e);
+      }
 
   -- a look shows that what the seat had seen and what it was told begin one history
   pub looks : (slots id : ℕ) (m : Holder T E) (l : List E) → m.0.heard ≡ l ∷ [] → m.0.role ≡ Numbered → m.0.holds ≡ false → m.0.mine ≡ entries_of by m.0.number m.0.seen
@@ -326,17 +326,17 @@ module _ {T E Opening : Type 0} (opening : T → Opening) (stands : Opening → 
       let fresh_place : ℕ → ℕ = λ n. cond (eqb n r.made) (length s.views) (r.place n) in
       let old_place : (n : ℕ) → n < r.made → fresh_place n ≡ r.place n = λ n h. ap (λ b. cond b (length s.views) (r.place n)) (ne_eqb n r.made (λ e. omega arith)) in
       let new_place : fresh_place r.made ≡ length s.views = ap (λ b. cond b (length s.views) (r.place r.made)) (eq-eqb r.made r.made refl) in record {
-    log = r.log;
-    made = r.made + 1;
-    maker = r.maker;
-    place = fresh_place;
-    wide = r.wide;
-    within = let a = same.1 in let b = mk.1 in omega arith;
-    word = let a = r.word in omega arith;
-    free = r.free;
-    others = λ n h. r.others n (omega arith);
-    each = λ j d e. ⊎_elim
-        (λ t. ⊎_elim
+        log = r.log;
+        made = r.made + 1;
+        maker = r.maker;
+        place = fresh_place;
+        wide = r.wide;
+        within = let a = same.1 in let b = mk.1 in omega arith;
+        word = let a = r.word in omega arith;
+        free = r.free;
+        others = λ n h. r.others n (omega arith);
+        each = λ j d e. ⊎_elim
+            (λ t. ⊎_elim
             (λ u. subst (λ (z : Known T E). Fit (word s) (r.made + 1) r.maker fresh_place r.log j z) u.1 (record {
               begins = f.begins;
               heard = f.heard;
@@ -356,21 +356,21 @@ module _ {T E Opening : Type 0} (opening : T → Opening) (stands : Opening → 
               making = λ q. absurd (u.0 ((o.making q).0 ∙ sym mk.0));
             })
             (at_set s.views id j (numbering v) d t))
-        (λ t. subst (λ (z : Known T E). Fit (word s) (r.made + 1) r.maker fresh_place r.log j z) t.1 (record {
-          begins = f.begins;
-          heard = tt;
-          same = λ _. same;
-          numbered = λ _. (
-            let a = mk.1 in omega arith,
-            ap fresh_place mk.1 ∙ (new_place ∙ (sym len ∙ sym t.0)),
-            sym (r.others v.number (let a = mk.1 in omega arith)),
-          );
-          holding = λ q. absurd (cc);
-          resting = λ _ _ q. let a = r.word in let b = mk.1 in omega arith;
-          making = λ q. absurd (cc);
-        }))
-        (at_end (set s.views id (numbering v)) (numbered v) d j e);
-  }
+            (λ t. subst (λ (z : Known T E). Fit (word s) (r.made + 1) r.maker fresh_place r.log j z) t.1 (record {
+              begins = f.begins;
+              heard = tt;
+              same = λ _. same;
+              numbered = λ _. (
+                let a = mk.1 in omega arith,
+                ap fresh_place mk.1 ∙ (new_place ∙ (sym len ∙ sym t.0)),
+                sym (r.others v.number (let a = mk.1 in omega arith)),
+              );
+              holding = λ q. absurd (cc);
+              resting = λ _ _ q. let a = r.word in let b = mk.1 in omega arith;
+              making = λ q. absurd (cc);
+            }))
+            (at_end (set s.views id (numbering v)) (numbered v) d j e);
+      }
 
   -- the maker may take in the seat of the next number
   pub joins_gathered : (id other : ℕ) (v w : Known T E) → v.role ≡ Maker → w.role ≡ Numbered → w.holds ≡ false → w.number ≡ length v.parts → Joins Rule id v other w (gathered v w) spent
@@ -383,18 +383,18 @@ module _ {T E Opening : Type 0} (opening : T → Opening) (stands : Opening → 
       let fresh_place : ℕ → ℕ = λ n. cond (eqb n k) id (r.place n) in
       let old_place : (n : ℕ) → n ≢ k → fresh_place n ≡ r.place n = λ n h. ap (λ b. cond b id (r.place n)) (ne_eqb n k h) in
       let new_place : fresh_place k ≡ id = ap (λ b. cond b id (r.place k)) (eq-eqb k k refl) in record {
-    log = r.log;
-    made = r.made;
-    maker = r.maker;
-    place = fresh_place;
-    wide = r.wide;
-    within = r.within;
-    word = r.word;
-    free = r.free;
-    others = r.others;
-    each = λ j d e. ⊎_elim
-        (λ t. subst (λ (z : Known T E). Fit (word s) r.made r.maker fresh_place r.log j z) t.1 (fits_spent (word s) r.made r.maker j fresh_place r.log))
-        (λ t. ⊎_elim
+        log = r.log;
+        made = r.made;
+        maker = r.maker;
+        place = fresh_place;
+        wide = r.wide;
+        within = r.within;
+        word = r.word;
+        free = r.free;
+        others = r.others;
+        each = λ j d e. ⊎_elim
+            (λ t. subst (λ (z : Known T E). Fit (word s) r.made r.maker fresh_place r.log j z) t.1 (fits_spent (word s) r.made r.maker j fresh_place r.log))
+            (λ t. ⊎_elim
             (λ u. subst (λ (z : Known T E). Fit (word s) r.made r.maker fresh_place r.log j z) u.1 (record {
               begins = f.begins;
               heard = begin_end v.heard w.seen r.log f.heard g.begins;
@@ -402,20 +402,24 @@ module _ {T E Opening : Type 0} (opening : T → Opening) (stands : Opening → 
               numbered = λ q. absurd (cc);
               holding = λ q. let z = (f.holding q).0 in absurd (cc);
               resting = λ q. absurd (cc);
-              making = λ _. (u.0 ∙ mk.0, mk.1, λ n h. dite (ℕ_discrete n k)
-                  (λ same. (
-                    ap fresh_place same ∙ (new_place ∙ sym u.0),
-                    (λ eq. g.resting num rests (eq ∙ ap (λ (z : ℕ). z + 1) same)),
-                    ap (λ (z : ℕ). entries_of by z r.log) same ∙ (sym nm.2 ∙ sym (ap (λ (z : ℕ). get_or (v.parts ++ w.mine ∷ []) z []) (same ∙ next) ∙ get_or-append_seam v.parts w.mine [] [])),
-                  ))
-                  (λ other_n.
-                      let long : length (v.parts ++ w.mine ∷ []) ≡ length v.parts + 1 = length-append v.parts (w.mine ∷ []) in
-                      let low : n < length v.parts = omega arith in
-                      let p = mk.2 n low in (
-                        old_place n other_n ∙ (p.0 ∙ sym u.0),
-                        p.1,
-                        p.2 ∙ sym (get_or_append_left v.parts (w.mine ∷ []) [] n low),
-                      )));
+              making = λ _. (
+                u.0 ∙ mk.0,
+                mk.1,
+                λ n h. dite (ℕ_discrete n k)
+                    (λ same. (
+                      ap fresh_place same ∙ (new_place ∙ sym u.0),
+                      (λ eq. g.resting num rests (eq ∙ ap (λ (z : ℕ). z + 1) same)),
+                      ap (λ (z : ℕ). entries_of by z r.log) same ∙ (sym nm.2 ∙ sym (ap (λ (z : ℕ). get_or (v.parts ++ w.mine ∷ []) z []) (same ∙ next) ∙ get_or-append_seam v.parts w.mine [] [])),
+                    ))
+                    (λ other_n.
+                    let long : length (v.parts ++ w.mine ∷ []) ≡ length v.parts + 1 = length-append v.parts (w.mine ∷ []) in
+                    let low : n < length v.parts = omega arith in
+                    let p = mk.2 n low in (
+                      old_place n other_n ∙ (p.0 ∙ sym u.0),
+                      p.1,
+                      p.2 ∙ sym (get_or_append_left v.parts (w.mine ∷ []) [] n low),
+                    )),
+              );
             }))
             (λ u. let o = r.each j d u.1 in record {
               begins = o.begins;
@@ -428,8 +432,8 @@ module _ {T E Opening : Type 0} (opening : T → Opening) (stands : Opening → 
               making = λ q. absurd (u.0 ((o.making q).0 ∙ sym mk.0));
             })
             (at_set s.views id j (gathered v w) d t.1))
-        (at_set (set s.views id (gathered v w)) other j spent d e);
-  }
+            (at_set (set s.views id (gathered v w)) other j spent d e);
+      }
 
   -- the lock as it is made
   pub opens : (x : T) → x ≡ first_value key → stands (opening (first_value key)) [] x → Rule (table.opening (0 ∷ []) (Some x ∷ []) (first_view key))
@@ -460,14 +464,14 @@ module _ {T E Opening : Type 0} (opening : T → Opening) (stands : Opening → 
   -- the lock as it is taken apart: once every number was taken in, the turn is free
   pub ends : (id : ℕ) (v : Known T E) (ws : List ℕ) (xs : List (Option T)) → length xs ≡ 1 → v.role ≡ Maker → v.number ≡ length v.parts → table.Final (table.Seen Rule id v) ws xs
       → (x : T) × (log : List E) × (get_elem? xs 0 ≡ some (Some x)) × stands (opening (first_value key)) log x × AllBegin v.heard log
-          × ((n : ℕ) → n < length v.parts → entries_of by n log ≡ get_or v.parts n []) × ((n : ℕ) → length v.parts ≤ n → entries_of by n log ≡ [])
+      × ((n : ℕ) → n < length v.parts → entries_of by n log ≡ get_or v.parts n []) × ((n : ℕ) → length v.parts ≤ n → entries_of by n log ≡ [])
   ends id v ws xs one is all final =
       let s : St = final.0 in
       let r = final.1.0 in
       let f = r.each id v final.1.1 in
       let mk = f.making is in
       let free : word s ≡ 0 = dite (ℕ_discrete (word s) 0) (λ z. z) (λ some_seat.
-          let most = r.word in let made = mk.1 in
-          absurd ((mk.2 (word s - 1) (omega arith)).1 (omega arith))) in
+      let most = r.word in let made = mk.1 in
+      absurd ((mk.2 (word s - 1) (omega arith)).1 (omega arith))) in
       let here = r.free free in
       (here.0, r.log, final.4 0 (Some here.0) here.1, here.2, f.heard, (λ n h. (mk.2 n h).2), (λ n h. r.others n (let made = mk.1 in omega arith)))

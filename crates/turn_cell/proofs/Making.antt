@@ -1,5 +1,5 @@
 -- How the seats are numbered as a lock is made, and taken in as it is taken apart.
-use Rattle.std.proofs.Common.{◌≡◌, ℕ, ◌+◌, ◌<◌, ◌≤◌, ◌≢◌, List, [], ◌∷◌, ◌++◌, length, get_or, set, sym, refl, ap, ◌∙◌, subst, arith, true, false, length-append, length-set, get_or-set_other}
+use Rattle.std.proofs.Common.{◌≡◌, ℕ, ◌+◌, ◌<◌, ◌≤◌, List, [], ◌∷◌, ◌++◌, length, get_or, set, sym, refl, ap, ◌∙◌, subst, arith, length-append, length-set, get_or-set_other}
 use Rattle.std.specs.Prelude.{Option, Some, None}
 use Rattle.std.proofs.lemmas.List.{get_or_append_left, get_or_default}
 use Rattle.std.proofs.Math.Seq.{get_or-append_seam}
@@ -8,15 +8,15 @@ use mathlib.Core.Logic.{dite}
 use native.Mathlib.Decide.{ℕ_discrete, dec_lt}
 use Rattle.atomic_table.specs.declared.shared.Seat as table
 use Rattle.turn_cell.specs.declared.known.Known.{Known}
-use Rattle.turn_cell.specs.declared.known.Role.TheVariants.{Maker, Numbered}
+use Rattle.turn_cell.specs.declared.known.Role.TheVariants.{Maker}
 use Rattle.turn_cell.specs.declared.cell.Start.{Start}
 use Rattle.turn_cell.specs.declared.seat.Seat.{Seat}
 use Rattle.turn_cell.specs.declared.seat.SeatList.{SeatList}
 use Rattle.turn_cell.specs.History.{IsPrefix, entries_of}
 use Rattle.turn_cell.specs.Rule.{first_value, first_view, Standing}
 use Rattle.turn_cell.specs.Steps.{Holder, numbering, numbered, gathered}
-use Rattle.turn_cell.specs.Seats.{CellId, IsSeatOf, seat_id, seen, mine}
-use Rattle.turn_cell.specs.Lists.{start_id, list_slots, list_id, slot_at, IsList, IsNew, IsNewList, IsGathered, IsWholeHistory}
+use Rattle.turn_cell.specs.Seats.{CellId, IsSeatOf, seen, mine}
+use Rattle.turn_cell.specs.Lists.{list_slots, list_id, slot_at, IsList, IsNew, IsNewList, IsGathered, IsWholeHistory}
 use Rattle.turn_cell.proofs.Lists.{same_some, not_both, begin_at}
 use Rattle.turn_cell.proofs.Keeps.{ends}
 use mathlib.Core.Option.{some, some-injective}
@@ -71,16 +71,16 @@ module _ {T E : Type 0} (by : E → ℕ) where
     seating_more k maker maker' p slots r small at is pat pis =
         let long = r.long in
         let last : get_or (slots ++ Some (record { place = p; number = k }) ∷ []) k None ≡ Some (record { place = p; number = k }) =
-            ap (λ (z : ℕ). get_or (slots ++ Some (record { place = p; number = k }) ∷ []) z None) (sym long) ∙ get_or-append_seam slots (Some (record { place = p; number = k })) [] None in
+        ap (λ (z : ℕ). get_or (slots ++ Some (record { place = p; number = k }) ∷ []) z None) (sym long) ∙ get_or-append_seam slots (Some (record { place = p; number = k })) [] None in
         let s = new_seat k p small (pat ∙ r.table_is) (pis ∙ ap (λ (m : Holder T E). (numbered m.0, [])) r.view) in record {
-      table_is = at ∙ r.table_is;
-      view = is ∙ ap (λ (m : Holder T E). (numbering m.0, m.1)) r.view;
-      long = length-append slots (Some (record { place = p; number = k }) ∷ []) ∙ ap (λ (z : ℕ). z + 1) long;
-      each = λ n h. dite (ℕ_discrete n k)
-          (λ here. subst (λ (z : ℕ). (t : Seat T E) × (get_or (slots ++ Some (record { place = p; number = k }) ∷ []) z None ≡ Some t) × IsSeatOf by c t × (t.number ≡ z) × IsNew t)
+          table_is = at ∙ r.table_is;
+          view = is ∙ ap (λ (m : Holder T E). (numbering m.0, m.1)) r.view;
+          long = length-append slots (Some (record { place = p; number = k }) ∷ []) ∙ ap (λ (z : ℕ). z + 1) long;
+          each = λ n h. dite (ℕ_discrete n k)
+              (λ here. subst (λ (z : ℕ). (t : Seat T E) × (get_or (slots ++ Some (record { place = p; number = k }) ∷ []) z None ≡ Some t) × IsSeatOf by c t × (t.number ≡ z) × IsNew t)
               (sym here) (record { place = p; number = k }, last, s.0, refl, s.1))
-          (λ other. let o = r.each n (omega arith) in (o.0, get_or_append_left slots (Some (record { place = p; number = k }) ∷ []) None n (omega arith) ∙ o.1, o.2, o.3, o.4));
-    }
+              (λ other. let o = r.each n (omega arith) in (o.0, get_or_append_left slots (Some (record { place = p; number = k }) ∷ []) None n (omega arith) ∙ o.1, o.2, o.3, o.4));
+        }
 
     -- the list as it is made
     pub seated : (k : ℕ) (l : SeatList T E) → k ≡ key.seats → Seating c key k l.maker (list_slots l) → IsList by l × IsNewList l × (list_id l ≡ c)
@@ -96,8 +96,8 @@ module _ {T E : Type 0} (by : E → ℕ) where
             size = r.long ∙ sym size;
             each = λ n s e. dite (dec_lt n k)
                 (λ h. let o = r.each n h in
-                    let same : o.0 ≡ s = same_some o.0 s (sym o.1 ∙ e) in
-                    subst (λ (z : Seat T E). IsSeatOf by (list_id l) z × (z.number ≡ n)) same (subst (λ (z : CellId T). IsSeatOf by z o.0) (sym id) o.2, o.3))
+                let same : o.0 ≡ s = same_some o.0 s (sym o.1 ∙ e) in
+                subst (λ (z : Seat T E). IsSeatOf by (list_id l) z × (z.number ≡ n)) same (subst (λ (z : CellId T). IsSeatOf by z o.0) (sym id) o.2, o.3))
                 (λ h. let long = r.long in absurd (not_both (slot_at l n) s (get_or-eq_default (list_slots l) None (omega arith)) e));
           },
           (λ n h. let o = r.each n (omega arith) in (o.0, o.1, o.4)),

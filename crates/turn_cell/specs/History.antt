@@ -1,5 +1,5 @@
 -- Histories as lists of entries, and the part of one that a seat made.
-use Rattle.std.specs.Prelude.{◌≡◌, ℕ, ◌==◌, ◌<◌, List, [], ◌∷◌, ◌++◌, filter, length, nat_lt, if◌then◌else◌}
+use Rattle.std.specs.Prelude.{◌≡◌, ℕ, ◌==◌, List, [], ◌∷◌, ◌++◌, filter, length, nat_lt, if◌then◌else◌}
 
 -- the second list begins with the first
 pub record IsPrefix {E : Type 0} (xs ys : List E) : Type 0 where

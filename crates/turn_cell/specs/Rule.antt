@@ -1,10 +1,10 @@
 -- The rule of the lock: its word, its slot, and what each seat knows.
-use Rattle.std.specs.Prelude.{◌≡◌, ◌≢◌, ℕ, ◌+◌, ◌<◌, ◌≤◌, List, [], true, false, Option, Some, None, length, slice_index, slice_index_or}
+use Rattle.std.specs.Prelude.{◌≡◌, ◌≢◌, ℕ, ◌+◌, ◌<◌, ◌≤◌, List, [], true, false, Option, Some, length, slice_index, slice_index_or}
 use mathlib.Core.Option.{some}
 use lib.ListN.{get_elem?}
 use Rattle.atomic_table.specs.Table.{State}
 use Rattle.turn_cell.specs.declared.known.Known.{Known}
-use Rattle.turn_cell.specs.declared.known.Role.TheVariants.{Maker, Numbered, Guest, Spent}
+use Rattle.turn_cell.specs.declared.known.Role.TheVariants.{Maker, Numbered, Spent}
 use Rattle.turn_cell.specs.declared.cell.Start.{Start}
 use Rattle.turn_cell.specs.History.{IsPrefix, AllBegin, entries_of}
 

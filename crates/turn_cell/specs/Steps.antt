@@ -1,5 +1,5 @@
 -- What each step on the table tells the seat that makes it, and how a view is cut and joined.
-use Rattle.std.specs.Prelude.{◌≡◌, ◌≢◌, ℕ, ◌+◌, ◌<◌, ◌≤◌, List, [], ◌∷◌, ◌++◌, true, false, Option, Some, None}
+use Rattle.std.specs.Prelude.{◌≡◌, ◌≢◌, ℕ, ◌+◌, ◌≤◌, List, [], ◌∷◌, ◌++◌, true, false, Option, Some, None}
 use Rattle.atomic_table.specs.Table.{Me}
 use Rattle.turn_cell.specs.declared.known.Known.{Known}
 use Rattle.turn_cell.specs.declared.known.Role.{Role}

@@ -10,8 +10,8 @@ mod told;
 mod turns;
 
 pub use cell::{OneHistory, Start, TurnCell};
-pub use life::NoMemory;
 pub use known::{Known, Role};
+pub use life::NoMemory;
 pub use seat::{Seat, SeatList};
 pub use told::{Note, Told};
 pub use turns::{Busy, Turn};

@@ -15,7 +15,7 @@ use std::sync::Wait;
 use std::sync::atomic::Ordering::SeqCst;
 
 /// How often a seat looks at the word before it sleeps.
-const LOOKS: u32 = 100;
+const LOOKS: u32 = 1000;
 
 /// Another seat had the turn when this one asked.
 #[derive(Debug, Clone, Copy, PartialEq, Eq, Drop)]
@@ -57,7 +57,9 @@ impl<T: Told> TurnCell<T> {
     {
         for _ in 0..LOOKS {
             if self.table.shared.peek(0) == 0 {
-                break;
+                if let Ok(value) = self.take(seat) {
+                    return value;
+                }
             }
             hint::spin_loop();
         }

@@ -1,20 +1,19 @@
 -- Seats out to jobs, and back.
-use Rattle.std.proofs.Common.{◌≡◌, ℕ, ◌+◌, ◌<◌, ◌≤◌, ◌≢◌, List, [], ◌∷◌, ◌++◌, length, get_or, set, sym, refl, ap, ◌∙◌, subst, arith, length-append, length-set, get_or-set_other, get_or-set_same, le_refl, ◌%◌, ◌^◌}
+use Rattle.std.proofs.Common.{◌≡◌, ℕ, ◌+◌, ◌<◌, ◌≤◌, ◌≢◌, List, [], ◌∷◌, ◌++◌, length, get_or, set, sym, refl, ap, ◌∙◌, subst, arith, length-append, get_or-set_other, get_or-set_same, le_refl, ◌%◌, ◌^◌}
 use Rattle.std.specs.Prelude.{Option, Some, None}
-use Rattle.std.proofs.lemmas.List.{get_or_append_left, get_or_default}
+use Rattle.std.proofs.lemmas.List.{get_or_append_left}
 use Rattle.std.proofs.Math.Seq.{get_or-append_seam}
 use Rattle.std.proofs.Math.ListN.{get_or-eq_default}
 use mathlib.Core.Logic.{dite}
 use native.Mathlib.Decide.{ℕ_discrete, dec_lt}
 use Rattle.turn_cell.specs.declared.seat.Seat.{Seat}
 use Rattle.turn_cell.specs.declared.seat.SeatList.{SeatList}
-use Rattle.turn_cell.specs.History.{entries_of}
-use Rattle.turn_cell.specs.Seats.{CellId, IsSeatOf, IsSameSeat, mine}
+use Rattle.turn_cell.specs.Seats.{CellId, IsSeatOf, mine}
 use Rattle.turn_cell.specs.Lists.{list_id, list_slots, slot_at, IsList, IsNew, IsNewList, IsLeastOf, IsWhole, IsWholeHistory}
 use Rattle.turn_counter.specs.declared.counter.Addition.{Addition}
 use Rattle.turn_counter.specs.declared.counter.Counter.{Counter}
 use Rattle.turn_counter.specs.declared.race.Job.{Job}
-use Rattle.turn_counter.specs.Additions.{made_by, total, StandsFor, Counts}
+use Rattle.turn_counter.specs.Additions.{made_by, StandsFor, Counts}
 use Rattle.turn_counter.specs.Jobs.{HaveMade, HasRun}
 
 abbrev Adder : Type 0
@@ -64,20 +63,20 @@ module _ (c : CellId Counter) (k : ℕ) (l : Adders) (jobs : List Job) (r : Hand
       let new = r.left k (le_refl k) small in
       let is_new : new.0 ≡ s = same_some new.0 s (sym new.1 ∙ (ap (slot_at l) (sym number) ∙ of.here)) in
       let size : length (list_slots l) ≡ c.seats = r.list.size ∙ ap (λ (z : CellId Counter). z.seats) r.same in record {
-    list = is;
-    same = id ∙ r.same;
-    out = λ n h. dite (ℕ_discrete n k)
-        (λ e. ap (λ (z : List (Option Adder)). get_or z n None) slots ∙ (ap (λ (z : ℕ). get_or (set (list_slots l) s.number None) z None) (e ∙ sym number) ∙ get_or-set_same (list_slots l) s.number None None (omega arith)))
-        (λ e. slot n e ∙ r.out n (omega arith));
-    left = λ n h m. let t = r.left n (omega arith) m in (t.0, slot n (λ e. omega arith) ∙ t.1, t.2);
-    long = length-append jobs (record { seat = s; rising = b } ∷ []) ∙ ap (λ (z : ℕ). z + 1) long;
-    each = λ n d h. dite (ℕ_discrete n k)
-        (λ e.
+        list = is;
+        same = id ∙ r.same;
+        out = λ n h. dite (ℕ_discrete n k)
+            (λ e. ap (λ (z : List (Option Adder)). get_or z n None) slots ∙ (ap (λ (z : ℕ). get_or (set (list_slots l) s.number None) z None) (e ∙ sym number) ∙ get_or-set_same (list_slots l) s.number None None (omega arith)))
+            (λ e. slot n e ∙ r.out n (omega arith));
+        left = λ n h m. let t = r.left n (omega arith) m in (t.0, slot n (λ e. omega arith) ∙ t.1, t.2);
+        long = length-append jobs (record { seat = s; rising = b } ∷ []) ∙ ap (λ (z : ℕ). z + 1) long;
+        each = λ n d h. dite (ℕ_discrete n k)
+            (λ e.
             let here : get_or (jobs ++ record { seat = s; rising = b } ∷ []) n d ≡ record { seat = s; rising = b } = ap (λ (z : ℕ). get_or (jobs ++ record { seat = s; rising = b } ∷ []) z d) (e ∙ sym long) ∙ get_or-append_seam jobs (record { seat = s; rising = b }) [] d in
             subst (λ (j : Job). IsSeatOf made_by c j.seat × (j.seat.number ≡ n) × (length (mine j.seat) ≡ 0)) (sym here)
-                (subst (λ (z : CellId Counter). IsSeatOf made_by z s) r.same (r.list.each s.number s of.here).0, number ∙ sym e, ap length (ap mine (sym is_new) ∙ new.2.mine_none)))
-        (λ e. subst (λ (j : Job). IsSeatOf made_by c j.seat × (j.seat.number ≡ n) × (length (mine j.seat) ≡ 0)) (sym (get_or_append_left jobs (record { seat = s; rising = b } ∷ []) d n (omega arith))) (r.each n d (omega arith)));
-  }
+            (subst (λ (z : CellId Counter). IsSeatOf made_by z s) r.same (r.list.each s.number s of.here).0, number ∙ sym e, ap length (ap mine (sym is_new) ∙ new.2.mine_none)))
+            (λ e. subst (λ (j : Job). IsSeatOf made_by c j.seat × (j.seat.number ≡ n) × (length (mine j.seat) ≡ 0)) (sym (get_or_append_left jobs (record { seat = s; rising = b } ∷ []) d n (omega arith))) (r.each n d (omega arith)));
+      }
 
   -- there is a seat to take
   pub one_left : slot_at l k ≡ None → ⊥
@@ -116,17 +115,17 @@ module _ (c : CellId Counter) (jobs0 jobs jobs' : List Job) (l : Adders) (j : Jo
       let number = (last_seat count have).1 in
       let all = have.long in
       let size : length (list_slots l) ≡ c.seats = r.list.size ∙ ap (λ (z : CellId Counter). z.seats) r.same in record {
-    list = is;
-    same = id ∙ r.same;
-    short = omega arith;
-    front = λ n d h. sym (ap (λ (z : List Job). get_or z n d) popped ∙ get_or_append_left jobs' (j ∷ []) d n h) ∙ r.front n d (omega arith);
-    back = λ n d h m. ap (λ (z : List (Option Adder)). get_or z n None) slots ∙ dite (ℕ_discrete n (length jobs'))
-        (λ e.
+        list = is;
+        same = id ∙ r.same;
+        short = omega arith;
+        front = λ n d h. sym (ap (λ (z : List Job). get_or z n d) popped ∙ get_or_append_left jobs' (j ∷ []) d n h) ∙ r.front n d (omega arith);
+        back = λ n d h m. ap (λ (z : List (Option Adder)). get_or z n None) slots ∙ dite (ℕ_discrete n (length jobs'))
+            (λ e.
             ap (λ (z : ℕ). get_or (set (list_slots l) j.seat.number (Some j.seat)) z None) (e ∙ sym number)
             ∙ (get_or-set_same (list_slots l) j.seat.number (Some j.seat) None (omega arith)
             ∙ ap (λ (z : Job). Some z.seat) (sym (ap (λ (z : ℕ). get_or jobs0 z d) e ∙ last_job d))))
-        (λ e. get_or-set_other (list_slots l) j.seat.number n (Some j.seat) None (λ q. e (q ∙ number)) ∙ r.back n d (omega arith) m);
-  }
+            (λ e. get_or-set_other (list_slots l) j.seat.number n (Some j.seat) None (λ q. e (q ∙ number)) ∙ r.back n d (omega arith) m);
+      }
 
 -- some job, where there is one
 some_job : (jobs : List Job) (n : ℕ) → n < length jobs → Job

@@ -3,7 +3,7 @@ use Rattle.std.specs.Prelude.{◌≡◌, ℕ, ◌<◌, List, length, Some, slice
 use Rattle.turn_cell.specs.declared.seat.Seat.{Seat}
 use Rattle.turn_cell.specs.declared.seat.SeatList.{SeatList}
 use Rattle.turn_cell.specs.Seats.{CellId, IsSeatOf, mine}
-use Rattle.turn_cell.specs.Lists.{slot_at, list_id}
+use Rattle.turn_cell.specs.Lists.{slot_at}
 use Rattle.turn_counter.specs.declared.counter.Addition.{Addition}
 use Rattle.turn_counter.specs.declared.counter.Counter.{Counter}
 use Rattle.turn_counter.specs.declared.race.Job.{Job}

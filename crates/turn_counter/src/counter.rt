@@ -40,12 +40,7 @@ impl Note<Counter> for Addition {
 }
 
 /// Adds, and answers the sum of what was there at first and of the additions before this one.
-pub fn add<R: Wait>(
-    rt: &R,
-    cell: &TurnCell<Counter>,
-    seat: &mut Seat<Counter>,
-    amount: u32,
-) -> u64
+pub fn add<R: Wait>(rt: &R, cell: &TurnCell<Counter>, seat: &mut Seat<Counter>, amount: u32) -> u64
     requires { IsSeatOf made_by (cell_id cell.now) seat.old }
     ensures seat { IsSeatOf made_by (cell_id cell.now) seat.new }
     ensures reply { IsAddition (cell_id cell.now) seat.old seat.new amount result }

@@ -5,15 +5,18 @@ mod counter;
 mod race;
 
 use race::race;
-use std::env;
-use std::io;
+use std::{env, io};
 
 /// `turn_counter THREADS TURNS` prints the sum at the end.
 fn main(rt: HostRuntime) -> io::Result<()> {
     let mut words = env::args(&rt)?;
     let _program = words.next();
-    let threads = words.next().and_then(|word| word.as_str().parse::<u32>().ok());
-    let turns = words.next().and_then(|word| word.as_str().parse::<u32>().ok());
+    let threads = words
+        .next()
+        .and_then(|word| word.as_str().parse::<u32>().ok());
+    let turns = words
+        .next()
+        .and_then(|word| word.as_str().parse::<u32>().ok());
     let (Some(threads), Some(turns)) = (threads, turns) else {
         return eprintln!(rt; "turn_counter THREADS TURNS");
     };

@@ -1,5 +1,5 @@
-use Rattle.std.proofs.Common.{rules, ap, sym, ◌∙◌, ◌≡◌, ◌<◌, ◌++◌, ◌∷◌, refl, subst, ℕ, List, arith, [], vec_capacity, ◌+◌}
-use Rattle.std.specs.Prelude.{Option, Some}
+use Rattle.std.proofs.Common.{ap, sym, ◌∙◌, ◌≡◌, refl, subst, List, arith, ◌+◌}
+use Rattle.std.specs.Prelude.{Option}
 use Rattle.turn_cell.specs.declared.seat.Seat.{Seat}
 use Rattle.turn_cell.specs.Lists.{start_id}
 use Rattle.turn_cell.specs.Steps.{Holder}
@@ -33,7 +33,7 @@ loop-number-preserved g c =
       subst (λ (l : List (Option (Seat g.row.T.Denot g.row.T-Entry.Denot))). Seating g.T.Told.seat_of (start_id c.args.shared.now.table_id c.args.shared.now.key) c.args.shared.now.key (c.loop-number.number + 1) c.split_seat-place.new.seat l)
           (sym c.push_reserved.ensures.items)
           (seating_more g.T.Told.seat_of _ c.args.shared.now.key refl refl c.loop-number.number c.loop-number.maker c.split_seat-place.new.seat c.split_seat-place.result c.loop-number.slots.items r.0 (omega arith)
-              split.0 split.2 split.3 split.4),
+          split.0 split.2 split.3 split.4),
       c.push_reserved.ensures.capacity ∙ r.1,
     )
 

@@ -1,4 +1,4 @@
-use Rattle.std.proofs.Common.{rules, sym, ◌∙◌}
+use Rattle.std.proofs.Common.{sym, ◌∙◌}
 use Rattle.std.specs.Prelude.{None}
 use Rattle.turn_cell.proofs.Lists.{some_of}
 use Rattle.std.proofs.lemmas.List.{get_or_default}

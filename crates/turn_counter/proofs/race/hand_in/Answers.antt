@@ -1,4 +1,4 @@
-use Rattle.std.proofs.Common.{◌≡◌, ◌+◌, ◌<◌, ℕ, sym, ap, ◌∙◌, subst, refl, arith, List}
+use Rattle.std.proofs.Common.{arith}
 use Rattle.turn_counter.proofs.Hands.{handed_in}
 use Rattle.turn_counter.proofs.race.hand_in.Goals as goal
 

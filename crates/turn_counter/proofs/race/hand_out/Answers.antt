@@ -1,4 +1,4 @@
-use Rattle.std.proofs.Common.{◌≡◌, ◌+◌, ◌<◌, ℕ, sym, ap, ◌∙◌, subst, refl, arith, List, vec_len}
+use Rattle.std.proofs.Common.{◌+◌, sym, ◌∙◌, subst, arith, List}
 use Rattle.turn_cell.specs.Lists.{list_id}
 use Rattle.turn_counter.specs.declared.race.Job.{Job}
 use Rattle.turn_counter.proofs.Hands.{Handing, handing_none, handing_more, handed_out, one_left}

@@ -1,5 +1,4 @@
-use Rattle.std.proofs.Common.{◌≡◌, ◌+◌, ◌<◌, ◌++◌, ℕ, sym, ap, ◌∙◌, subst, refl, arith, List, length, take, drop}
-use Rattle.std.proofs.lemmas.List.{take-append-le}
+use Rattle.std.proofs.Common.{◌≡◌, ◌++◌, ℕ, sym, ap, ◌∙◌, subst, refl, arith, List, length, take, drop}
 use Rattle.std.proofs.Math.Seq.{take-append_seam}
 use Rattle.turn_cell.specs.Seats.{CellId}
 use Rattle.turn_cell.specs.Lists.{list_id}
@@ -24,8 +23,8 @@ back g c =
     let ok = c.hand_out.new.jobs.ok.0 in
     let seats = ap (λ (z : CellId Counter). z.seats) c.in-Ok-new.ensures.list.1 in
     subst (λ (l : List Job). HaveMade (list_id c.hand_out.new.seats) c.args.turns l)
-        (sym (ran c.run.new.jobs (drop (length c.run.new.jobs) c.hand_out.new.jobs.items) c.hand_out.new.jobs.len (omega arith)))
-        (subst (λ (z : CellId Counter). HaveMade z c.args.turns c.run.new.jobs) (sym id) c.run.ensures.jobs)
+    (sym (ran c.run.new.jobs (drop (length c.run.new.jobs) c.hand_out.new.jobs.items) c.hand_out.new.jobs.len (omega arith)))
+    (subst (λ (z : CellId Counter). HaveMade z c.args.turns c.run.new.jobs) (sym id) c.run.ensures.jobs)
 
 pub hand_in-rising-requires-clause-jobs : goal.hand_in-rising-requires-clause-jobs
 hand_in-rising-requires-clause-jobs g c = (c.args.turns, back g (goal.at.hand_in-rising-requires-clause-jobs g c).After-run)
@@ -36,5 +35,5 @@ returns g c =
     let jobs = back g (goal.at.returns g c).After-run in
     let id = h.cell ∙ (c.hand_out.ensures.cell ∙ c.in-Ok-new.ensures.list.1) in
     counted _ c.args.turns c.args.threads c.close-counter.result h.whole (h.made c.args.turns jobs)
-        (ap (λ (z : CellId Counter). z.seats) id ∙ c.in-Ok-new.ensures.opening.1)
-        _ (ap (λ (z : CellId Counter). z.first) id ∙ c.in-Ok-new.ensures.opening.0) refl c.close-counter.ensures
+    (ap (λ (z : CellId Counter). z.seats) id ∙ c.in-Ok-new.ensures.opening.1)
+    _ (ap (λ (z : CellId Counter). z.first) id ∙ c.in-Ok-new.ensures.opening.0) refl c.close-counter.ensures

@@ -25,12 +25,12 @@ ending g c =
     let e = c.into_parts-maker.ensures in
     let slots = c.close_with-closed.result.slots in
     closed g.T.Told.opening g.T.Told.stands g.T.Told.seat_of c.args.self.table.shared.key c.args.seats c.gather_seats-maker.result _ (slots_items slots) c.take-value.result c.requires.list
-        (ap (λ (z : CellId g.row.T.Denot). z.first) c.requires.cell)
-        (subst (λ (z : Place g.row.T.Denot g.row.T-Entry.Denot × List (Option (Seat g.row.T.Denot g.row.T-Entry.Denot))). IsGathered z.0 z.1 c.gather_seats-maker.result)
-            (λ i. (e.0 i, list_slots (record { maker = e.0 i; slots = e.1 i }))) c.gather_seats-maker.ensures)
-        (sym (slots_counts slots).0 ∙ (c.close_with-closed.ensures.counts.1 ∙ c.args.self.sized.1))
-        c.close_with-closed.ensures.values.2
-        c.take-value.ensures.value
+    (ap (λ (z : CellId g.row.T.Denot). z.first) c.requires.cell)
+    (subst (λ (z : Place g.row.T.Denot g.row.T-Entry.Denot × List (Option (Seat g.row.T.Denot g.row.T-Entry.Denot))). IsGathered z.0 z.1 c.gather_seats-maker.result)
+    (λ i. (e.0 i, list_slots (record { maker = e.0 i; slots = e.1 i }))) c.gather_seats-maker.ensures)
+    (sym (slots_counts slots).0 ∙ (c.close_with-closed.ensures.counts.1 ∙ c.args.self.sized.1))
+    c.close_with-closed.ensures.values.2
+    c.take-value.ensures.value
 
 pub unwrap-requires : goal.unwrap-requires
 unwrap-requires g c = let e = ending g c in subst IsSome (sym e.1) refl

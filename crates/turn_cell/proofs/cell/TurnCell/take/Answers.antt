@@ -1,4 +1,4 @@
-use Rattle.std.proofs.Common.{rules, ap, sym, ◌∙◌, ◌+◌, ◌≡◌, ◌∷◌, ℕ}
+use Rattle.std.proofs.Common.{rules, ap, sym, ◌∙◌, ◌+◌, ◌∷◌, ℕ}
 use Rattle.std.specs.Prelude.{Some}
 use Rattle.atomic_table.specs.Table.{rest}
 use Rattle.turn_cell.proofs.Keeps.{takes_slot}

@@ -1,6 +1,4 @@
 use Rattle.std.proofs.Common.{rules, ap, sym, ◌∙◌, ◌≡◌, ◌∷◌, [], subst, ℕ, List}
-use Rattle.std.specs.Prelude.{Option}
-use Rattle.turn_cell.specs.declared.known.Known.{Known}
 use Rattle.turn_cell.specs.History.{entries_of}
 use Rattle.turn_cell.specs.Steps.{Holder, Heard}
 use Rattle.turn_cell.specs.Seats.{CellId, seen}
@@ -35,8 +33,8 @@ load-requires g c =
           (ap (λ (m : Holder g.row.T.Denot g.row.T-Entry.Denot). m.0.role) is ∙ s.numbered.role)
           (ap (λ (m : Holder g.row.T.Denot g.row.T-Entry.Denot). m.0.holds) is ∙ s.resting)
           (ap (λ (m : Holder g.row.T.Denot g.row.T-Entry.Denot). m.0.mine) is ∙ (s.numbered.own
-              ∙ (ap (λ (n : ℕ). entries_of g.T.Told.seat_of n (seen c.args.to.now)) (sym s.numbered.number)
-              ∙ sym (ap (λ (m : Holder g.row.T.Denot g.row.T-Entry.Denot). entries_of g.T.Told.seat_of m.0.number m.0.seen) is)))),
+          ∙ (ap (λ (n : ℕ). entries_of g.T.Told.seat_of n (seen c.args.to.now)) (sym s.numbered.number)
+          ∙ sym (ap (λ (m : Holder g.row.T.Denot g.row.T-Entry.Denot). entries_of g.T.Told.seat_of m.0.number m.0.seen) is)))),
     )
 
 pub returns-clause-from : goal.returns-clause-from
@@ -50,5 +48,5 @@ returns-clause-to g c =
     let is = c.join_seat.ensures.2 ∙ ap (λ (l : List (List g.row.T-Entry.Denot)). (record c.args.to.now.place.me.0 { heard = l }, c.args.to.now.place.me.1)) heard in
     let h = c.load.ensures.2 (seen c.args.from.now) (ap (λ (m : Holder g.row.T.Denot g.row.T-Entry.Denot). m.0.heard) is) in
     was_told g.T.Told.seat_of _ c.args.to.now c.args.from.now c.load.new.seat c.requires.to
-        (c.load.ensures.0 ∙ c.join_seat.ensures.0)
-        (subst (λ (m : Holder g.row.T.Denot g.row.T-Entry.Denot). Heard g.T.Told.seat_of (seen c.args.from.now) m c.load.new.seat.me) is h)
+    (c.load.ensures.0 ∙ c.join_seat.ensures.0)
+    (subst (λ (m : Holder g.row.T.Denot g.row.T-Entry.Denot). Heard g.T.Told.seat_of (seen c.args.from.now) m c.load.new.seat.me) is h)

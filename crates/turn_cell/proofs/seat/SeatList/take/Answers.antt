@@ -1,7 +1,7 @@
-use Rattle.std.proofs.Common.{ap, refl, subst, ◌≡◌, ◌∙◌, sym, List, length, ◌<◌, ℕ}
-use Rattle.std.specs.Prelude.{Option, Some, None, MatchOption}
+use Rattle.std.proofs.Common.{refl, subst, List, length, ◌<◌}
+use Rattle.std.specs.Prelude.{Option}
 use Rattle.turn_cell.specs.declared.seat.Seat.{Seat}
-use Rattle.turn_cell.specs.Lists.{HasNone, IsSeatIn, list_slots}
+use Rattle.turn_cell.specs.Lists.{HasNone, IsSeatIn}
 use Rattle.turn_cell.proofs.Lists.{not_both}
 use Rattle.turn_cell.proofs.Given.{list_kept, list_taken}
 use Rattle.turn_cell.proofs.seat.SeatList.take.Goals as goal
@@ -10,9 +10,9 @@ pub returns-clause-list : goal.returns-clause-list
 returns-clause-list g c =
     let at = c.in_ok-at.ensures in
     list_kept g.T.Told.seat_of c.args.self.now _ c.in_ok-at.at c.take.new.self refl refl
-        (subst (λ (l : List (Option (Seat g.row.T.Denot g.row.T-Entry.Denot))). c.in_ok-at.at < length l) c.as_slice.ensures.value at.0)
-        (λ s e. absurd (not_both _ _ c.take.ensures.after e))
-        c.requires.list
+    (subst (λ (l : List (Option (Seat g.row.T.Denot g.row.T-Entry.Denot))). c.in_ok-at.at < length l) c.as_slice.ensures.value at.0)
+    (λ s e. absurd (not_both _ _ c.take.ensures.after e))
+    c.requires.list
 
 pub returns-clause-taken : goal.returns-clause-taken
 returns-clause-taken g c =

@@ -1,4 +1,4 @@
-use Rattle.std.proofs.Common.{rules, ap, sym, ◌∙◌, ◌≡◌, ◌∷◌, ◌++◌, ℕ, [], subst, List, true, false}
+use Rattle.std.proofs.Common.{rules, ap, sym, ◌∙◌, ◌≡◌, ◌∷◌, ◌++◌, ℕ, subst, List, false}
 use Rattle.std.specs.Prelude.{Some, Option}
 use Rattle.atomic_table.specs.Table.{rest}
 use Rattle.turn_cell.specs.declared.known.Known.{Known}
