@@ -1,5 +1,5 @@
 -- Each step of a lock keeps its rule.
-use Rattle.std.proofs.Common.{◌≡◌, ℕ, ◌+◌, ◌<◌, ◌≤◌, eqb, ◌≢◌, List, [], ◌∷◌, ◌++◌, length, get_or, set, sym, refl, ap, ◌∙◌, subst, ⊎_elim, arith, length-set, length-append, cond, ◌-◌, get_or-set_same, eq-eqb, ne_eqb, true, false}
+use Rattle.std.proofs.Common.{◌≡◌, ℕ, ◌+◌, ◌<◌, ◌≤◌, eqb, ◌≢◌, List, [], ◌∷◌, ◌++◌, length, get_or, set, sym, refl, ap, ◌∙◌, subst, ⊎_elim, arith, length-set, length-append, cond, ◌-◌, get_or-set_same, get_or-set_other, eq-eqb, ne_eqb, true, false}
 use Rattle.std.specs.Prelude.{Option, Some}
 use mathlib.Core.Logic.{dite}
 use mathlib.Core.Option.{some, some-ne-none}
@@ -436,7 +436,7 @@ module _ {T E Opening : Type 0} (opening : T → Opening) (stands : Opening → 
       }
 
   -- the lock as it is made
-  pub opens : (x : T) → x ≡ first_value key → stands (opening (first_value key)) [] x → Rule (table.opening (0 ∷ []) (Some x ∷ []) (first_view key))
+  pub opens : (x : T) → x ≡ first_value key → stands (opening (first_value key)) [] x → Rule (table.opening (0 ∷ 0 ∷ []) (Some x ∷ []) (first_view key))
   opens x is means = record {
     log = [];
     made = 0;
@@ -475,3 +475,29 @@ module _ {T E Opening : Type 0} (opening : T → Opening) (stands : Opening → 
       absurd ((mk.2 (word s - 1) (omega arith)).1 (omega arith))) in
       let here = r.free free in
       (here.0, r.log, final.4 0 (Some here.0) here.1, here.2, f.heard, (λ n h. (mk.2 n h).2), (λ n h. r.others n (let made = mk.1 in omega arith)))
+
+  -- a change of the count of calls changes nothing of the rule
+  pub calls : (slots id : ℕ) (m : Holder T E) (f : ℕ → ℕ) → Allows Rule slots id m 1 f (λ _ m'. m' ≡ m)
+  calls slots id m f s r one at small =
+      let v : Known T E = m.0 in
+      let n : ℕ = f (get_or s.words 1 0) in
+      let same : get_or (set s.words 1 n) 0 0 ≡ word s = get_or-set_other s.words 1 0 n 0 (λ e. omega arith) in
+      let views : set s.views id v ≡ s.views = set_again s.views id v at in (
+        v,
+        keeps,
+        tt,
+        record {
+          log = r.log;
+          made = r.made;
+          maker = r.maker;
+          place = r.place;
+          wide = length-set s.words 1 n ∙ r.wide;
+          within = r.within;
+          word = rw same r.word;
+          free = λ z. r.free (sym same ∙ z);
+          others = r.others;
+          each = λ j d there. subst (λ (z : ℕ). Fit z r.made r.maker r.place r.log j d) (sym same)
+              (r.each j d (subst (λ (l : List (Known T E)). get_elem? l j ≡ some d) views there));
+        },
+        refl,
+      )

@@ -37,7 +37,7 @@ module _ {T E Opening : Type 0} (opening : T → Opening) (stands : Opening → 
     pub made : ℕ
     pub maker : ℕ
     pub place : ℕ → ℕ
-    pub wide : length s.words ≡ 1
+    pub wide : length s.words ≡ 2
     pub within : made ≤ key.seats
     pub word : slice_index s.words 0 ≤ made
     pub free : slice_index s.words 0 ≡ 0 → (x : T) × (get_elem? s.homes 0 ≡ some (some (Some x))) × stands (opening (first_value key)) log x

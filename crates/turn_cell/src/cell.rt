@@ -42,7 +42,7 @@ pub(crate) type Place<T, E> = atomic_table::Seat<Option<T>, Known<T, E>>;
 #[derive(Drop)]
 pub struct TurnCell<T: Told> {
     pub(crate) table: Table<Option<T>, Known<T, T::Entry>, Start<T>, OneHistory<T>, Global>,
-    /// How many seats are asleep, or on their way there.
-    pub(crate) waiting: AtomicU64,
-    pub(crate) ghost sized: { (table.shared.table_id.words ≡ 1) × (table.shared.table_id.slots ≡ 1) × (table.shared.key.seats < 2 ^ 32) },
+    /// 1 where a seat may be asleep that no one has called yet.
+    pub(crate) asleep: AtomicU64,
+    pub(crate) ghost sized: { (table.shared.table_id.words ≡ 2) × (table.shared.table_id.slots ≡ 1) × (table.shared.key.seats < 2 ^ 32) },
 }

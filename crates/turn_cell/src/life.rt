@@ -113,12 +113,12 @@ impl<T: Told> TurnCell<T> {
             Ok(home) => home,
             Err(value) => return Err((NoMemory, value)),
         };
-        match Table::new(alloc, &[0], home, &about) {
+        match Table::new(alloc, &[0, 0], home, &about) {
             Ok((table, maker)) => {
                 let list = number_seats(&table.shared, maker, slots, seats);
                 let cell = TurnCell {
                     table,
-                    waiting: AtomicU64::new(0),
+                    asleep: AtomicU64::new(0),
                 };
                 Ok((cell, list))
             }
@@ -133,7 +133,7 @@ impl<T: Told> TurnCell<T> {
         requires whole { IsWhole seats }
         ensures { IsWholeHistory T.opening T.stands T.seat_of seats result }
     {
-        let Self { table, waiting: _ } = self;
+        let Self { table, asleep: _ } = self;
         let (maker, slots) = seats.into_parts();
         let maker = gather_seats(&table.shared, maker, slots);
         let mut closed = table.close_with(maker);

@@ -44,6 +44,15 @@ impl<E> Adds<E> for Nothing {
     ghost added = { [] };
 }
 
+/// The count of calls goes up, which tells nothing.
+pub(crate) struct Call;
+
+impl<T, E> Play<Option<T>, Known<T, E>> for Call {
+    ghost use Rattle.std.specs.Prelude.{◌≡◌};
+
+    ghost then = { λ s m r n. n ≡ m };
+}
+
 /// A seat is cut off that tells what this one has seen.
 pub(crate) struct Ask;
 

@@ -6,7 +6,7 @@ ghost use Rattle.turn_cell.specs.Seats.{IsSeatOf, IsHeld, Began, WasBusy, GaveBa
 ghost use Rattle.turn_cell.specs.contracts.seat.Seat.{the_row as seat_row};
 
 use crate::cell::TurnCell;
-use crate::plays::{Adds, Give, Nothing, Take};
+use crate::plays::{Adds, Call, Give, Nothing, Take};
 use crate::seat::Seat;
 use crate::told::{Note, Told};
 use std::hint;
@@ -14,8 +14,17 @@ use std::marker::Brand;
 use std::sync::Wait;
 use std::sync::atomic::Ordering::SeqCst;
 
+/// The word that is 0, or 1 more than the number of the seat that has the turn.
+const HOLDER: usize = 0;
+
+/// The word that counts the calls to seats that sleep. They park on it.
+const CALLS: usize = 1;
+
+/// The bits of a word that a seat parks on.
+const LOW: u64 = 0xffff_ffff;
+
 /// How often a seat looks at the word before it sleeps.
-const LOOKS: u32 = 1000;
+const LOOKS: u32 = 100;
 
 /// Another seat had the turn when this one asked.
 #[derive(Debug, Clone, Copy, PartialEq, Eq, Drop)]
@@ -39,7 +48,7 @@ impl<T: Told> TurnCell<T> {
     {
         let shared = &self.table.shared;
         let own = u64::from(seat.number) + 1;
-        let found = shared.compare_exchange::<Take>(&mut seat.place, 0, 0, own);
+        let found = shared.compare_exchange::<Take>(&mut seat.place, HOLDER, 0, own);
         if found != 0 {
             return Err(Busy {
                 holder: (found - 1) as u32,
@@ -56,30 +65,36 @@ impl<T: Told> TurnCell<T> {
         ensures { Began T.opening T.stands T.seat_of (cell_id self.now) seat.old seat.new result }
     {
         for _ in 0..LOOKS {
-            if self.table.shared.peek(0) == 0 {
+            if self.table.shared.peek(HOLDER) == 0 {
                 if let Ok(value) = self.take(seat) {
                     return value;
                 }
             }
             hint::spin_loop();
         }
-        self.waiting.fetch_add(1, SeqCst);
-        let value = self.sleep(rt, seat);
-        self.waiting.fetch_sub(1, SeqCst);
-        value
-    }
-
-    fn sleep<R: Wait>(&self, rt: &R, seat: &mut Seat<T>) -> T
-        requires { IsSeatOf T.seat_of (cell_id self.now) seat.old }
-        ensures { Began T.opening T.stands T.seat_of (cell_id self.now) seat.old seat.new result }
-    {
         for _ in rt.forever() {
-            match self.take(seat) {
-                Ok(value) => return value,
-                Err(busy) => self.table.shared.park(rt, 0, busy.holder + 1),
+            // It says that it will sleep before it asks again, and sleeps only if no one called
+            // since: so a turn that is given back after it asked calls it.
+            let heard = self.table.shared.peek(CALLS);
+            self.asleep.store(1, SeqCst);
+            if let Ok(value) = self.take(seat) {
+                return value;
             }
+            self.table.shared.park(rt, CALLS, (heard & LOW) as u32);
         }
         unreachable!()
+    }
+
+    // Calls one seat that sleeps, if there may be one.
+    fn call(&self, seat: &mut Seat<T>)
+        requires { seat.old.place.table_id ≡ self.now.table.shared.table_id }
+        ensures { seat.new ≡ seat.old }
+    {
+        let shared = &self.table.shared;
+        if self.asleep.load(SeqCst) != 0 && self.asleep.swap(0, SeqCst) != 0 {
+            shared.fetch_add::<Call>(&mut seat.place, CALLS, 1);
+            shared.wake_one(CALLS);
+        }
     }
 
     fn take_or_wait<R: Wait>(&self, rt: &R, seat: &mut Seat<T>) -> T
@@ -135,7 +150,7 @@ impl<'a, T: Told> Turn<'a, T> {
         &mut self.value
     }
 
-    // The value into the slot, one store of the word, and a call to a seat that sleeps.
+    // The value into the slot, and one store of the word.
     fn give<W: Adds<T::Entry>>(self)
         requires held { IsHeld T.seat_of self }
         requires made { AllMadeBy T.seat_of self.seat.now.number W.added }
@@ -148,10 +163,8 @@ impl<'a, T: Told> Turn<'a, T> {
             None => {}
             Some(_) => unreachable!(),
         }
-        shared.store::<Give<W>>(&mut seat.place, 0, 0);
-        if cell.waiting.load(SeqCst) > 0 {
-            shared.wake_one(0);
-        }
+        shared.store::<Give<W>>(&mut seat.place, HOLDER, 0);
+        cell.call(seat);
     }
 
     fn give_noted<N: Note<T>, W: Adds<T::Entry>>(self, note: &N)

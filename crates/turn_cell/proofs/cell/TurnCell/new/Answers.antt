@@ -9,7 +9,7 @@ use Rattle.turn_cell.proofs.cell.TurnCell.new.Goals as goal
 pub new-requires : goal.new-requires
 new-requires g c =
     let key : Start g.row.T.Denot = record { value = c.of.result; seats = c.args.seats } in
-    subst (λ (l : List (Option g.row.T.Denot)). Standing g.T.Told.opening g.T.Told.stands g.T.Told.seat_of key (opening (0 ∷ []) l (first_view key)))
+    subst (λ (l : List (Option g.row.T.Denot)). Standing g.T.Told.opening g.T.Told.stands g.T.Told.seat_of key (opening (0 ∷ 0 ∷ []) l (first_view key)))
     (sym c.in-Ok-home_of.ensures)
     (opens g.T.Told.opening g.T.Told.stands g.T.Told.seat_of key c.args.value (sym c.of.ensures)
     (subst (λ (z : g.row.T.Denot). g.T.Told.stands (g.T.Told.opening z) [] c.args.value) (sym c.of.ensures) c.requires.value))

@@ -1,5 +1,0 @@
-use Rattle.turn_cell.specs.Seats.{Rests, cell_id}
-use Rattle.turn_cell.proofs.cell.TurnCell.sleep.Given as goal
-
-abbrev pub invariant-loop : goal.invariant-loop
-invariant-loop g l = Rests g.T.Told.seat_of (cell_id l.self) l.initial.seat l.seat
