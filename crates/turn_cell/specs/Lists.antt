@@ -29,7 +29,11 @@ module _ {T E : Type 0} where
 
   -- the cell whose seats these are
   abbrev pub list_id : SeatList T E → CellId T
-  list_id l = record { table = l.maker.table_id; first = l.maker.me.0.first; seats = l.maker.me.0.seats }
+  list_id l = record {
+    table = l.maker.table_id;
+    first = l.maker.me.0.first;
+    seats = l.maker.me.0.seats;
+  }
 
   -- no seat has a number below this
   abbrev pub HasNone : List (Option (Seat T E)) → ℕ → Type 0
@@ -59,7 +63,8 @@ module _ {T E : Type 0} where
   IsNewList l = (n : ℕ) → n < (list_id l).seats → (s : Seat T E) × (slot_at l n ≡ Some s) × IsNew s
 
   -- the maker has taken in the seats of these places, each with what it has seen and made
-  pub record IsGathered (maker : Place T E) (slots : List (Option (Seat T E))) (now : Place T E) : Type 0 where
+  pub record IsGathered (maker : Place T E) (slots : List (Option (Seat T E)))
+      (now : Place T E) : Type 0 where
     pub table : now.table_id ≡ maker.table_id
     pub none : now.me.1 ≡ []
     pub role : now.me.0.role ≡ Maker
@@ -67,8 +72,10 @@ module _ {T E : Type 0} where
     pub first : now.me.0.first ≡ maker.me.0.first
     pub count : length now.me.0.parts ≡ length slots
     pub long : length now.me.0.heard ≡ length slots
-    pub made : (n : ℕ) (s : Seat T E) → slice_index_or slots n None ≡ Some s → slice_index_or now.me.0.parts n [] ≡ mine s
-    pub told : (n : ℕ) (s : Seat T E) → slice_index_or slots n None ≡ Some s → slice_index_or now.me.0.heard n [] ≡ seen s
+    pub made : (n : ℕ) (s : Seat T E) → slice_index_or slots n None ≡ Some s
+        → slice_index_or now.me.0.parts n [] ≡ mine s
+    pub told : (n : ℕ) (s : Seat T E) → slice_index_or slots n None ≡ Some s
+        → slice_index_or now.me.0.heard n [] ≡ seen s
 
 module _ {T E : Type 0} (by : E → ℕ) where
   -- each seat in the list is one of the cell, at its number, and there is a place for each number
@@ -79,9 +86,11 @@ module _ {T E : Type 0} (by : E → ℕ) where
     pub heard : l.maker.me.0.heard ≡ []
     pub none : l.maker.me.1 ≡ []
     pub size : length (list_slots l) ≡ (list_id l).seats
-    pub each : (n : ℕ) (s : Seat T E) → slot_at l n ≡ Some s → IsSeatOf by (list_id l) s × (s.number ≡ n)
+    pub each : (n : ℕ) (s : Seat T E) → slot_at l n ≡ Some s
+        → IsSeatOf by (list_id l) s × (s.number ≡ n)
 
-module _ {T E Opening : Type 0} (opening : T → Opening) (stands : Opening → List E → T → Type 0) (by : E → ℕ) where
+module _ {T E Opening : Type 0}
+    (opening : T → Opening) (stands : Opening → List E → T → Type 0) (by : E → ℕ) where
   -- The value stands for the whole history: what each seat has seen begins it, its entries of each
   -- seat are just those that the seat made, in order, and it has no others
   pub record IsWholeHistory (l : SeatList T E) (x : T) : Type 0 where

@@ -22,11 +22,19 @@ pub record CellId (T : Type 0) : Type 0 where
 module _ {T E : Type 0} where
   -- which cell a cell is
   abbrev pub cell_id : TurnCell T E → CellId T
-  cell_id c = record { table = c.table.shared.table_id; first = Some (first_value c.table.shared.key); seats = c.table.shared.key.seats }
+  cell_id c = record {
+    table = c.table.shared.table_id;
+    first = Some (first_value c.table.shared.key);
+    seats = c.table.shared.key.seats;
+  }
 
   -- the cell that a seat is of
   abbrev pub seat_id : Seat T E → CellId T
-  seat_id s = record { table = s.place.table_id; first = s.place.me.0.first; seats = s.place.me.0.seats }
+  seat_id s = record {
+    table = s.place.table_id;
+    first = s.place.me.0.first;
+    seats = s.place.me.0.seats;
+  }
 
   -- what a seat has seen of the history
   abbrev pub seen : Seat T E → List E
@@ -106,7 +114,8 @@ module _ {T E : Type 0} (by : E → ℕ) where
     pub mine_is : mine s' ≡ mine s
     pub found_is : found s' ≡ found s
 
-module _ {T E Opening : Type 0} (opening : T → Opening) (stands : Opening → List E → T → Type 0) (by : E → ℕ) where
+module _ {T E Opening : Type 0}
+    (opening : T → Opening) (stands : Opening → List E → T → Type 0) (by : E → ℕ) where
   -- the value stands for the list, since the opening of this cell
   abbrev pub Stands : CellId T → List E → T → Type 0
   Stands c log x = StandsSince opening stands by c.first log x
@@ -123,4 +132,5 @@ module _ {T E Opening : Type 0} (opening : T → Opening) (stands : Opening → 
 module _ (R E : RattleType) (g : Ghosts R.Denot E.Denot) where
   -- the turn ends with the last value behind the loan
   abbrev pub LendsValue : MutBor (Turn R.Denot E.Denot) → MutBor R.Denot → Fml
-  LendsValue s r = Lends (the_row (record { mir = named 1; lft = [] }) R E g) R s r (with_value s.now)
+  LendsValue s r =
+      Lends (the_row (record { mir = named 1; lft = [] }) R E g) R s r (with_value s.now)

@@ -10,7 +10,8 @@ use Rattle.turn_cell.specs.History.{IsPrefix, longer, entries_of}
 abbrev pub Holder : Type 0 → Type 0 → Type 0
 Holder T E = Me (Option T) (Known T E)
 
-module _ {T E Opening : Type 0} (opening : T → Opening) (stands : Opening → List E → T → Type 0) (by : E → ℕ) where
+module _ {T E Opening : Type 0}
+    (opening : T → Opening) (stands : Opening → List E → T → Type 0) (by : E → ℕ) where
   -- the value stands for the list, since the opening that the first value gives
   abbrev pub StandsSince : Option T → List E → T → Type 0
   StandsSince first log x = (f : T) → first ≡ Some f → stands (opening f) log x
@@ -52,11 +53,24 @@ module _ {T E : Type 0} (by : E → ℕ) where
 module _ {T E : Type 0} where
   -- the turn was given back, with these entries
   abbrev pub gave : List E → Holder T E → Holder T E → Type 0
-  gave es m m' = (m'.0 ≡ record m.0 { holds = false; seen = m.0.seen ++ es; mine = m.0.mine ++ es }) × (m'.1 ≡ [])
+  gave es m m' =
+      (m'.0 ≡ record m.0 { holds = false; seen = m.0.seen ++ es; mine = m.0.mine ++ es })
+      × (m'.1 ≡ [])
 
   -- a view that has seen as much, with no entry of its own
   abbrev pub fresh : Role → ℕ → Known T E → Known T E
-  fresh role n v = record { role = role; first = v.first; seats = v.seats; number = n; holds = false; seen = v.seen; mine = []; heard = []; parts = []; met = [] }
+  fresh role n v = record {
+    role = role;
+    first = v.first;
+    seats = v.seats;
+    number = n;
+    holds = false;
+    seen = v.seen;
+    mine = [];
+    heard = [];
+    parts = [];
+    met = [];
+  }
 
   -- the maker after it gave a number
   abbrev pub numbering : Known T E → Known T E
@@ -80,4 +94,15 @@ module _ {T E : Type 0} where
 
   -- what is left of a seat that was joined
   abbrev pub spent : Known T E
-  spent = record { role = Spent; first = None; seats = 0; number = 0; holds = false; seen = []; mine = []; heard = []; parts = []; met = [] }
+  spent = record {
+    role = Spent;
+    first = None;
+    seats = 0;
+    number = 0;
+    holds = false;
+    seen = [];
+    mine = [];
+    heard = [];
+    parts = [];
+    met = [];
+  }

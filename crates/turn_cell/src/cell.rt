@@ -44,5 +44,7 @@ pub struct TurnCell<T: Told> {
     pub(crate) table: Table<Option<T>, Known<T, T::Entry>, Start<T>, OneHistory<T>, Global>,
     /// 1 where a seat may be asleep that no one has called yet.
     pub(crate) asleep: AtomicU64,
-    pub(crate) ghost sized: { (table.shared.table_id.words ≡ 2) × (table.shared.table_id.slots ≡ 1) × (table.shared.key.seats < 2 ^ 32) },
+    pub(crate) ghost sized: { (table.shared.table_id.words ≡ 2)
+        × (table.shared.table_id.slots ≡ 1)
+        × (table.shared.key.seats < 2 ^ 32) },
 }

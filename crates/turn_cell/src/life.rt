@@ -99,7 +99,8 @@ impl<T: Told> TurnCell<T> {
         requires value { T.stands (T.opening value) [] value }
         ensures list { IfOk result (λ r. IsList T.seat_of r.1 × (list_id r.1 ≡ cell_id r.0)) }
         ensures new { IfOk result (λ r. IsNewList r.1) }
-        ensures opening { IfOk result (λ r. ((cell_id r.0).first ≡ Some value) × ((cell_id r.0).seats ≡ seats)) }
+        ensures opening { IfOk result (λ r. (cell_id r.0).first ≡ Some value) }
+        ensures seats { IfOk result (λ r. (cell_id r.0).seats ≡ seats) }
         ensures refused { IfErr result (λ e. e.1 ≡ value) }
     {
         let Ok(slots) = Vec::with_capacity(alloc, seats as usize) else {

@@ -1,5 +1,5 @@
 //! A seat, and the list of the seats that no one has.
-ghost use Rattle.std.specs.Prelude.{◌≡◌, ◌<◌, ℕ, None, Some, length, slice_set, MatchOption};
+ghost use Rattle.std.specs.Prelude.{◌≡◌, ◌<◌, ℕ, None, Some, length, slice_set, IfSome, MatchOption};
 ghost use Rattle.turn_cell.specs.Seats.{IsSeatOf};
 ghost use Rattle.turn_cell.specs.Lists.{IsList, IsSeatIn, IsLeastOf, HasNone, list_id, list_slots, slot_at};
 
@@ -46,7 +46,9 @@ pub struct SeatList<T: Told> {
 
 // The index of the first seat.
 fn first_of<T: Told>(slots: &[Option<Seat<T>>]) -> Option<usize>
-    ensures { MatchOption result (HasNone slots.now (length slots.now)) (λ at. (at < length slots.now) × HasNone slots.now at × IsSeatIn slots.now at) }
+    ensures { MatchOption result
+        (HasNone slots.now (length slots.now))
+        (λ at. (at < length slots.now) × HasNone slots.now at × IsSeatIn slots.now at) }
 {
     for at in 0..slots.len() {
         if slots[at].is_some() {
@@ -62,7 +64,11 @@ impl<T: Told> SeatList<T> {
         requires list { IsList T.seat_of self.old }
         ensures list { IsList T.seat_of self.new }
         ensures cell { list_id self.new ≡ list_id self.old }
-        ensures taken { MatchOption result ((self.new ≡ self.old) × ((n : ℕ) → slot_at self.old n ≡ None)) (λ s. IsLeastOf self.old s × (list_slots self.new ≡ slice_set (list_slots self.old) s.number None)) }
+        ensures seat { IfSome result (λ s. IsSeatOf T.seat_of (list_id self.old) s) }
+        ensures taken { MatchOption result
+            ((self.new ≡ self.old) × ((n : ℕ) → slot_at self.old n ≡ None))
+            (λ s. IsLeastOf self.old s
+            × (list_slots self.new ≡ slice_set (list_slots self.old) s.number None)) }
     {
         let at = first_of(self.slots.as_slice())?;
         self.slots[at].take()
@@ -74,7 +80,8 @@ impl<T: Told> SeatList<T> {
         requires seat { IsSeatOf T.seat_of (list_id self.old) seat }
         ensures list { IsList T.seat_of self.new }
         ensures cell { list_id self.new ≡ list_id self.old }
-        ensures seats { list_slots self.new ≡ slice_set (list_slots self.old) seat.number (Some seat) }
+        ensures seats { list_slots self.new
+            ≡ slice_set (list_slots self.old) seat.number (Some seat) }
     {
         let at = seat.number as usize;
         self.slots[at] = Some(seat);

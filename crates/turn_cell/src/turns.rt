@@ -44,7 +44,9 @@ impl<T: Told> TurnCell<T> {
     // One exchange of the word, and the value out of the slot.
     fn take(&self, seat: &mut Seat<T>) -> Result<T, Busy>
         requires { IsSeatOf T.seat_of (cell_id self.now) seat.old }
-        ensures { MatchResult result (λ x. Began T.opening T.stands T.seat_of (cell_id self.now) seat.old seat.new x) (λ b. WasBusy T.seat_of (cell_id self.now) seat.old seat.new b.holder) }
+        ensures { MatchResult result
+            (λ x. Began T.opening T.stands T.seat_of (cell_id self.now) seat.old seat.new x)
+            (λ b. WasBusy T.seat_of (cell_id self.now) seat.old seat.new b.holder) }
     {
         let shared = &self.table.shared;
         let own = u64::from(seat.number) + 1;
@@ -110,7 +112,8 @@ impl<T: Told> TurnCell<T> {
     /// Takes the turn, and waits while another seat has it.
     pub fn turn<'a, R: Wait>(&'a self, rt: &R, seat: &'a mut Seat<T>) -> Turn<'a, T>
         requires seat { IsSeatOf T.seat_of (cell_id self.now) seat.old }
-        ensures taken { Began T.opening T.stands T.seat_of (cell_id self.now) seat.old result.seat.now result.value }
+        ensures taken { Began T.opening T.stands T.seat_of (cell_id self.now)
+            seat.old result.seat.now result.value }
         ensures cell { cell_id result.cell.now ≡ cell_id self.now }
         ensures same_reference { result.seat.ghost_name ≡ seat.entry.ghost_name }
     {
@@ -127,8 +130,11 @@ impl<T: Told> Seat<T> {
     /// Takes the turn where no seat has it. It waits for nobody.
     pub fn try_turn<'a>(&'a mut self, cell: &'a TurnCell<T>) -> Result<Turn<'a, T>, Busy>
         requires seat { IsSeatOf T.seat_of (cell_id cell.now) self.old }
-        ensures* busy { sem 𝓛 (RestsIfErr (seat_row T.row T.Entry.row) self.entry (λ t. t.seat.ghost_name) result (λ n. IfErr result (λ b. WasBusy T.seat_of (cell_id cell.now) self.old n b.holder))) }
-        ensures taken { IfOk result (λ t. Began T.opening T.stands T.seat_of (cell_id cell.now) self.old t.seat.now t.value) }
+        ensures* busy { sem 𝓛 (RestsIfErr (seat_row T.row T.Entry.row) self.entry
+            (λ t. t.seat.ghost_name) result
+            (λ n. IfErr result (λ b. WasBusy T.seat_of (cell_id cell.now) self.old n b.holder))) }
+        ensures taken { IfOk result (λ t. Began T.opening T.stands T.seat_of (cell_id cell.now)
+            self.old t.seat.now t.value) }
         ensures cell { IfOk result (λ t. cell_id t.cell.now ≡ cell_id cell.now) }
         ensures same_reference { IfOk result (λ t. t.seat.ghost_name ≡ self.entry.ghost_name) }
     {
@@ -154,8 +160,10 @@ impl<'a, T: Told> Turn<'a, T> {
     fn give<W: Adds<T::Entry>>(self)
         requires held { IsHeld T.seat_of self }
         requires made { AllMadeBy T.seat_of self.seat.now.number W.added }
-        requires value { Stands T.opening T.stands T.seat_of (cell_id self.cell.now) (seen self.seat.now ++ W.added) self.value }
-        ensures { GaveBack T.seat_of (cell_id self.entry.cell.now) self.entry.seat.now W.added self.exit.0.now }
+        requires value { Stands T.opening T.stands T.seat_of (cell_id self.cell.now)
+            (seen self.seat.now ++ W.added) self.value }
+        ensures { GaveBack T.seat_of (cell_id self.entry.cell.now)
+            self.entry.seat.now W.added self.exit.0.now }
     {
         let Turn { seat, cell, value } = self;
         let shared = &cell.table.shared;
@@ -171,8 +179,10 @@ impl<'a, T: Told> Turn<'a, T> {
         requires held { IsHeld T.seat_of self }
         requires number { T.seat_of (N.entry note.now) ≡ self.seat.now.number }
         requires added { W.added ≡ N.entry note.now ∷ [] }
-        requires value { Stands T.opening T.stands T.seat_of (cell_id self.cell.now) (seen self.seat.now ++ N.entry note.now ∷ []) self.value }
-        ensures { GaveBack T.seat_of (cell_id self.entry.cell.now) self.entry.seat.now (N.entry note.now ∷ []) self.exit.0.now }
+        requires value { Stands T.opening T.stands T.seat_of (cell_id self.cell.now)
+            (seen self.seat.now ++ N.entry note.now ∷ []) self.value }
+        ensures { GaveBack T.seat_of (cell_id self.entry.cell.now)
+            self.entry.seat.now (N.entry note.now ∷ []) self.exit.0.now }
     {
         let _ = note;
         self.give::<W>();
@@ -182,8 +192,10 @@ impl<'a, T: Told> Turn<'a, T> {
     pub fn back<N: Note<T>>(self, note: &N)
         requires held { IsHeld T.seat_of self }
         requires number { T.seat_of (N.entry note.now) ≡ self.seat.now.number }
-        requires value { Stands T.opening T.stands T.seat_of (cell_id self.cell.now) (seen self.seat.now ++ N.entry note.now ∷ []) self.value }
-        ensures { GaveBack T.seat_of (cell_id self.entry.cell.now) self.entry.seat.now (N.entry note.now ∷ []) self.exit.0.now }
+        requires value { Stands T.opening T.stands T.seat_of (cell_id self.cell.now)
+            (seen self.seat.now ++ N.entry note.now ∷ []) self.value }
+        ensures { GaveBack T.seat_of (cell_id self.entry.cell.now)
+            self.entry.seat.now (N.entry note.now ∷ []) self.exit.0.now }
     {
         self.give_noted::<N, Brand>(note);
     }
@@ -191,8 +203,10 @@ impl<'a, T: Told> Turn<'a, T> {
     /// Gives the turn back with no entry. The value stands for the history as it was.
     pub fn back_same(self)
         requires held { IsHeld T.seat_of self }
-        requires value { Stands T.opening T.stands T.seat_of (cell_id self.cell.now) (seen self.seat.now) self.value }
-        ensures { GaveBack T.seat_of (cell_id self.entry.cell.now) self.entry.seat.now [] self.exit.0.now }
+        requires value { Stands T.opening T.stands T.seat_of (cell_id self.cell.now)
+            (seen self.seat.now) self.value }
+        ensures { GaveBack T.seat_of (cell_id self.entry.cell.now)
+            self.entry.seat.now [] self.exit.0.now }
     {
         self.give::<Nothing>();
     }

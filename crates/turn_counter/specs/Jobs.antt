@@ -12,8 +12,12 @@ use Rattle.turn_counter.specs.Additions.{made_by}
 -- there is a job for each seat of the cell, in order, and each has made as many additions
 pub record HaveMade (c : CellId Counter) (count : ℕ) (jobs : List Job) : Type 0 where
   pub long : length jobs ≡ c.seats
-  pub each : (n : ℕ) (d : Job) → n < length jobs → IsSeatOf made_by c (slice_index_or jobs n d).seat × ((slice_index_or jobs n d).seat.number ≡ n) × (length (mine (slice_index_or jobs n d).seat) ≡ count)
+  pub each : (n : ℕ) (d : Job) → n < length jobs
+      → IsSeatOf made_by c (slice_index_or jobs n d).seat
+      × ((slice_index_or jobs n d).seat.number ≡ n)
+      × (length (mine (slice_index_or jobs n d).seat) ≡ count)
 
 -- each seat in the list has made as many additions
 abbrev pub HasRun : SeatList Counter Addition → ℕ → Type 0
-HasRun l count = (n : ℕ) (s : Seat Counter Addition) → slot_at l n ≡ Some s → length (mine s) ≡ count
+HasRun l count =
+    (n : ℕ) (s : Seat Counter Addition) → slot_at l n ≡ Some s → length (mine s) ≡ count

@@ -19,7 +19,8 @@ by_seat s amount = record { seat = s.number; amount = amount }
 pub record IsAddition (c : CellId Counter) (s s' : Adder) (amount reply : ℕ) : Type 0 where
   pub before : List Addition
   pub begins : IsPrefix (seen s) before
-  pub reply_is : (first : Counter) → c.first ≡ Some first → reply ≡ (first.sum + total before) % 2 ^ 64
+  pub reply_is : (first : Counter) → c.first ≡ Some first
+      → reply ≡ (first.sum + total before) % 2 ^ 64
   pub seen_is : seen s' ≡ before ++ by_seat s amount ∷ []
   pub mine_is : mine s' ≡ mine s ++ by_seat s amount ∷ []
   pub same : IsSameSeat s s'

@@ -3,6 +3,8 @@
 
 mod counter;
 mod race;
+#[cfg(test)]
+mod tests;
 
 use race::race;
 use std::{env, io};

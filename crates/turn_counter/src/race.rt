@@ -65,7 +65,8 @@ fn hand_in(seats: &mut SeatList<Counter>, mut jobs: Vec<Job>) -> bool
     ensures list { IsList made_by seats.new }
     ensures cell { list_id seats.new ≡ list_id seats.old }
     ensures whole { IsWhole seats.new }
-    ensures made { (count : ℕ) → HaveMade (list_id seats.old) count jobs.items → HasRun seats.new count }
+    ensures made { (count : ℕ) → HaveMade (list_id seats.old) count jobs.items
+        → HasRun seats.new count }
 {
     let mut rising = true;
     while let Some(job) = jobs.pop() {
@@ -117,7 +118,9 @@ fn run<R: Threads + Wait + Sync>(
         threads as usize,
         &|_, job: &mut Job|
             requires { IsSeatOf made_by (cell_id cell.now) job.old.seat }
-            ensures { IsSeatOf made_by (cell_id cell.entry.now) job.exit.now.seat × IsSameSeat job.entry.now.seat job.exit.now.seat × (length (mine job.exit.now.seat) ≡ length (mine job.entry.now.seat) + turns) }
+            ensures { IsSeatOf made_by (cell_id cell.entry.now) job.exit.now.seat
+                × IsSameSeat job.entry.now.seat job.exit.now.seat
+                × (length (mine job.exit.now.seat) ≡ length (mine job.entry.now.seat) + turns) }
         { job.rising = climb(rt, cell, &mut job.seat, turns) },
     );
 }

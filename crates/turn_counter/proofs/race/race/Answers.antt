@@ -35,5 +35,5 @@ returns g c =
     let jobs = back g (goal.at.returns g c).After-run in
     let id = h.cell ∙ (c.hand_out.ensures.cell ∙ c.in-Ok-new.ensures.list.1) in
     counted _ c.args.turns c.args.threads c.close-counter.result h.whole (h.made c.args.turns jobs)
-    (ap (λ (z : CellId Counter). z.seats) id ∙ c.in-Ok-new.ensures.opening.1)
-    _ (ap (λ (z : CellId Counter). z.first) id ∙ c.in-Ok-new.ensures.opening.0) refl c.close-counter.ensures
+    (ap (λ (z : CellId Counter). z.seats) id ∙ c.in-Ok-new.ensures.seats)
+    _ (ap (λ (z : CellId Counter). z.first) id ∙ c.in-Ok-new.ensures.opening) refl c.close-counter.ensures

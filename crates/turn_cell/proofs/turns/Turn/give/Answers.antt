@@ -29,7 +29,7 @@ returns g c =
     let v : Known g.row.T.Denot g.row.T-Entry.Denot = c.args.self.seat.now.place.me.0 in
     let old : c.exchange.new.seat.me.0 ≡ v = ap (λ (m : Holder g.row.T.Denot g.row.T-Entry.Denot). m.0) c.exchange.ensures.3 in
     subst (λ (z : Seat g.row.T.Denot g.row.T-Entry.Denot). GaveBack g.T.Told.seat_of (cell_id c.args.self.cell.now) c.args.self.seat.now g.W.Adds.added z) (sym c.call.ensures)
-        (gave_back g.T.Told.seat_of _ c.args.self.seat.now c.store.new.seat g.W.Adds.added c.requires.held c.requires.made
-            (c.store.ensures.0 ∙ c.exchange.ensures.0)
-            (c.store.ensures.2.0 ∙ ap (λ (z : Known g.row.T.Denot g.row.T-Entry.Denot). record z { holds = false; seen = z.seen ++ g.W.Adds.added; mine = z.mine ++ g.W.Adds.added }) old)
-            c.store.ensures.2.1)
+    (gave_back g.T.Told.seat_of _ c.args.self.seat.now c.store.new.seat g.W.Adds.added c.requires.held c.requires.made
+    (c.store.ensures.0 ∙ c.exchange.ensures.0)
+    (c.store.ensures.2.0 ∙ ap (λ (z : Known g.row.T.Denot g.row.T-Entry.Denot). record z { holds = false; seen = z.seen ++ g.W.Adds.added; mine = z.mine ++ g.W.Adds.added }) old)
+    c.store.ensures.2.1)
