@@ -1,4 +1,4 @@
-//! The lock, and how it is made and taken apart.
+//! The lock, and the rule that each step on its table keeps.
 ghost use Rattle.std.specs.Prelude.{◌≡◌, ◌^◌, ◌<◌};
 
 use crate::known::Known;
