@@ -1,3 +1,4 @@
+//! A seat that is alone, two seats that tell each other, and four threads.
 use crate::counter::{Counter, add};
 use crate::race::race;
 use std::test::Fail;
