@@ -114,9 +114,9 @@ impl<T: Told> TurnCell<T> {
     /// Where the lock is free it is one exchange of the word, and the value moves out of the slot.
     /// Else the seat looks at the word for a while. Then it says that it will sleep, asks once
     /// more, and parks on the count of calls as it was before it said so. Who gives the turn back
-    /// and finds that a seat may sleep takes that word back, counts a call and wakes one seat; a seat
-    /// that was called says again that it will sleep, since others may still. What would happen
-    /// if the count were read after the word was given: a call in between would be missed.
+    /// and finds that a seat may sleep takes that word back, counts a call and wakes one seat; a
+    /// seat that was called says again that it will sleep, since others may still. What would
+    /// happen if the count were read after the word was given: a call in between would be missed.
     pub fn turn<'a, R: Wait>(&'a self, rt: &R, seat: &'a mut Seat<T>) -> Turn<'a, T>
         requires seat { IsSeatOf T.seat_of (cell_id self.now) seat.old }
         ensures taken { Began T.opening T.stands T.seat_of (cell_id self.now)
