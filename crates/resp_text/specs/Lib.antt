@@ -1,0 +1,5 @@
+-- What is defined of RESP2: requests, replies, and what a reader of requests has.
+pub mod Grammar
+pub mod Reading
+pub mod Words
+pub mod Replies

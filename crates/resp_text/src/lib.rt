@@ -1,0 +1,15 @@
+//! RESP2: requests are read from bytes, and replies are printed.
+//!
+//! The main type is [`Requests`], a reader that is fed bytes in pieces of any size:
+//! `requests.feed(piece)?` takes a piece, and `requests.next()` gives the next whole request.
+//! What is read is spelled so, byte for byte, and a stream that breaks is refused at the first
+//! byte with which it begins no stream. The README beside this crate says what is proved.
+#![tactic(auto)]
+
+mod fault;
+mod reply;
+mod request;
+
+pub use fault::{FeedFault, ProtocolKind};
+pub use reply::{ErrorKind, Reply, reply_text};
+pub use request::Request;
