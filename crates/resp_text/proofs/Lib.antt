@@ -1,2 +1,4 @@
 -- What the proofs of this crate share.
 pub mod Buffers
+pub mod Residuals
+pub mod Steps

@@ -9,6 +9,7 @@
 mod fault;
 mod reply;
 mod request;
+mod scan;
 
 pub use fault::{FeedFault, ProtocolKind};
 pub use reply::{ErrorKind, Reply, reply_text};
