@@ -2,3 +2,4 @@
 pub mod Buffers
 pub mod Residuals
 pub mod Steps
+pub mod Scans

@@ -1,11 +1,14 @@
 -- How a reader stands in an item: what may still follow, and how one byte moves it on.
-use Rattle.std.specs.Prelude.{◌≡◌, ℕ, ◌+◌, ◌-◌, ◌*◌, ◌<◌, ◌≤◌, ◌↔◌, List, [], ◌∷◌, ◌++◌, length, min, Option, Some, None, Bool, if◌then◌else◌, ◌&&◌, nat_le, ◌==◌}
+use Rattle.std.specs.Prelude.{◌≡◌, ℕ, ◌+◌, ◌-◌, ◌*◌, ◌<◌, ◌≤◌, ◌↔◌, List, [], ◌∷◌, ◌++◌, length, take, min, Option, Some, None, Bool, if◌then◌else◌, ◌&&◌, nat_le, ◌==◌}
 use Rattle.resp_text.specs.Grammar.{line_end, GoesOn, IsNumber, AreWords, total_bytes, IsWhole}
 use Rattle.resp_text.specs.declared.scan.Scan.{Scan}
 use Rattle.resp_text.specs.declared.scan.Part.{Part}
 use Rattle.resp_text.specs.declared.scan.Part.TheVariants.{Start, Star, Zero, Minus, MinusOne, SkipEnd, Count, CountEnd, Dollar, Sign, Length, LengthEnd, Body, Ending}
 use Rattle.resp_text.specs.declared.scan.Step.{Step}
 use Rattle.resp_text.specs.declared.scan.Step.TheVariants.{Go, Whole, Break}
+use Rattle.resp_text.specs.declared.scan.Run.{Run}
+use Rattle.resp_text.specs.declared.scan.Outcome.{Outcome}
+use Rattle.resp_text.specs.declared.scan.Outcome.TheVariants.{Open, End, Broken}
 use Rattle.resp_text.specs.declared.fault.ProtocolKind.{ProtocolKind}
 use Rattle.resp_text.specs.declared.fault.ProtocolKind.TheVariants as kind
 
@@ -100,3 +103,20 @@ StepMeans scan byte (Break kind) = (tail : List ℕ) → Finishes scan (byte ∷
 abbrev pub IsAtByte : Part → Type 0
 IsAtByte (Body left) = left ≡ 0
 IsAtByte _ = Unit {0}
+
+-- the bytes lead a reader on: what finishes the item behind them finishes it from there
+abbrev pub Leads : Scan → List ℕ → Scan → Type 0
+Leads scan bytes next = (tail : List ℕ) → Finishes scan (bytes ++ tail) ↔ Finishes next tail
+
+-- bytes of a word are passed over without a look at them
+pub record PassesOver (scan : Scan) (available : ℕ) (run : Run) : Type 0 where
+  pub within : run.taken ≤ available
+  pub sound : IsSound run.scan
+  pub leads : (bytes : List ℕ) → length bytes ≡ run.taken → Leads scan bytes run.scan
+  pub due : run.taken < available → IsAtByte run.scan.part
+
+-- what a scan of these bytes says of the item
+abbrev pub OutcomeMeans : Scan → List ℕ → Outcome → Type 0
+OutcomeMeans scan bytes (Open next) = IsSound next × Leads scan bytes next
+OutcomeMeans scan bytes (End taken) = (0 < taken) × (taken ≤ length bytes) × Finishes scan (take taken bytes)
+OutcomeMeans scan bytes (Broken at next kind) = (at < length bytes) × IsSound next × Leads scan (take at bytes) next × ((tail : List ℕ) → Finishes scan (take (at + 1) bytes ++ tail) → ⊥)

@@ -1,6 +1,6 @@
 //! Where a reader stands in an item, and how one byte moves it on.
 ghost use Rattle.std.specs.Prelude.{◌≡◌, ◌≤◌, ◌==◌, if◌then◌else◌, min};
-ghost use Rattle.resp_text.specs.Residual.{IsSound, IsAtByte, StepMeans, step_if, digit_behind, number_step, step_of};
+ghost use Rattle.resp_text.specs.Residual.{IsSound, IsAtByte, StepMeans, step_if, digit_behind, number_step, step_of, PassesOver, Leads, OutcomeMeans};
 
 use crate::fault::ProtocolKind;
 
@@ -65,6 +65,29 @@ pub(crate) enum Step {
     Break(ProtocolKind),
 }
 
+/// A reader behind bytes of a word.
+#[derive(Clone, Copy, Debug, PartialEq, Eq)]
+pub(crate) struct Run {
+    pub(crate) scan: Scan,
+    /// How many bytes were passed over.
+    pub(crate) taken: usize,
+}
+
+/// What a scan of some bytes came to.
+#[derive(Clone, Copy, Debug, PartialEq, Eq)]
+pub(crate) enum Outcome {
+    /// The bytes end within the item.
+    Open(Scan),
+    /// The item ends behind so many bytes.
+    End(usize),
+    /// The byte at this place breaks the item.
+    Broken {
+        at: usize,
+        scan: Scan,
+        kind: ProtocolKind,
+    },
+}
+
 impl Scan {
     /// Before the first byte of an item.
     pub(crate) const START: Scan = Scan {
@@ -80,6 +103,22 @@ impl Scan {
         ensures { StepMeans self byte result }
     {
         self.step_by(byte)
+    }
+
+    /// Passes over bytes of a word, as many as are there.
+    fn pass_over(self, available: usize) -> Run
+        requires { IsSound self }
+        ensures { PassesOver self available result }
+    {
+        let Part::Body(left) = self.part else {
+            return Run { scan: self, taken: 0 };
+        };
+        let taken = available.min(left as usize);
+        let part = Part::Body(left - taken as u32);
+        Run {
+            scan: Scan { part, ..self },
+            taken,
+        }
     }
 
     fn step_by(self, byte: u8) -> Step
@@ -212,4 +251,28 @@ fn digit_behind(high: u32, byte: u8, most: u32) -> Option<u32>
     }
     let n = high * 10 + u32::from(byte - b'0');
     if n <= most { Some(n) } else { None }
+}
+
+/// Reads on in an item, up to its end.
+pub(crate) fn scan_item(scan: Scan, bytes: &[u8]) -> Outcome
+    requires { IsSound scan }
+    ensures { OutcomeMeans scan bytes.now result }
+{
+    let mut scan = scan;
+    let mut at = 0;
+    while at < bytes.len() {
+        let run = scan.pass_over(bytes.len() - at);
+        scan = run.scan;
+        at += run.taken;
+        if at == bytes.len() {
+            return Outcome::Open(scan);
+        }
+        match scan.step(bytes[at]) {
+            Step::Go(next) => scan = next,
+            Step::Whole => return Outcome::End(at + 1),
+            Step::Break(kind) => return Outcome::Broken { at, scan, kind },
+        }
+        at += 1;
+    }
+    Outcome::Open(scan)
 }
