@@ -3,3 +3,4 @@ pub mod Buffers
 pub mod Residuals
 pub mod Steps
 pub mod Scans
+pub mod Texts

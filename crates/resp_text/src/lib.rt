@@ -10,6 +10,7 @@ mod fault;
 mod reply;
 mod request;
 mod scan;
+mod spelled;
 
 pub use fault::{FeedFault, ProtocolKind};
 pub use reply::{ErrorKind, Reply, reply_text};
