@@ -4,3 +4,4 @@ pub mod Residuals
 pub mod Steps
 pub mod Scans
 pub mod Texts
+pub mod Grammars

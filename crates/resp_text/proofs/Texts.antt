@@ -11,7 +11,7 @@ StandsInLine text at number = (n : ℕ) (digits more : List ℕ) → HasLine tex
     (left : List ℕ) × GoesOn number left n × (drop at text ≡ left ++ 13 ∷ 10 ∷ more) × (at + length left ≡ length digits + 1)
 
 -- a number goes on from nothing
-GoesOn-number : (digits : List ℕ) (n : ℕ) → IsNumber digits n → GoesOn 0 digits n
+pub GoesOn-number : (digits : List ℕ) (n : ℕ) → IsNumber digits n → GoesOn 0 digits n
 GoesOn-number [] n h = absurd h
 GoesOn-number (d ∷ ds) n h = (h.0, h.1, subst (λ (high : ℕ). GoesOn high ds n) (omega arith) h.3)
 
