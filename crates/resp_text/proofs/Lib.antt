@@ -5,3 +5,5 @@ pub mod Steps
 pub mod Scans
 pub mod Texts
 pub mod Grammars
+pub mod Completions
+pub mod PieceLaws

@@ -9,9 +9,11 @@
 mod fault;
 mod reply;
 mod request;
+mod requests;
 mod scan;
 mod spelled;
 
 pub use fault::{FeedFault, ProtocolKind};
 pub use reply::{ErrorKind, Reply, reply_text};
 pub use request::Request;
+
