@@ -1,31 +1,14 @@
 -- How what is read of one list of bytes goes on with what is read of the next.
 use Rattle.std.proofs.Common.{◌≡◌, ℕ, ◌+◌, ◌-◌, ◌*◌, ◌<◌, ◌≤◌, ◌≢◌, ◌⊎◌, ◌↔◌, inl, inr, zero, suc, List, [], ◌∷◌, ◌++◌, length, take, drop, get_or, refl, sym, ap, subst, ◌∙◌, arith, length-append, Option, Some, None, option_to_list}
 use Rattle.std.proofs.lemmas.List.{append_assoc, append-nil, take_all, drop-take, length-drop, length-take-le, take-append-le, drop_at, take_at, take-append-drop}
-use Rattle.std.proofs.Math.Seq.{take-add}
-use Rattle.resp_text.specs.Grammar.{IsRequest, IsSkipped, IsItem, IsStream, IsWhole}
+use Rattle.std.proofs.Math.Seq.{take-add, take-append-add, drop-append-add}
+use Rattle.resp_text.specs.Grammar.{IsItem, IsStream, IsWhole}
 use Rattle.resp_text.specs.Residual.{IsSound, Finishes, Leads}
 use Rattle.resp_text.specs.Pieces.{StandsBehind, EndsFor, Reads}
 use Rattle.resp_text.specs.declared.scan.Scan.{Scan}
 use Rattle.resp_text.specs.declared.requests.Reached.{Reached}
 use Rattle.resp_text.specs.declared.fault.ProtocolKind.{ProtocolKind}
-use Rattle.resp_text.proofs.Grammars.{request_second, item_some, IsStream-append, IsStream-item}
-
--- a whole item has a second byte
-pub second_within : (text : List ℕ) → IsWhole text → 1 < length text
-second_within text (i, item) = omega (arith, item_some i text item)
-
--- a whole item whose second byte is neither `0` nor `-` is a request
-pub whole_request : (text : List ℕ) → IsWhole text → get_or text 1 0 ≢ 48 → get_or text 1 0 ≢ 45 → (words : List (List ℕ)) × IsRequest text words
-whole_request text (None, inl e) zero minus = absurd (zero (ap (λ (t : List ℕ). get_or t 1 0) e))
-whole_request text (None, inr e) zero minus = absurd (minus (ap (λ (t : List ℕ). get_or t 1 0) e))
-whole_request text (Some words, r) zero minus = (words, r)
-
--- a whole item whose second byte is one of them is skipped
-pub whole_skipped : (text : List ℕ) → IsWhole text → get_or text 1 0 < 49 → IsSkipped text
-whole_skipped text (None, item) low = item
-whole_skipped [] (Some words, r) low = absurd (omega (arith, item_some (Some words) [] r))
-whole_skipped (b ∷ []) (Some words, r) low = absurd (omega (arith, item_some (Some words) (b ∷ []) r))
-whole_skipped (b ∷ c ∷ y) (Some words, r) low = absurd (omega (arith, low, request_second (b ∷ c ∷ y) words b c [] (y ++ []) r refl))
+use Rattle.resp_text.proofs.Grammars.{IsStream-append, IsStream-item}
 
 -- the requests of whole items came
 abbrev pub Came : List (List (List ℕ)) → List (List (List ℕ)) → List ℕ → Type 0
@@ -90,3 +73,67 @@ ends_on scan rest x stands finishes = (stands.leads x).1 finishes
 
 pub breaks_on : (scan : Scan) (rest x : List ℕ) → StandsBehind scan rest → ((tail : List ℕ) → Finishes scan (x ++ tail) → ⊥) → (tail : List ℕ) → IsWhole ((rest ++ x) ++ tail) → ⊥
 breaks_on scan rest x stands broken tail h = broken tail ((stands.leads (x ++ tail)).0 (subst IsWhole (append_assoc rest x tail) h))
+
+-- what is read behind a whole item
+between : (text more : List ℕ) (n from to : ℕ) → n ≡ length text → drop (n + from) (take (n + to) (text ++ more)) ≡ drop from (take to more)
+between text more n from to len =
+    ap (λ (k : ℕ). drop (k + from) (take (k + to) (text ++ more))) len
+    ∙ ap (drop (length text + from)) (take-append-add text more to) ∙ drop-append-add text (take to more) from
+
+-- all bytes of a list, or those before a break, behind a whole item
+ends_after : (kind : Option ProtocolKind) (text more : List ℕ) (n whole end : ℕ) → n ≡ length text → EndsFor more whole end kind → EndsFor (text ++ more) (n + whole) (n + end) kind
+ends_after None text more n whole end len e = omega (arith, e, len, length-append text more)
+ends_after (Some kind) text more n whole end len (within, broken) =
+    (omega (arith, within, len, length-append text more),
+     λ tail h. broken tail (subst IsWhole (ap (λ (t : List ℕ). t ++ tail) (ap (λ (k : ℕ). drop (n + whole) (take k (text ++ more))) (omega arith) ∙ between text more n whole (end + 1) len)) h))
+
+pub reads_after : (old mid new : List (List (List ℕ))) (text more : List ℕ) (n : ℕ) (r : Reached) → n ≡ length text → ItemCame old mid text → Reads mid new more r →
+    Reads old new (text ++ more) (record { scan = r.scan; whole = n + r.whole; end = n + r.end; kind = r.kind })
+reads_after old mid new text more n r len item reads =
+    let front : take (n + r.whole) (text ++ more) ≡ text ++ take r.whole more = ap (λ (k : ℕ). take (k + r.whole) (text ++ more)) len ∙ take-append-add text more r.whole in
+    let came = came_append old mid new text (take r.whole more) (came_item old mid text item) (reads.came, reads.stream, reads.waiting) in
+    record {
+      came = came.0;
+      stream = subst (λ (t : List ℕ). IsStream t came.0) (sym front) came.1;
+      waiting = came.2;
+      order = omega (arith, reads.order);
+      within = omega (arith, reads.within, len, length-append text more);
+      stands = subst (StandsBehind r.scan) (sym (between text more n r.whole r.end len)) reads.stands;
+      ends = ends_after r.kind text more n r.whole r.end len reads.ends
+    }
+
+-- nothing came
+came_none : (old : List (List (List ℕ))) → Came old old []
+came_none old = ([], ([], refl, refl), sym (append-nil old))
+
+-- an item that began before the piece goes on behind it, or breaks in it
+pub reads_open_first : (old new : List (List (List ℕ))) (rest piece : List ℕ) (scan : Scan) (end : ℕ) → new ≡ old → end ≡ length rest + length piece → StandsBehind scan (rest ++ piece) →
+    Reads old new (rest ++ piece) (record { scan = scan; whole = 0; end = end; kind = None })
+reads_open_first old new rest piece scan end same len stands =
+    subst (λ (k : ℕ). Reads old new (rest ++ piece) (record { scan = scan; whole = 0; end = k; kind = None })) (length-append rest piece ∙ sym len)
+    (reads_open old new (rest ++ piece) (rest ++ piece) scan 0 (omega arith) refl (subst (λ (n : List (List (List ℕ))). Came old n []) (sym same) (came_none old)) stands)
+
+pub reads_broken_first : (old new : List (List (List ℕ))) (rest piece : List ℕ) (scan : Scan) (kind : ProtocolKind) (at end : ℕ) → new ≡ old → end ≡ length rest + at → at < length piece → StandsBehind scan (rest ++ take at piece) →
+    ((tail : List ℕ) → IsWhole ((rest ++ take (at + 1) piece) ++ tail) → ⊥) →
+    Reads old new (rest ++ piece) (record { scan = scan; whole = 0; end = end; kind = Some kind })
+reads_broken_first old new rest piece scan kind at end same len within stands broken =
+    subst (λ (k : ℕ). Reads old new (rest ++ piece) (record { scan = scan; whole = 0; end = k; kind = Some kind })) (omega (arith, len))
+    (reads_broken old new (rest ++ piece) (rest ++ piece) scan kind 0 (length rest + at) (omega arith) refl (subst (λ (n : List (List (List ℕ))). Came old n []) (sym same) (came_none old))
+      (omega (arith, within, length-append rest piece))
+      (subst (StandsBehind scan) (sym (take-append-add rest piece at)) stands)
+      (λ tail h. broken tail (subst IsWhole (ap (λ (t : List ℕ). t ++ tail) (ap (λ (k : ℕ). take k (rest ++ piece)) (omega arith) ∙ take-append-add rest piece (at + 1))) h)))
+
+-- the bytes of the item in which the reader then stands
+pub rest_after : (rest piece : List ℕ) (taken from to n : ℕ) → taken ≤ length piece → n ≡ length rest + taken → drop from (take to (drop taken piece)) ≡ drop (n + from) (take (n + to) (rest ++ piece))
+rest_after rest piece taken from to n fits len =
+    let text : List ℕ = rest ++ take taken piece in
+    let size : n ≡ length text = omega (arith, len, length-append rest (take taken piece), length-take-le taken piece fits) in
+    sym (between text (drop taken piece) n from to size) ∙ ap (λ (t : List ℕ). drop (n + from) (take (n + to) t)) (append_assoc rest (take taken piece) (drop taken piece) ∙ ap (λ (t : List ℕ). rest ++ t) (take-append-drop taken piece))
+
+pub reads_behind_item : (old mid new : List (List (List ℕ))) (rest piece : List ℕ) (taken n : ℕ) (r : Reached) → taken ≤ length piece → n ≡ length rest + taken → ItemCame old mid (rest ++ take taken piece) → Reads mid new (drop taken piece) r →
+    Reads old new (rest ++ piece) (record { scan = r.scan; whole = n + r.whole; end = n + r.end; kind = r.kind })
+reads_behind_item old mid new rest piece taken n r fits len item reads =
+    let size : n ≡ length (rest ++ take taken piece) = omega (arith, len, length-append rest (take taken piece), length-take-le taken piece fits) in
+    subst (λ (t : List ℕ). Reads old new t (record { scan = r.scan; whole = n + r.whole; end = n + r.end; kind = r.kind }))
+    (append_assoc rest (take taken piece) (drop taken piece) ∙ ap (λ (t : List ℕ). rest ++ t) (take-append-drop taken piece))
+    (reads_after old mid new (rest ++ take taken piece) (drop taken piece) n r size item reads)

@@ -16,4 +16,5 @@ mod spelled;
 pub use fault::{FeedFault, ProtocolKind};
 pub use reply::{ErrorKind, Reply, reply_text};
 pub use request::Request;
+pub use requests::Requests;
 

@@ -1,6 +1,4 @@
-use Rattle.std.proofs.Common.{◌≡◌, ◌<◌, get_or, ap, ◌∙◌, arith, Some, None, sym}
-use Rattle.std.proofs.lemmas.List.{append-nil}
-use Rattle.resp_text.proofs.PieceLaws.{second_within, whole_request, whole_skipped}
+use Rattle.std.proofs.Common.{Some}
 use Rattle.resp_text.proofs.requests.push_item.Goals as goal
 
 pub returns-clause-added : goal.returns-clause-added
