@@ -7,3 +7,4 @@ pub mod Texts
 pub mod Grammars
 pub mod Completions
 pub mod PieceLaws
+pub mod Feeds

@@ -221,22 +221,24 @@ impl Requests {
         }
         let (had, kept) = (self.waiting.len(), self.rest.len());
         let (waiting, rest) = (&mut self.waiting, &mut self.rest);
-        match read_piece(self.alloc, waiting, rest, self.scan, piece) {
-            Ok(reached) => {
-                let place = self.before + reached.end as u64;
-                self.scan = reached.scan;
-                self.before += reached.whole as u64;
-                self.fault = reached.kind.map(|kind| FeedFault::Protocol { place, kind });
-            }
+        let reached = match read_piece(self.alloc, waiting, rest, self.scan, piece) {
+            Ok(reached) => reached,
             Err(NoMemory) => {
                 self.waiting.truncate(had);
                 self.rest.truncate(kept);
                 return Err(FeedFault::NoMemory);
             }
-        }
-        match self.fault {
-            Some(fault) => Err(fault),
+        };
+        let place = self.before + reached.end as u64;
+        self.scan = reached.scan;
+        self.before += reached.whole as u64;
+        match reached.kind {
             None => Ok(()),
+            Some(kind) => {
+                let fault = FeedFault::Protocol { place, kind };
+                self.fault = Some(fault);
+                Err(fault)
+            }
         }
     }
 
