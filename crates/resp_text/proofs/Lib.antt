@@ -8,3 +8,6 @@ pub mod Grammars
 pub mod Completions
 pub mod PieceLaws
 pub mod Feeds
+pub mod Fronts
+pub mod Spellings
+pub mod Readings

@@ -1,5 +1,5 @@
 -- The bytes of a reply: RESP2's simple strings, errors, integers, bulk strings and empty array.
-use Rattle.std.specs.Prelude.{ℕ, List, [], ◌∷◌, ◌++◌, length, codes, decimal}
+use Rattle.std.specs.Prelude.{◌≡◌, ℕ, List, [], ◌∷◌, ◌++◌, length, codes, decimal}
 use Rattle.std.specs.Fmt.{signed_decimal}
 use Rattle.resp_text.specs.Grammar.{line_end}
 use Rattle.resp_text.specs.declared.reply.Reply.{Reply}
@@ -31,3 +31,7 @@ text_of reply.Null = codes "$-1\r\n"
 text_of (reply.Number value) = (58 ∷ []) ++ signed_decimal value ++ line_end
 text_of (reply.Bulk bytes) = (36 ∷ []) ++ decimal (length bytes) ++ line_end ++ bytes ++ line_end
 text_of (reply.Error kind) = (45 ∷ []) ++ error_text kind ++ line_end
+
+-- a front of the text stands at the end of what was there
+abbrev pub AppendsFront : List ℕ → List ℕ → List ℕ → Type 0
+AppendsFront old new text = (front rest : List ℕ) × (text ≡ front ++ rest) × (new ≡ old ++ front)

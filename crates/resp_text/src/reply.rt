@@ -36,7 +36,7 @@ pub enum Reply {
     Error(ErrorKind),
 }
 
-ghost use Rattle.resp_text.specs.Replies.{error_text, text_of};
+ghost use Rattle.resp_text.specs.Replies.{error_text, text_of, AppendsFront};
 ghost use Rattle.resp_text.specs.Grammar.{line_end};
 
 impl ErrorKind {
@@ -60,9 +60,10 @@ impl ErrorKind {
     }
 }
 
-/// Appends the bytes of a reply. After `NoMemory` a front of them was appended.
+/// Appends the bytes of a reply.
 pub fn reply_text(reply: &Reply, out: &mut Bytes) -> Result<(), NoMemory>
-    ensures { OnOk result (out.new ≡ out.old ++ text_of reply.now) }
+    ensures whole { OnOk result (out.new ≡ out.old ++ text_of reply.now) }
+    ensures front { OnErr result (AppendsFront out.old out.new (text_of reply.now)) }
 {
     match reply {
         Reply::Ok => out.push_all(b"+OK\r\n"),
@@ -78,7 +79,8 @@ pub fn reply_text(reply: &Reply, out: &mut Bytes) -> Result<(), NoMemory>
 
 /// Appends a line: its first bytes, the rest of it, and a line end.
 fn push_line(out: &mut Bytes, first: &[u8], rest: &[u8]) -> Result<(), NoMemory>
-    ensures { OnOk result (out.new ≡ out.old ++ (first.now ++ rest.now ++ line_end)) }
+    ensures whole { OnOk result (out.new ≡ out.old ++ (first.now ++ rest.now ++ line_end)) }
+    ensures front { OnErr result (AppendsFront out.old out.new (first.now ++ rest.now ++ line_end)) }
 {
     out.push_all(first)?;
     out.push_all(rest)?;
@@ -87,7 +89,8 @@ fn push_line(out: &mut Bytes, first: &[u8], rest: &[u8]) -> Result<(), NoMemory>
 
 /// Appends a bulk string: the line of `$` and its length, its bytes, and a line end.
 fn push_bulk(out: &mut Bytes, bytes: &[u8]) -> Result<(), NoMemory>
-    ensures { OnOk result (out.new ≡ out.old ++ text_of (Reply.Bulk bytes.now)) }
+    ensures whole { OnOk result (out.new ≡ out.old ++ text_of (Reply.Bulk bytes.now)) }
+    ensures front { OnErr result (AppendsFront out.old out.new (text_of (Reply.Bulk bytes.now))) }
 {
     push_line(out, b"$", Buffer::new().format(bytes.len()).as_bytes())?;
     out.push_all(bytes)?;

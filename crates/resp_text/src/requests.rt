@@ -1,7 +1,6 @@
 //! A reader of requests, which is fed bytes in pieces.
 ghost use Rattle.std.specs.Prelude.{◌≡◌, ◌+◌, ◌<◌, ◌≤◌, ◌^◌, ◌↔◌, List, ℕ, [], ◌++◌, length, drop, take, Option, Some, None, Err, IsNone, IfSome, IfOk, IfErr, OnOk, OnErr, IsErrOf, option_to_list};
-ghost use Rattle.resp_text.specs.Grammar.{IsItem, IsWhole};
-ghost use Rattle.resp_text.specs.Residual.{IsSound};
+ghost use Rattle.resp_text.specs.Grammar.{IsItem, IsStream, IsWhole};
 ghost use Rattle.resp_text.specs.Pieces.{StandsBehind, Reads, EndsItem, Begins, BeginsBytes};
 
 use crate::fault::{FeedFault, ProtocolKind};
@@ -254,7 +253,11 @@ impl Requests {
 
     /// How many bytes were taken behind the last whole item, be it a request or a skipped one.
     pub fn rest(&self) -> u64
-        ensures { result ≡ length self.now.rest }
+        ensures value { result ≡ length self.now.rest }
+        // It is 0 exactly where all that was taken is whole items.
+        ensures whole { (taken : List ℕ) (given : List (List (List ℕ))) →
+            StandsFor self.now taken given →
+            ((result ≡ 0) ↔ ((requests : List (List (List ℕ))) × IsStream taken requests)) }
     {
         self.rest.len() as u64
     }
