@@ -1,0 +1,21 @@
+//! The outside as the program sees it: where bytes come from and where they go.
+//!
+//! The main types are the traits [`Source`] and [`Sink`]: `write_all(&mut sink, b"ok\n")?` hands a
+//! whole text over. A caller may rely on one sentence: a call answers [`Failed`] only where the
+//! count of faults of that source or sink rose in that call. The README goes on from here.
+#![tactic(auto)]
+
+mod calls;
+mod failed;
+mod mem_sink;
+mod mem_source;
+mod sink;
+mod source;
+#[cfg(test)]
+mod tests;
+
+pub use failed::Failed;
+pub use mem_sink::MemSink;
+pub use mem_source::MemSource;
+pub use sink::{Sink, write_all};
+pub use source::{ReadAllError, Source, read_all};
