@@ -1,13 +1,12 @@
-// A library with one function.
+//! Images: the pairs of a map as the bytes of a file.
+//!
+//! The main type is [`PairList`], pairs with strictly rising keys in one buffer:
+//! `pairs.push(key, value)?` adds one, and `write_image(&pairs, &mut sink)?` writes the image of
+//! all. What is written is a function of the pairs alone. The README beside this crate says what
+//! is proved.
 #![tactic(auto)]
 
-ghost use Rattle.std.specs.Prelude.{◌≡◌};
-ghost use Rattle.image_text.specs.Echo.{echo_of};
+mod pair_end;
+mod pair_list;
 
-// The `ensures` clause is the contract: what `echo` returns is `echo_of` of its argument, a definition
-// in `specs/Echo.antt`, which a caller's clause can cite too.
-pub fn echo(x: usize) -> usize
-    ensures { result ≡ echo_of x }
-{
-    x
-}
+pub use pair_list::PairList;

@@ -35,7 +35,7 @@ words_between-push from bytes (end ∷ ends) word h =
     let low : from ≤ length bytes = omega (arith, h.0, within) in
     let enough : end - from ≤ length (drop from bytes) = omega (arith, length-drop from bytes, within) in
     let same : take (end - from) (drop from (bytes ++ word)) ≡ take (end - from) (drop from bytes) =
-        ap (take (end - from)) (drop-append-le from bytes word low) ∙ take-append-le (end - from) (drop from bytes) word enough in
+    ap (take (end - from)) (drop-append-le from bytes word low) ∙ take-append-le (end - from) (drop from bytes) word enough in
     ap (λ w. w ∷ words_between end (bytes ++ word) (ends ++ length (bytes ++ word) ∷ [])) same
     ∙ ap (λ ws. take (end - from) (drop from bytes) ∷ ws) (words_between-push end bytes ends word h.1)
 

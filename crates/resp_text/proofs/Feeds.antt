@@ -35,11 +35,11 @@ stands_for old new taken piece given r f s =
     record {
       whole = s.whole ++ take r.whole all;
       is = ap (take (old.before + r.end)) (regrouped old taken piece given s) ∙ split s.whole all old.before r.whole r.end s.before f.reads.order f.reads.within
-        ∙ ap (λ (t : List ℕ). (s.whole ++ take r.whole all) ++ t) (sym f.rest);
+          ∙ ap (λ (t : List ℕ). (s.whole ++ take r.whole all) ++ t) (sym f.rest);
       stream = subst (IsStream (s.whole ++ take r.whole all)) (append_assoc given old.waiting f.reads.came ∙ ap (λ (rs : List (List (List ℕ))). given ++ rs) (sym f.reads.waiting))
-        (IsStream-append s.whole (take r.whole all) (given ++ old.waiting) f.reads.came s.stream f.reads.stream);
+          (IsStream-append s.whole (take r.whole all) (given ++ old.waiting) f.reads.came s.stream f.reads.stream);
       before = omega (arith, f.before, s.before, length-append s.whole (take r.whole all), length-take-le r.whole all (omega (arith, f.reads.order, f.reads.within)));
-      unfinished = subst IsUnfinished (sym f.rest) (unfinished r.scan (drop r.whole (take r.end all)) f.reads.stands)
+      unfinished = subst IsUnfinished (sym f.rest) (unfinished r.scan (drop r.whole (take r.end all)) f.reads.stands);
     }
 
 -- all that was fed was read
@@ -56,19 +56,19 @@ breaks_at old new taken piece given r kind some f s =
     let ends : EndsFor all r.whole r.end (Some kind) = subst (EndsFor all r.whole r.end) some f.reads.ends in
     let after = stands_for old new taken piece given r f s in
     let stream : IsStream (s.whole ++ take r.whole all) ((given ++ old.waiting) ++ f.reads.came) =
-        IsStream-append s.whole (take r.whole all) (given ++ old.waiting) f.reads.came s.stream f.reads.stream in
+    IsStream-append s.whole (take r.whole all) (given ++ old.waiting) f.reads.came s.stream f.reads.stream in
     let byte : ℕ = get_or all r.end 0 in
     let room : r.whole ≤ length (take r.end all) = omega (arith, length-take-le r.end all f.reads.within, f.reads.order) in
     let longer : drop r.whole (take (r.end + 1) all) ≡ new.rest ++ byte ∷ [] =
-        ap (drop r.whole) (take_more all r.end 0 ends.0) ∙ drop-append-le r.whole (take r.end all) (byte ∷ []) room ∙ ap (λ (t : List ℕ). t ++ byte ∷ []) (sym f.rest) in
+    ap (drop r.whole) (take_more all r.end 0 ends.0) ∙ drop-append-le r.whole (take r.end all) (byte ∷ []) room ∙ ap (λ (t : List ℕ). t ++ byte ∷ []) (sym f.rest) in
     let text : take (old.before + r.end + 1) (taken ++ piece) ≡ (s.whole ++ take r.whole all) ++ (new.rest ++ byte ∷ []) =
-        ap (λ (k : ℕ). take k (taken ++ piece)) (omega arith) ∙ ap (take (old.before + (r.end + 1))) (regrouped old taken piece given s)
-        ∙ split s.whole all old.before r.whole (r.end + 1) s.before (omega (arith, f.reads.order)) (omega (arith, ends.0))
-        ∙ ap (λ (t : List ℕ). (s.whole ++ take r.whole all) ++ t) longer in
+    ap (λ (k : ℕ). take k (taken ++ piece)) (omega arith) ∙ ap (take (old.before + (r.end + 1))) (regrouped old taken piece given s)
+    ∙ split s.whole all old.before r.whole (r.end + 1) s.before (omega (arith, f.reads.order)) (omega (arith, ends.0))
+    ∙ ap (λ (t : List ℕ). (s.whole ++ take r.whole all) ++ t) longer in
     record {
       within = omega (arith, ends.0, ap length (regrouped old taken piece given s), length-append s.whole all, s.before);
       begun = subst IsBegun (sym after.is) (begun after.whole new.rest (given ++ new.waiting) after.stream after.unfinished);
       broken = λ h. not_begun stream.0 (s.whole ++ take r.whole all) new.rest byte stream.1 after.unfinished
-        (λ tail whole. ends.1 tail (subst IsWhole (sym (append_assoc new.rest (byte ∷ []) tail) ∙ ap (λ (t : List ℕ). t ++ tail) (sym longer)) whole))
-        (subst IsBegun text h)
+          (λ tail whole. ends.1 tail (subst IsWhole (sym (append_assoc new.rest (byte ∷ []) tail) ∙ ap (λ (t : List ℕ). t ++ tail) (sym longer)) whole))
+          (subst IsBegun text h);
     }

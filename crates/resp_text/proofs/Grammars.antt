@@ -36,7 +36,7 @@ one_line s t m n ds es x y e a b =
     record {
       number = GoesOn-one 0 m n es (subst (λ (ds : List ℕ). GoesOn 0 ds m) ends.0 (GoesOn-number ds m a.number)) (GoesOn-number es n b.number);
       digits = ends.0;
-      more = tail_is 10 10 x y ends.1
+      more = tail_is 10 10 x y ends.1;
     }
 
 -- a line with more behind it
@@ -44,7 +44,7 @@ line_longer : (text : List ℕ) (n : ℕ) (digits more x : List ℕ) → HasLine
 line_longer text n digits more x line = record {
   first = line.first;
   number = line.number;
-  is = ap (λ (t : List ℕ). t ++ x) line.is ∙ ap (λ (t : List ℕ). line.first ∷ t) (append_assoc digits (13 ∷ 10 ∷ more) x)
+  is = ap (λ (t : List ℕ). t ++ x) line.is ∙ ap (λ (t : List ℕ). line.first ∷ t) (append_assoc digits (13 ∷ 10 ∷ more) x);
 }
 
 -- as many words at the front of a text are the same words
@@ -57,7 +57,7 @@ one_words a b x y (w ∷ ws) (v ∷ vs) p q n e =
     let g = word_first b v vs q in
     let one = one_line (a ++ x) (b ++ y) (length w) (length v) _ _ _ _ e (line_longer a _ _ _ x f.line) (line_longer b _ _ _ y g.line) in
     let same : w ++ (13 ∷ 10 ∷ (f.after ++ x)) ≡ v ++ (13 ∷ 10 ∷ (g.after ++ y)) =
-        sym (append_assoc w (13 ∷ 10 ∷ f.after) x) ∙ one.more ∙ append_assoc v (13 ∷ 10 ∷ g.after) y in
+    sym (append_assoc w (13 ∷ 10 ∷ f.after) x) ∙ one.more ∙ append_assoc v (13 ∷ 10 ∷ g.after) y in
     let word : w ≡ v = sym (take_at w _ (length w) refl) ∙ ap (take (length w)) same ∙ take_at v _ (length w) (sym one.number) in
     let behind : 13 ∷ 10 ∷ (f.after ++ x) ≡ 13 ∷ 10 ∷ (g.after ++ y) = sym (drop_at w _ (length w) refl) ∙ ap (drop (length w)) same ∙ drop_at v _ (length w) (sym one.number) in
     let rest = one_words f.after g.after x y ws vs f.more g.more (omega (arith, n)) (tail_is 10 10 _ _ (tail_is 13 13 _ _ behind)) in
@@ -91,7 +91,7 @@ one_text : (i j : Option (List (List ℕ))) (a b x y : List ℕ) → i ≡ j →
 one_text i j a b x y item more e = record {
   item = item;
   text = append_cancel_right a b y (ap (λ (z : List ℕ). a ++ z) (sym more) ∙ e);
-  more = more
+  more = more;
 }
 
 one_skipped : (a b x y : List ℕ) → IsSkipped a → IsSkipped b → a ++ x ≡ b ++ y → x ≡ y
@@ -145,7 +145,7 @@ fronts (c ∷ a) [] x y e = inl (c ∷ a, refl, sym e)
 fronts (c ∷ a) (d ∷ b) x y e =
     let first : c ≡ d = head_is c d _ _ e in
     elim (fronts a b x y (tail_is c d _ _ e)) [
-      inl (k, p, q) ↦ (let both : a ≡ b ++ k = p in inl (k, cc, q))
+      | inl (k, p, q) ↦ (let both : a ≡ b ++ k = p in inl (k, cc, q))
       | inr (k, p, q) ↦ (let both : b ≡ a ++ k = p in inr (k, cc, q))
     ]
 
@@ -168,23 +168,23 @@ pub record OneReading (is js : List (Option (List (List ℕ)))) (whole whole' re
 
 pub one_reading : (is js : List (Option (List (List ℕ)))) (whole whole' rest rest' : List ℕ) → AreItems whole is → AreItems whole' js → IsUnfinished rest → IsUnfinished rest' → whole ++ rest ≡ whole' ++ rest' → OneReading is js whole whole' rest rest'
 one_reading is js whole whole' rest rest' p q u v e = elim (fronts whole whole' rest rest' e) [
-    inl (k, longer, behind) ↦
+  | inl (k, longer, behind) ↦
       (let cut = AreItems-cut whole' k js is q (subst (λ (t : List ℕ). AreItems t is) longer p) in
-       let none = none_in_unfinished cut.0 k rest' rest cut.2 behind v in
-       record {
-         items = cut.1 ∙ ap (λ (ks : List (Option (List (List ℕ)))). js ++ ks) none.0 ∙ append-nil js;
-         whole_text = longer ∙ ap (λ (k : List ℕ). whole' ++ k) none.1 ∙ append-nil whole';
-         rest_text = sym (behind ∙ ap (λ (k : List ℕ). k ++ rest) none.1)
-       })
-    | inr (k, longer, behind) ↦
+      let none = none_in_unfinished cut.0 k rest' rest cut.2 behind v in
+      record {
+        items = cut.1 ∙ ap (λ (ks : List (Option (List (List ℕ)))). js ++ ks) none.0 ∙ append-nil js;
+        whole_text = longer ∙ ap (λ (k : List ℕ). whole' ++ k) none.1 ∙ append-nil whole';
+        rest_text = sym (behind ∙ ap (λ (k : List ℕ). k ++ rest) none.1);
+      })
+  | inr (k, longer, behind) ↦
       (let cut = AreItems-cut whole k is js p (subst (λ (t : List ℕ). AreItems t js) longer q) in
-       let none = none_in_unfinished cut.0 k rest rest' cut.2 behind u in
-       record {
-         items = sym (cut.1 ∙ ap (λ (ks : List (Option (List (List ℕ)))). is ++ ks) none.0 ∙ append-nil is);
-         whole_text = sym (longer ∙ ap (λ (k : List ℕ). whole ++ k) none.1 ∙ append-nil whole);
-         rest_text = behind ∙ ap (λ (k : List ℕ). k ++ rest') none.1
-       })
-  ]
+      let none = none_in_unfinished cut.0 k rest rest' cut.2 behind u in
+      record {
+        items = sym (cut.1 ∙ ap (λ (ks : List (Option (List (List ℕ)))). is ++ ks) none.0 ∙ append-nil is);
+        whole_text = sym (longer ∙ ap (λ (k : List ℕ). whole ++ k) none.1 ∙ append-nil whole);
+        rest_text = behind ∙ ap (λ (k : List ℕ). k ++ rest') none.1;
+      })
+]
 
 -- a byte with which an unfinished item is none breaks the stream
 pub not_begun : (is : List (Option (List (List ℕ)))) (whole t : List ℕ) (b : ℕ) → AreItems whole is → IsUnfinished t → ((tail : List ℕ) → IsWhole (t ++ b ∷ tail) → ⊥) → IsBegun (whole ++ (t ++ b ∷ [])) → ⊥
@@ -192,14 +192,15 @@ not_begun is whole t b p u broken (more, requests, (items, q, from_items)) =
     let regrouped : (whole ++ (t ++ b ∷ [])) ++ more ≡ whole ++ (t ++ b ∷ more) = append_assoc whole (t ++ b ∷ []) more ∙ ap (λ (z : List ℕ). whole ++ z) (append_assoc t (b ∷ []) more) in
     let cut = AreItems-cut whole (t ++ b ∷ more) is items p (subst (λ (t : List ℕ). AreItems t items) regrouped q) in
     first cut.0 cut.2 where
-  compare : (j : Option (List (List ℕ))) (front rest : List ℕ) → IsItem front j → ((k : List ℕ) × (t ≡ front ++ k) × (rest ≡ k ++ b ∷ more)) ⊎ ((k : List ℕ) × (front ≡ t ++ k) × (b ∷ more ≡ k ++ rest)) → ⊥
-  compare j front rest item (inl (k, longer, behind)) = no_item_in_unfinished j front k t item longer u
-  compare j front rest item (inr ([], longer, behind)) = no_item_in_unfinished j front [] t item (sym (append-nil t) ∙ sym longer ∙ sym (append-nil front)) u
-  compare j front rest item (inr (c ∷ k, longer, behind)) =
-      broken k (j, subst (λ (z : List ℕ). IsItem z j) (longer ∙ ap (λ (c : ℕ). t ++ c ∷ k) (sym (head_is b c _ _ behind))) item)
-  first : (ks : List (Option (List (List ℕ)))) → AreItems (t ++ b ∷ more) ks → ⊥
-  first [] nil = omega (arith, ap length nil, length-append t (b ∷ more))
-  first (j ∷ js) (front, rest, item, e, after) = compare j front rest item (fronts t front (b ∷ more) rest e)
+      compare : (j : Option (List (List ℕ))) (front rest : List ℕ) → IsItem front j → ((k : List ℕ) × (t ≡ front ++ k) × (rest ≡ k ++ b ∷ more)) ⊎ ((k : List ℕ) × (front ≡ t ++ k) × (b ∷ more ≡ k ++ rest)) → ⊥
+      compare j front rest item (inl (k, longer, behind)) = no_item_in_unfinished j front k t item longer u
+      compare j front rest item (inr ([], longer, behind)) = no_item_in_unfinished j front [] t item (sym (append-nil t) ∙ sym longer ∙ sym (append-nil front)) u
+      compare j front rest item (inr (c ∷ k, longer, behind)) =
+          broken k (j, subst (λ (z : List ℕ). IsItem z j) (longer ∙ ap (λ (c : ℕ). t ++ c ∷ k) (sym (head_is b c _ _ behind))) item)
+
+      first : (ks : List (Option (List (List ℕ)))) → AreItems (t ++ b ∷ more) ks → ⊥
+      first [] nil = omega (arith, ap length nil, length-append t (b ∷ more))
+      first (j ∷ js) (front, rest, item, e, after) = compare j front rest item (fronts t front (b ∷ more) rest e)
 
 -- the requests of items behind items
 pub requests_of-append : (is js : List (Option (List (List ℕ)))) → requests_of (is ++ js) ≡ requests_of is ++ requests_of js

@@ -38,7 +38,7 @@ reads_open old new bytes behind scan whole fits e (came, stream, is) stands = re
   order = fits;
   within = omega arith;
   stands = subst (StandsBehind scan) (e ∙ ap (drop whole) (sym (take_all (length bytes) bytes (omega arith)))) stands;
-  ends = refl
+  ends = refl;
 }
 
 pub reads_broken : (old new : List (List (List ℕ))) (bytes behind : List ℕ) (scan : Scan) (kind : ProtocolKind) (whole at : ℕ) → whole ≤ length bytes → behind ≡ drop whole bytes → Came old new (take whole bytes) →
@@ -47,7 +47,7 @@ pub reads_broken : (old new : List (List (List ℕ))) (bytes behind : List ℕ) 
 reads_broken old new bytes behind scan kind whole at fits e (came, stream, is) within stands broken =
     let inside : whole + at < length bytes = omega (arith, within, ap length e, length-drop whole bytes) in
     let byte : drop whole (take (whole + at + 1) bytes) ≡ take (at + 1) behind =
-        ap (λ (n : ℕ). drop whole (take n bytes)) (omega arith) ∙ drop-take whole (at + 1) bytes ∙ ap (take (at + 1)) (sym e) in
+    ap (λ (n : ℕ). drop whole (take n bytes)) (omega arith) ∙ drop-take whole (at + 1) bytes ∙ ap (take (at + 1)) (sym e) in
     record {
       came = came;
       stream = stream;
@@ -55,16 +55,17 @@ reads_broken old new bytes behind scan kind whole at fits e (came, stream, is) w
       order = omega arith;
       within = omega (arith, inside);
       stands = subst (StandsBehind scan) (ap (take at) e ∙ sym (drop-take whole at bytes)) stands;
-      ends = (inside, λ tail h. broken tail (subst IsWhole (ap (λ (t : List ℕ). t ++ tail) byte) h))
+      ends = (inside, λ tail h. broken tail (subst IsWhole (ap (λ (t : List ℕ). t ++ tail) byte) h));
     }
 
 -- a reader that stood behind some bytes stands behind those that follow
 pub stands_on : (scan next : Scan) (rest x : List ℕ) → StandsBehind scan rest → IsSound next → Leads scan x next → StandsBehind next (rest ++ x)
 stands_on scan next rest x stands sound leads = record {
   sound = sound;
-  leads = λ tail.
-    (λ h. (leads tail).0 ((stands.leads (x ++ tail)).0 (subst IsWhole (append_assoc rest x tail) h)),
-     λ h. subst IsWhole (sym (append_assoc rest x tail)) ((stands.leads (x ++ tail)).1 ((leads tail).1 h)))
+  leads = λ tail. (
+    λ h. (leads tail).0 ((stands.leads (x ++ tail)).0 (subst IsWhole (append_assoc rest x tail) h)),
+    λ h. subst IsWhole (sym (append_assoc rest x tail)) ((stands.leads (x ++ tail)).1 ((leads tail).1 h)),
+  );
 }
 
 -- what finishes the item
@@ -83,9 +84,10 @@ between text more n from to len =
 -- all bytes of a list, or those before a break, behind a whole item
 ends_after : (kind : Option ProtocolKind) (text more : List ℕ) (n whole end : ℕ) → n ≡ length text → EndsFor more whole end kind → EndsFor (text ++ more) (n + whole) (n + end) kind
 ends_after None text more n whole end len e = omega (arith, e, len, length-append text more)
-ends_after (Some kind) text more n whole end len (within, broken) =
-    (omega (arith, within, len, length-append text more),
-     λ tail h. broken tail (subst IsWhole (ap (λ (t : List ℕ). t ++ tail) (ap (λ (k : ℕ). drop (n + whole) (take k (text ++ more))) (omega arith) ∙ between text more n whole (end + 1) len)) h))
+ends_after (Some kind) text more n whole end len (within, broken) = (
+  omega (arith, within, len, length-append text more),
+  λ tail h. broken tail (subst IsWhole (ap (λ (t : List ℕ). t ++ tail) (ap (λ (k : ℕ). drop (n + whole) (take k (text ++ more))) (omega arith) ∙ between text more n whole (end + 1) len)) h),
+)
 
 pub reads_after : (old mid new : List (List (List ℕ))) (text more : List ℕ) (n : ℕ) (r : Reached) → n ≡ length text → ItemCame old mid text → Reads mid new more r →
     Reads old new (text ++ more) (record { scan = r.scan; whole = n + r.whole; end = n + r.end; kind = r.kind })
@@ -99,7 +101,7 @@ reads_after old mid new text more n r len item reads =
       order = omega (arith, reads.order);
       within = omega (arith, reads.within, len, length-append text more);
       stands = subst (StandsBehind r.scan) (sym (between text more n r.whole r.end len)) reads.stands;
-      ends = ends_after r.kind text more n r.whole r.end len reads.ends
+      ends = ends_after r.kind text more n r.whole r.end len reads.ends;
     }
 
 -- nothing came
@@ -119,9 +121,9 @@ pub reads_broken_first : (old new : List (List (List ℕ))) (rest piece : List �
 reads_broken_first old new rest piece scan kind at end same len within stands broken =
     subst (λ (k : ℕ). Reads old new (rest ++ piece) (record { scan = scan; whole = 0; end = k; kind = Some kind })) (omega (arith, len))
     (reads_broken old new (rest ++ piece) (rest ++ piece) scan kind 0 (length rest + at) (omega arith) refl (subst (λ (n : List (List (List ℕ))). Came old n []) (sym same) (came_none old))
-      (omega (arith, within, length-append rest piece))
-      (subst (StandsBehind scan) (sym (take-append-add rest piece at)) stands)
-      (λ tail h. broken tail (subst IsWhole (ap (λ (t : List ℕ). t ++ tail) (ap (λ (k : ℕ). take k (rest ++ piece)) (omega arith) ∙ take-append-add rest piece (at + 1))) h)))
+    (omega (arith, within, length-append rest piece))
+    (subst (StandsBehind scan) (sym (take-append-add rest piece at)) stands)
+    (λ tail h. broken tail (subst IsWhole (ap (λ (t : List ℕ). t ++ tail) (ap (λ (k : ℕ). take k (rest ++ piece)) (omega arith) ∙ take-append-add rest piece (at + 1))) h)))
 
 -- the bytes of the item in which the reader then stands
 pub rest_after : (rest piece : List ℕ) (taken from to n : ℕ) → taken ≤ length piece → n ≡ length rest + taken → drop from (take to (drop taken piece)) ≡ drop (n + from) (take (n + to) (rest ++ piece))

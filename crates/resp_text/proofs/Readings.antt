@@ -17,9 +17,10 @@ one_stream whole other rest behind requests others (is, p, r) (js, q, o) u v e =
 
 -- the bytes taken are whole items exactly where none are left
 pub all_whole : (reader : Reading) (taken : List ℕ) (given : List (List (List ℕ))) → StandsFor reader taken given → (length reader.rest ≡ 0) ↔ ((requests : List (List (List ℕ))) × IsStream taken requests)
-all_whole reader taken given s =
-    (λ none. (given ++ reader.waiting, subst (λ (t : List ℕ). IsStream t (given ++ reader.waiting)) (sym (append-nil s.whole) ∙ ap (λ (t : List ℕ). s.whole ++ t) (sym (nil_from_length reader.rest none)) ∙ sym s.is) s.stream),
-     λ h. ap length (one_stream s.whole taken reader.rest [] _ _ s.stream h.1 s.unfinished nothing_unfinished (sym s.is ∙ sym (append-nil taken))).2)
+all_whole reader taken given s = (
+  λ none. (given ++ reader.waiting, subst (λ (t : List ℕ). IsStream t (given ++ reader.waiting)) (sym (append-nil s.whole) ∙ ap (λ (t : List ℕ). s.whole ++ t) (sym (nil_from_length reader.rest none)) ∙ sym s.is) s.stream),
+  λ h. ap length (one_stream s.whole taken reader.rest [] _ _ s.stream h.1 s.unfinished nothing_unfinished (sym s.is ∙ sym (append-nil taken))).2,
+)
 
 -- no bytes behind a break mend it
 pub break_is_final : (bytes more : List ℕ) (place : ℕ) (requests : List (List (List ℕ))) → BreaksAt bytes place → IsStream (bytes ++ more) requests → ⊥

@@ -49,17 +49,19 @@ pub star_followed : (tail : List ℕ) → FollowsStar tail → IsWhole (42 ∷ t
 star_followed tail (inl e) = (None, inl (ap (λ (t : List ℕ). 42 ∷ t) e))
 star_followed tail (inr (inl e)) = (None, inr (ap (λ (t : List ℕ). 42 ∷ t) e))
 star_followed tail (inr (inr (d, more, low, high, e, (ds, rest, m, goes, few, is, (words, spelled, count, short))))) =
-    let many : d - 48 ≤ m = GoesOn-le (d - 48) ds m goes in
-    (Some words, record {
-      line = 42 ∷ ((d ∷ ds) ++ line_end);
-      rest = rest;
-      is = ap (λ (t : List ℕ). 42 ∷ t) (e ∙ ap (λ (t : List ℕ). d ∷ t) (is ∙ sym (append_assoc ds line_end rest)));
-      count = (d ∷ ds, subst (IsNumber (d ∷ ds)) (sym count) (number_from_count d ds m low high goes), refl);
-      some = omega (arith, many, low, count);
-      few = omega (arith, few, count);
-      short = short;
-      spelled = spelled
-    })
+    let many : d - 48 ≤ m = GoesOn-le (d - 48) ds m goes in (
+      Some words,
+      record {
+        line = 42 ∷ ((d ∷ ds) ++ line_end);
+        rest = rest;
+        is = ap (λ (t : List ℕ). 42 ∷ t) (e ∙ ap (λ (t : List ℕ). d ∷ t) (is ∙ sym (append_assoc ds line_end rest)));
+        count = (d ∷ ds, subst (IsNumber (d ∷ ds)) (sym count) (number_from_count d ds m low high goes), refl);
+        some = omega (arith, many, low, count);
+        few = omega (arith, few, count);
+        short = short;
+        spelled = spelled;
+      },
+    )
 
 -- a word begins with `$`
 pub words_begin : (words room b : ℕ) (tail : List ℕ) → 0 < words → AreWordsWithin words room (b ∷ tail) → b ≡ 36
@@ -74,12 +76,30 @@ StartsLength words room tail = (digit : ℕ) × (more : List ℕ) × (48 ≤ dig
 
 length_from_number : (digits rest w tail : List ℕ) (ws : List (List ℕ)) (words room : ℕ) → length w ≤ 1048576 → suc (length ws) ≡ words → length w + total_bytes ws ≤ room → IsNumber digits (length w) → AreWords rest ws → tail ≡ (digits ++ line_end) ++ ((w ++ line_end) ++ rest) → StartsLength words room tail
 length_from_number [] rest w tail ws words room short count total number spelled e = absurd number
-length_from_number (d ∷ ds) rest w tail ws words room short count total number spelled e =
-    (d, (ds ++ line_end) ++ ((w ++ line_end) ++ rest), number.0, number.1, e,
-      (ds, (w ++ line_end) ++ rest, length w, number.3, (λ z. number.2 (omega (arith, z, number.0))), short, omega (arith, total),
-        append_assoc ds line_end ((w ++ line_end) ++ rest),
-        (w, rest, refl, append_assoc w line_end rest,
-          (ws, spelled, omega (arith, count), omega (arith, total)))))
+length_from_number (d ∷ ds) rest w tail ws words room short count total number spelled e = (
+  d,
+  (ds ++ line_end) ++ ((w ++ line_end) ++ rest),
+  number.0,
+  number.1,
+  e,
+  (
+    ds,
+    (w ++ line_end) ++ rest,
+    length w,
+    number.3,
+    (λ z. number.2 (omega (arith, z, number.0))),
+    short,
+    omega (arith, total),
+    append_assoc ds line_end ((w ++ line_end) ++ rest),
+    (
+      w,
+      rest,
+      refl,
+      append_assoc w line_end rest,
+      (ws, spelled, omega (arith, count), omega (arith, total)),
+    ),
+  ),
+)
 
 pub sign_follows : (words room : ℕ) (tail : List ℕ) → 0 < words → AreWordsWithin words room (36 ∷ tail) → StartsLength words room tail
 sign_follows words room tail some ([], nil, count, short) = absurd (omega (arith, some, count))
@@ -93,10 +113,11 @@ sign_followed words room tail some (d, more, low, high, e, (ds, after, m, goes, 
     let number : IsNumber (d ∷ ds) m = (low, high, (λ z. zero_alone (omega (arith, z))), goes) in
     let line : List ℕ = 36 ∷ ((d ∷ ds) ++ line_end) in
     let tail_regrouped : tail ≡ d ∷ ((ds ++ line_end) ++ ((w ++ line_end) ++ rest)) =
-        e ∙ ap (λ (t : List ℕ). d ∷ t) (is ∙ ap (λ (t : List ℕ). ds ++ 13 ∷ 10 ∷ t) (body ∙ sym (append_assoc w line_end rest)) ∙ sym (append_assoc ds line_end ((w ++ line_end) ++ rest))) in
+    e ∙ ap (λ (t : List ℕ). d ∷ t) (is ∙ ap (λ (t : List ℕ). ds ++ 13 ∷ 10 ∷ t) (body ∙ sym (append_assoc w line_end rest)) ∙ sym (append_assoc ds line_end ((w ++ line_end) ++ rest))) in
     let whole : 36 ∷ tail ≡ (line ++ (w ++ line_end)) ++ rest =
-        ap (λ (t : List ℕ). 36 ∷ t) tail_regrouped ∙ sym (append_assoc line (w ++ line_end) rest) in
-    (w ∷ ws,
+    ap (λ (t : List ℕ). 36 ∷ t) tail_regrouped ∙ sym (append_assoc line (w ++ line_end) rest) in (
+      w ∷ ws,
       (line ++ (w ++ line_end), rest, (line, (d ∷ ds, subst (IsNumber (d ∷ ds)) (sym len) number, refl), omega (arith, short, len), refl), whole, spelled),
       omega (arith, count, some),
-      omega (arith, total, len, fits))
+      omega (arith, total, len, fits),
+    )

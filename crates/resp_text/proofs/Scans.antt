@@ -16,22 +16,32 @@ Leads-nil scan tail = (λ h. h, λ h. h)
 
 -- one list of bytes behind another
 pub Leads-append : (a b c : Scan) (x y : List ℕ) → Leads a x b → Leads b y c → Leads a (x ++ y) c
-Leads-append a b c x y first second tail =
-    (λ h. (second tail).0 ((first (y ++ tail)).0 (subst (Finishes a) (append_assoc x y tail) h)),
-     λ h. subst (Finishes a) (sym (append_assoc x y tail)) ((first (y ++ tail)).1 ((second tail).1 h)))
+Leads-append a b c x y first second tail = (
+  λ h. (second tail).0 ((first (y ++ tail)).0 (subst (Finishes a) (append_assoc x y tail) h)),
+  λ h. subst (Finishes a) (sym (append_assoc x y tail)) ((first (y ++ tail)).1 ((second tail).1 h)),
+)
 
 -- some bytes of a word
 pub body_leads : (left words room : ℕ) (bytes : List ℕ) → length bytes ≤ left →
     Leads (record { part = Body left; words = words; room = room }) bytes (record { part = Body (left - length bytes); words = words; room = room })
 body_leads left words room bytes fits tail = (λ h. shorter h, λ h. longer h) where
   shorter : FinishesBody left words room (bytes ++ tail) → FinishesBody (left - length bytes) words room tail
-  shorter (word, rest, len, is, ws) =
-      (drop (length bytes) word, rest, length-drop (length bytes) word ∙ ap (λ (n : ℕ). n - length bytes) len,
-        sym (drop_at bytes tail (length bytes) refl) ∙ ap (drop (length bytes)) is ∙ drop-append-le (length bytes) word (13 ∷ 10 ∷ rest) (omega (arith, len, fits)), ws)
+  shorter (word, rest, len, is, ws) = (
+    drop (length bytes) word,
+    rest,
+    length-drop (length bytes) word ∙ ap (λ (n : ℕ). n - length bytes) len,
+    sym (drop_at bytes tail (length bytes) refl) ∙ ap (drop (length bytes)) is ∙ drop-append-le (length bytes) word (13 ∷ 10 ∷ rest) (omega (arith, len, fits)),
+    ws,
+  )
+
   longer : FinishesBody (left - length bytes) words room tail → FinishesBody left words room (bytes ++ tail)
-  longer (word, rest, len, is, ws) =
-      (bytes ++ word, rest, omega (arith, length-append bytes word, len, fits),
-        ap (λ (t : List ℕ). bytes ++ t) is ∙ sym (append_assoc bytes word (13 ∷ 10 ∷ rest)), ws)
+  longer (word, rest, len, is, ws) = (
+    bytes ++ word,
+    rest,
+    omega (arith, length-append bytes word, len, fits),
+    ap (λ (t : List ℕ). bytes ++ t) is ∙ sym (append_assoc bytes word (13 ∷ 10 ∷ rest)),
+    ws,
+  )
 
 -- bytes of a word are passed over
 pub passes_over : (scan : Scan) (left available taken : ℕ) → scan.part ≡ Body left → taken ≡ min available left →
@@ -40,9 +50,9 @@ passes_over scan left available taken is least = record {
   within = omega (arith, least);
   sound = tt;
   leads = λ bytes len. subst (λ (part : Part). Leads (record { part = part; words = scan.words; room = scan.room }) bytes (record { part = Body (left - taken); words = scan.words; room = scan.room })) (sym is)
-    (subst (λ (n : ℕ). Leads (record { part = Body left; words = scan.words; room = scan.room }) bytes (record { part = Body (left - n); words = scan.words; room = scan.room })) len
+      (subst (λ (n : ℕ). Leads (record { part = Body left; words = scan.words; room = scan.room }) bytes (record { part = Body (left - n); words = scan.words; room = scan.room })) len
       (body_leads left scan.words scan.room bytes (omega (arith, len, least))));
-  due = λ more. omega (arith, least, more)
+  due = λ more. omega (arith, least, more);
 }
 
 -- a reader that is no word's passes nothing over
@@ -51,7 +61,7 @@ passes_none scan available sound due = record {
   within = omega arith;
   sound = sound;
   leads = λ bytes none. subst (λ (bs : List ℕ). Leads scan bs scan) (sym (nil_from_length bytes none)) (Leads-nil scan);
-  due = λ _. due
+  due = λ _. due;
 }
 
 -- the front of a list, and what is passed over behind it

@@ -22,12 +22,12 @@ decimal_on h n (d ∷ ds) some small goes =
 pub number_is_decimal : (digits : List ℕ) (n : ℕ) → n < 2 ^ 64 → IsNumber digits n → digits ≡ decimal n
 number_is_decimal [] n small h = absurd h
 number_is_decimal (d ∷ ds) n small h = elim (cases_eq d 48) [
-    inl zero ↦ (let nil : ds ≡ [] = h.2 zero in
+  | inl zero ↦ (let nil : ds ≡ [] = h.2 zero in
       let value : n ≡ 0 = subst (λ (k : ℕ). n ≡ k) (omega (arith, zero)) (subst (λ (ds : List ℕ). GoesOn (d - 48) ds n) nil h.3) in
       ap (λ (c : ℕ). c ∷ ds) zero ∙ ap (λ (t : List ℕ). 48 ∷ t) nil ∙ sym (ap decimal value ∙ decimal_digit 0 (omega arith)))
-    | inr other ↦ (let value : 48 + (d - 48) ≡ d = omega (arith, h.0) in
+  | inr other ↦ (let value : 48 + (d - 48) ≡ d = omega (arith, h.0) in
       sym (decimal_on (d - 48) n ds (omega (arith, h.0, other)) small h.3 ∙ ap (λ (t : List ℕ). t ++ ds) (decimal_digit (d - 48) (omega (arith, h.1)) ∙ ap (λ (c : ℕ). c ∷ []) value)))
-  ]
+]
 
 one_number : (a b : List ℕ) (n : ℕ) → n < 2 ^ 64 → IsNumber a n → IsNumber b n → a ≡ b
 one_number a b n small p q = number_is_decimal a n small p ∙ sym (number_is_decimal b n small q)

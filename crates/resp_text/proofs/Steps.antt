@@ -57,35 +57,50 @@ same P = (λ h. h, λ h. h)
 
 -- behind the `*`
 star_zero : (words room : ℕ) → StepMeans (at Star words room) 48 (Go (at Zero words room))
-star_zero words room = (tt, λ tail. (λ h. elim (star_follows (48 ∷ tail) h) [ inl e ↦ tail_is 48 48 _ _ e | inr (inl e) ↦ absurd (omega (arith, head_is 48 45 _ _ e)) | inr (inr s) ↦ absurd (omega (arith, s.2, head_is 48 s.0 _ _ s.4)) ],
-    λ e. star_followed (48 ∷ tail) (inl (ap (λ (t : List ℕ). 48 ∷ t) e))))
+star_zero words room = (
+  tt,
+  λ tail. (
+    λ h. elim (star_follows (48 ∷ tail) h) [ inl e ↦ tail_is 48 48 _ _ e | inr (inl e) ↦ absurd (omega (arith, head_is 48 45 _ _ e)) | inr (inr s) ↦ absurd (omega (arith, s.2, head_is 48 s.0 _ _ s.4)) ],
+    λ e. star_followed (48 ∷ tail) (inl (ap (λ (t : List ℕ). 48 ∷ t) e)),
+  ),
+)
 
 star_minus : (words room : ℕ) → StepMeans (at Star words room) 45 (Go (at Minus words room))
-star_minus words room = (tt, λ tail. (λ h. elim (star_follows (45 ∷ tail) h) [ inl e ↦ absurd (omega (arith, head_is 45 48 _ _ e)) | inr (inl e) ↦ tail_is 45 45 _ _ e | inr (inr s) ↦ absurd (omega (arith, s.2, head_is 45 s.0 _ _ s.4)) ],
-    λ e. star_followed (45 ∷ tail) (inr (inl (ap (λ (t : List ℕ). 45 ∷ t) e)))))
+star_minus words room = (
+  tt,
+  λ tail. (
+    λ h. elim (star_follows (45 ∷ tail) h) [ inl e ↦ absurd (omega (arith, head_is 45 48 _ _ e)) | inr (inl e) ↦ tail_is 45 45 _ _ e | inr (inr s) ↦ absurd (omega (arith, s.2, head_is 45 s.0 _ _ s.4)) ],
+    λ e. star_followed (45 ∷ tail) (inr (inl (ap (λ (t : List ℕ). 45 ∷ t) e))),
+  ),
+)
 
 star_digit : (words room byte : ℕ) → 49 ≤ byte → byte ≤ 57 → StepMeans (at Star words room) byte (Go (at (Count (0 * 10 + (byte - 48))) words room))
 star_digit words room byte low high =
-    let n : 0 * 10 + (byte - 48) ≡ byte - 48 = omega arith in
-    ((omega (arith, low), omega (arith, high)), λ tail.
-      (λ h. elim (star_follows (byte ∷ tail) h) [
-        inl e ↦ absurd (omega (arith, low, head_is byte 48 _ _ e))
-        | inr (inl e) ↦ absurd (omega (arith, low, head_is byte 45 _ _ e))
-        | inr (inr s) ↦ subst (λ (n : ℕ). FinishesCount n tail) (sym n) (subst (λ (b : ℕ). FinishesCount (b - 48) tail) (sym (head_is byte s.0 _ _ s.4)) (subst (FinishesCount (s.0 - 48)) (sym (tail_is byte s.0 _ _ s.4)) s.5)) ],
-       λ h. star_followed (byte ∷ tail) (inr (inr (byte, tail, low, high, refl, subst (λ (n : ℕ). FinishesCount n tail) n h)))))
+    let n : 0 * 10 + (byte - 48) ≡ byte - 48 = omega arith in (
+      (omega (arith, low), omega (arith, high)),
+      λ tail. (
+        λ h. elim (star_follows (byte ∷ tail) h) [
+          | inl e ↦ absurd (omega (arith, low, head_is byte 48 _ _ e))
+          | inr (inl e) ↦ absurd (omega (arith, low, head_is byte 45 _ _ e))
+          | inr (inr s) ↦ subst (λ (n : ℕ). FinishesCount n tail) (sym n) (subst (λ (b : ℕ). FinishesCount (b - 48) tail) (sym (head_is byte s.0 _ _ s.4)) (subst (FinishesCount (s.0 - 48)) (sym (tail_is byte s.0 _ _ s.4)) s.5))
+        ],
+        λ h. star_followed (byte ∷ tail) (inr (inr (byte, tail, low, high, refl, subst (λ (n : ℕ). FinishesCount n tail) n h))),
+      ),
+    )
 
 star_means : (words room byte : ℕ) → StepMeans (at Star words room) byte (step_of (at Star words room) Star byte)
 star_means words room byte =
     on_test (byte == 48) (StepMeans (at Star words room) byte) _ _
     (λ t. subst (λ (b : ℕ). StepMeans (at Star words room) b (Go (at Zero words room))) (sym (eqb-true byte 48 t)) (star_zero words room))
     (λ not_zero. on_test (byte == 45) (StepMeans (at Star words room) byte) _ _
-      (λ t. subst (λ (b : ℕ). StepMeans (at Star words room) b (Go (at Minus words room))) (sym (eqb-true byte 45 t)) (star_minus words room))
-      (λ not_minus. on_digit 0 byte 1024 (λ (n : Option ℕ). StepMeans (at Star words room) byte (number_step (at Star words room) n Count kind.Count))
-        (λ digit. let other : byte ≢ 48 = eqb-false byte 48 not_zero in star_digit words room byte (omega (arith, digit.0, other)) digit.1)
-        (λ none tail h. elim (star_follows (byte ∷ tail) h) [
-          inl e ↦ eqb-false byte 48 not_zero (head_is byte 48 _ _ e)
-          | inr (inl e) ↦ eqb-false byte 45 not_minus (head_is byte 45 _ _ e)
-          | inr (inr s) ↦ let b : byte ≡ s.0 = head_is byte s.0 _ _ s.4 in none (omega (arith, b, s.2), omega (arith, b, s.3), omega (arith, b, s.3)) ])))
+    (λ t. subst (λ (b : ℕ). StepMeans (at Star words room) b (Go (at Minus words room))) (sym (eqb-true byte 45 t)) (star_minus words room))
+    (λ not_minus. on_digit 0 byte 1024 (λ (n : Option ℕ). StepMeans (at Star words room) byte (number_step (at Star words room) n Count kind.Count))
+    (λ digit. let other : byte ≢ 48 = eqb-false byte 48 not_zero in star_digit words room byte (omega (arith, digit.0, other)) digit.1)
+    (λ none tail h. elim (star_follows (byte ∷ tail) h) [
+      | inl e ↦ eqb-false byte 48 not_zero (head_is byte 48 _ _ e)
+      | inr (inl e) ↦ eqb-false byte 45 not_minus (head_is byte 45 _ _ e)
+      | inr (inr s) ↦ let b : byte ≡ s.0 = head_is byte s.0 _ _ s.4 in none (omega (arith, b, s.2), omega (arith, b, s.3), omega (arith, b, s.3))
+    ])))
 
 -- behind digits of a count
 count_end : (n words room : ℕ) → (0 < n) × (n ≤ 1024) → StepMeans (at (Count n) words room) 13 (Go (at (CountEnd n) words room))
@@ -97,10 +112,10 @@ count_end n words room sound = (sound, λ tail. (λ h. ended tail h, λ h. ([], 
 count_digit : (n words room byte : ℕ) → 0 < n → GivesDigit n byte 1024 → StepMeans (at (Count n) words room) byte (Go (at (Count (n * 10 + (byte - 48))) words room))
 count_digit n words room byte some digit =
     ((omega (arith, some), digit.2), λ tail. (λ h. goes_on tail h, λ h. (byte ∷ h.0, h.1, h.2, (digit.0, digit.1, h.3), h.4, ap (λ (t : List ℕ). byte ∷ t) h.5, h.6))) where
-  goes_on : (tail : List ℕ) → FinishesCount n (byte ∷ tail) → FinishesCount (n * 10 + (byte - 48)) tail
-  goes_on tail ([], rest, m, goes, few, is, words) = absurd (omega (arith, digit.0, head_is byte 13 _ _ is))
-  goes_on tail (d ∷ ds, rest, m, goes, few, is, words) =
-      (ds, rest, m, subst (λ (d : ℕ). GoesOn (n * 10 + (d - 48)) ds m) (sym (head_is byte d _ _ is)) goes.2, few, tail_is byte d _ _ is, words)
+      goes_on : (tail : List ℕ) → FinishesCount n (byte ∷ tail) → FinishesCount (n * 10 + (byte - 48)) tail
+      goes_on tail ([], rest, m, goes, few, is, words) = absurd (omega (arith, digit.0, head_is byte 13 _ _ is))
+      goes_on tail (d ∷ ds, rest, m, goes, few, is, words) =
+          (ds, rest, m, subst (λ (d : ℕ). GoesOn (n * 10 + (d - 48)) ds m) (sym (head_is byte d _ _ is)) goes.2, few, tail_is byte d _ _ is, words)
 
 count_breaks : (n byte : ℕ) (tail : List ℕ) → byte ≢ 13 → (GivesDigit n byte 1024 → ⊥) → FinishesCount n (byte ∷ tail) → ⊥
 count_breaks n byte tail other none ([], rest, m, goes, few, is, words) = other (head_is byte 13 _ _ is)
@@ -114,8 +129,8 @@ count_means n words room byte sound =
     on_test (byte == 13) (StepMeans (at (Count n) words room) byte) _ _
     (λ t. subst (λ (b : ℕ). StepMeans (at (Count n) words room) b (Go (at (CountEnd n) words room))) (sym (eqb-true byte 13 t)) (count_end n words room sound))
     (λ other. on_digit n byte 1024 (λ (m : Option ℕ). StepMeans (at (Count n) words room) byte (number_step (at (Count n) words room) m Count kind.Count))
-      (λ digit. count_digit n words room byte sound.0 digit)
-      (λ none tail h. count_breaks n byte tail (eqb-false byte 13 other) none h))
+    (λ digit. count_digit n words room byte sound.0 digit)
+    (λ none tail h. count_breaks n byte tail (eqb-false byte 13 other) none h))
 
 -- behind a `$` and digits of a length
 length_end : (n words room : ℕ) → (0 < words) × (n ≤ 1048576) × (n ≤ room) → StepMeans (at (Length n) words room) 13 (Go (at (LengthEnd n) words room))
@@ -127,10 +142,10 @@ length_end n words room sound = (sound, λ tail. (λ h. ended tail h, λ h. ([],
 length_digit : (n words room byte : ℕ) → 0 < words → 0 < n → GivesDigit n byte (min 1048576 room) → StepMeans (at (Length n) words room) byte (Go (at (Length (n * 10 + (byte - 48))) words room))
 length_digit n words room byte some positive digit =
     ((some, omega (arith, digit.2), omega (arith, digit.2)), λ tail. (λ h. goes_on tail h, λ h. (byte ∷ h.0, h.1, h.2, (digit.0, digit.1, h.3), (λ z. absurd (omega (arith, z, positive))), h.5, h.6, ap (λ (t : List ℕ). byte ∷ t) h.7, h.8))) where
-  goes_on : (tail : List ℕ) → FinishesLength n words room (byte ∷ tail) → FinishesLength (n * 10 + (byte - 48)) words room tail
-  goes_on tail ([], rest, m, goes, zero_alone, short, fits, is, body) = absurd (omega (arith, digit.0, head_is byte 13 _ _ is))
-  goes_on tail (d ∷ ds, rest, m, goes, zero_alone, short, fits, is, body) =
-      (ds, rest, m, subst (λ (d : ℕ). GoesOn (n * 10 + (d - 48)) ds m) (sym (head_is byte d _ _ is)) goes.2, (λ z. absurd (omega (arith, z, positive))), short, fits, tail_is byte d _ _ is, body)
+      goes_on : (tail : List ℕ) → FinishesLength n words room (byte ∷ tail) → FinishesLength (n * 10 + (byte - 48)) words room tail
+      goes_on tail ([], rest, m, goes, zero_alone, short, fits, is, body) = absurd (omega (arith, digit.0, head_is byte 13 _ _ is))
+      goes_on tail (d ∷ ds, rest, m, goes, zero_alone, short, fits, is, body) =
+          (ds, rest, m, subst (λ (d : ℕ). GoesOn (n * 10 + (d - 48)) ds m) (sym (head_is byte d _ _ is)) goes.2, (λ z. absurd (omega (arith, z, positive))), short, fits, tail_is byte d _ _ is, body)
 
 length_breaks : (n words room byte : ℕ) (tail : List ℕ) → byte ≢ 13 → ((0 < n) → GivesDigit n byte (min 1048576 room) → ⊥) → FinishesLength n words room (byte ∷ tail) → ⊥
 length_breaks n words room byte tail other none ([], rest, m, goes, zero_alone, short, fits, is, body) = other (head_is byte 13 _ _ is)
@@ -145,27 +160,30 @@ length_means n words room byte sound =
     on_test (byte == 13) (StepMeans (at (Length n) words room) byte) _ _
     (λ t. subst (λ (b : ℕ). StepMeans (at (Length n) words room) b (Go (at (LengthEnd n) words room))) (sym (eqb-true byte 13 t)) (length_end n words room sound))
     (λ other. on_test (n == 0) (StepMeans (at (Length n) words room) byte) _ _
-      (λ z tail h. length_breaks n words room byte tail (eqb-false byte 13 other) (λ some digit. omega (arith, some, eqb-true n 0 z)) h)
-      (λ positive. on_digit n byte (min 1048576 room) (λ (m : Option ℕ). StepMeans (at (Length n) words room) byte (number_step (at (Length n) words room) m Length kind.Length))
-        (λ digit. let other_than : n ≢ 0 = eqb-false n 0 positive in length_digit n words room byte sound.0 (omega (arith, other_than)) digit)
-        (λ none tail h. length_breaks n words room byte tail (eqb-false byte 13 other) (λ some digit. none digit) h)))
+    (λ z tail h. length_breaks n words room byte tail (eqb-false byte 13 other) (λ some digit. omega (arith, some, eqb-true n 0 z)) h)
+    (λ positive. on_digit n byte (min 1048576 room) (λ (m : Option ℕ). StepMeans (at (Length n) words room) byte (number_step (at (Length n) words room) m Length kind.Length))
+    (λ digit. let other_than : n ≢ 0 = eqb-false n 0 positive in length_digit n words room byte sound.0 (omega (arith, other_than)) digit)
+    (λ none tail h. length_breaks n words room byte tail (eqb-false byte 13 other) (λ some digit. none digit) h)))
 
 sign_digit : (words room byte : ℕ) → 0 < words → GivesDigit 0 byte (min 1048576 room) → StepMeans (at Sign words room) byte (Go (at (Length (0 * 10 + (byte - 48))) words room))
 sign_digit words room byte some digit =
-    let n : 0 * 10 + (byte - 48) ≡ byte - 48 = omega arith in
-    ((some, omega (arith, digit.2), omega (arith, digit.2)), λ tail.
-      (λ h. (let s = sign_follows words room (byte ∷ tail) some h in
-         subst (λ (n : ℕ). FinishesLength n words room tail) (sym n) (subst (λ (b : ℕ). FinishesLength (b - 48) words room tail) (sym (head_is byte s.0 _ _ s.4)) (subst (FinishesLength (s.0 - 48) words room) (sym (tail_is byte s.0 _ _ s.4)) s.5))),
-       λ h. sign_followed words room (byte ∷ tail) some (byte, tail, digit.0, digit.1, refl, subst (λ (n : ℕ). FinishesLength n words room tail) n h)))
+    let n : 0 * 10 + (byte - 48) ≡ byte - 48 = omega arith in (
+      (some, omega (arith, digit.2), omega (arith, digit.2)),
+      λ tail. (
+        λ h. (let s = sign_follows words room (byte ∷ tail) some h in
+            subst (λ (n : ℕ). FinishesLength n words room tail) (sym n) (subst (λ (b : ℕ). FinishesLength (b - 48) words room tail) (sym (head_is byte s.0 _ _ s.4)) (subst (FinishesLength (s.0 - 48) words room) (sym (tail_is byte s.0 _ _ s.4)) s.5))),
+        λ h. sign_followed words room (byte ∷ tail) some (byte, tail, digit.0, digit.1, refl, subst (λ (n : ℕ). FinishesLength n words room tail) n h),
+      ),
+    )
 
 sign_means : (words room byte : ℕ) → 0 < words → StepMeans (at Sign words room) byte (step_of (at Sign words room) Sign byte)
 sign_means words room byte some =
     on_digit 0 byte (min 1048576 room) (λ (m : Option ℕ). StepMeans (at Sign words room) byte (number_step (at Sign words room) m Length kind.Length))
     (λ digit. sign_digit words room byte some digit)
     (λ none tail h. (let s = sign_follows words room (byte ∷ tail) some h in
-       let b : byte ≡ s.0 = head_is byte s.0 _ _ s.4 in
-       let high : s.0 - 48 ≤ s.5.2 = GoesOn-le _ s.5.0 s.5.2 s.5.3 in
-       none (omega (arith, b, s.2), omega (arith, b, s.3), omega (arith, b, high, s.5.5, s.5.6))))
+    let b : byte ≡ s.0 = head_is byte s.0 _ _ s.4 in
+    let high : s.0 - 48 ≤ s.5.2 = GoesOn-le _ s.5.0 s.5.2 s.5.3 in
+    none (omega (arith, b, s.2), omega (arith, b, s.3), omega (arith, b, high, s.5.5, s.5.6))))
 
 -- a word without further bytes
 body_end : (words room : ℕ) → StepMeans (at (Body 0) words room) 13 (Go (at Ending words room))
@@ -187,8 +205,8 @@ ending_whole room = λ tail. (λ h. tail_is 10 10 _ _ h.1 ∙ no_words room h.0 
 ending_means : (words room byte : ℕ) → StepMeans (at Ending words room) byte (step_of (at Ending words room) Ending byte)
 ending_means words room byte = on_due (at Ending words room) byte 10 _ _
     (on_test (words == 0) (StepMeans (at Ending words room) 10) Whole (Go (at Dollar words room))
-      (λ z. subst (λ (words : ℕ). StepMeans (at Ending words room) 10 Whole) (sym (eqb-true words 0 z)) (ending_whole room))
-      (λ some. (let other : words ≢ 0 = eqb-false words 0 some in omega (arith, other), λ tail. after_byte (AreWordsWithin words room) 10 tail)))
+    (λ z. subst (λ (words : ℕ). StepMeans (at Ending words room) 10 Whole) (sym (eqb-true words 0 z)) (ending_whole room))
+    (λ some. (let other : words ≢ 0 = eqb-false words 0 some in omega (arith, other), λ tail. after_byte (AreWordsWithin words room) 10 tail)))
     (λ tail h. head_is byte 10 _ _ h.1)
 
 step_means_at : (part : Part) (words room byte : ℕ) → IsSoundPart part words room → IsAtByte part → StepMeans (at part words room) byte (step_of (at part words room) part byte)

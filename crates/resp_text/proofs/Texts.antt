@@ -76,11 +76,11 @@ word_first text word words (front, rest, (line, (digits, number, line_is), short
     first = 36;
     number = number;
     is = is ∙ ap (λ (t : List ℕ). t ++ rest) (front_is ∙ ap (λ (t : List ℕ). t ++ (word ++ line_end)) line_is)
-      ∙ ap (λ (t : List ℕ). 36 ∷ t) (append_assoc (digits ++ line_end) (word ++ line_end) rest ∙ append_assoc digits line_end ((word ++ line_end) ++ rest)
-        ∙ ap (λ (t : List ℕ). digits ++ 13 ∷ 10 ∷ t) (append_assoc word line_end rest))
+        ∙ ap (λ (t : List ℕ). 36 ∷ t) (append_assoc (digits ++ line_end) (word ++ line_end) rest ∙ append_assoc digits line_end ((word ++ line_end) ++ rest)
+        ∙ ap (λ (t : List ℕ). digits ++ 13 ∷ 10 ∷ t) (append_assoc word line_end rest));
   };
   short = short;
-  more = more
+  more = more;
 }
 
 pub some_word : (text : List ℕ) → BeginsWithWord text → (word : List ℕ) × (words : List (List ℕ)) × FirstWord text word words
@@ -110,7 +110,7 @@ word_parts text word words len n w word_len line_len =
       end_fits = omega (arith, ap length past);
       word_is = ap (take n) behind ∙ take_at word (13 ∷ 10 ∷ w.after) n (sym word_len);
       more = subst (λ (t : List ℕ). AreWords t words) (sym (ap (drop 2) past)) w.more;
-      shorter = omega (arith, ap length (ap (drop 2) past), length-drop len text, ap length behind, length-append word (13 ∷ 10 ∷ w.after))
+      shorter = omega (arith, ap length (ap (drop 2) past), length-drop len text, ap length behind, length-append word (13 ∷ 10 ∷ w.after));
     }
 
 -- the line of a request
@@ -118,7 +118,7 @@ pub request_line : (text : List ℕ) (words : List (List ℕ)) (r : IsRequest te
 request_line text words r = record {
   first = 42;
   number = r.count.1;
-  is = r.is ∙ ap (λ (t : List ℕ). t ++ r.rest) r.count.2 ∙ ap (λ (t : List ℕ). 42 ∷ t) (append_assoc r.count.0 line_end r.rest)
+  is = r.is ∙ ap (λ (t : List ℕ). t ++ r.rest) r.count.2 ∙ ap (λ (t : List ℕ). 42 ∷ t) (append_assoc r.count.0 line_end r.rest);
 }
 
 -- a text without bytes has no words

@@ -1,5 +1,5 @@
 -- What a reader of requests has, and what it says of the bytes that it was fed.
-use Rattle.std.specs.Prelude.{◌≡◌, ℕ, ◌+◌, ◌<◌, List, ◌++◌, length, take, Option, Some, None, Result, Ok, Err}
+use Rattle.std.specs.Prelude.{◌≡◌, ℕ, ◌+◌, ◌<◌, List, [], ◌++◌, length, take, Option, Some, None, Result, Ok, Err}
 use Rattle.resp_text.specs.Grammar.{IsStream, IsBegun, IsUnfinished}
 use Rattle.resp_text.specs.declared.fault.FeedFault.{FeedFault}
 use Rattle.resp_text.specs.declared.fault.FeedFault.TheVariants.{Protocol, NoMemory}
@@ -11,6 +11,10 @@ pub record Reading : Type 0 where
   pub rest : List ℕ
   pub before : ℕ
   pub fault : Option FeedFault
+
+-- a reader that was fed nothing
+abbrev pub nothing_read : Reading
+nothing_read = record { waiting = []; rest = []; before = 0; fault = None }
 
 -- the bytes taken so far are whole items and then an unfinished one; the requests among the whole
 -- ones are those that were given and those that wait

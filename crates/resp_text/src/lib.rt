@@ -20,3 +20,5 @@ pub use reply::{ErrorKind, Reply, reply_text};
 pub use request::Request;
 pub use requests::Requests;
 
+#[cfg(test)]
+mod tests;

@@ -59,11 +59,21 @@ fn read_items(
             }
             Outcome::Open(scan) => {
                 let end = bytes.len();
-                return Ok(Reached { scan, whole, end, kind: None });
+                return Ok(Reached {
+                    scan,
+                    whole,
+                    end,
+                    kind: None,
+                });
             }
             Outcome::Broken { at, scan, kind } => {
                 let end = whole + at;
-                return Ok(Reached { scan, whole, end, kind: Some(kind) });
+                return Ok(Reached {
+                    scan,
+                    whole,
+                    end,
+                    kind: Some(kind),
+                });
             }
         }
     }
@@ -134,11 +144,21 @@ fn read_piece(
     match end_item(alloc, waiting, rest, scan, piece)? {
         Outcome::Open(scan) => {
             let end = had + piece.len();
-            Ok(Reached { scan, whole: 0, end, kind: None })
+            Ok(Reached {
+                scan,
+                whole: 0,
+                end,
+                kind: None,
+            })
         }
         Outcome::Broken { at, scan, kind } => {
             let end = had + at;
-            Ok(Reached { scan, whole: 0, end, kind: Some(kind) })
+            Ok(Reached {
+                scan,
+                whole: 0,
+                end,
+                kind: Some(kind),
+            })
         }
         Outcome::End(taken) => {
             let (_, behind) = piece.split_at(taken);
@@ -177,21 +197,22 @@ impl Model for Requests {
     ghost Value = { Reading };
 
     ghost view = { λ r. record {
-        waiting = r.waiting.items;
-        rest = r.rest.items;
-        before = r.before;
-        fault = r.fault } };
+      waiting = r.waiting.items;
+      rest = r.rest.items;
+      before = r.before;
+      fault = r.fault;
+    } };
 
     ghost invariant = { λ r. StandsBehind r.scan r.rest.items };
 }
 
 impl Requests {
-    ghost use Rattle.resp_text.specs.Reading.{StandsFor, FeedsOn};
+    ghost use Rattle.resp_text.specs.Reading.{nothing_read, StandsFor, FeedsOn};
 
     /// A reader that was fed nothing. It takes no memory yet.
     pub fn new(alloc: Global) -> Self
-        ensures empty { StandsFor result [] [] }
-        ensures sound { result.fault ≡ None }
+        ensures nothing { result ≡ nothing_read }
+        ensures stands { StandsFor result [] [] }
     {
         Requests {
             alloc,
@@ -213,7 +234,10 @@ impl Requests {
             FeedsOn self.old self.new (taken ++ piece.now) given result }
         ensures broken { IfSome self.old.fault (λ fault.
             (result ≡ Err fault) × (self.new ≡ self.old)) }
-        ensures no_memory { IsErrOf result FeedFault.NoMemory → self.old.fault ≡ None → self.new ≡ self.old }
+        ensures no_memory { IsErrOf result FeedFault.NoMemory → self.old.fault ≡ None →
+            self.new ≡ self.old }
+        ensures count { self.new.before + length self.new.rest
+            ≤ self.old.before + length self.old.rest + length piece.now }
     {
         if let Some(fault) = self.fault {
             return Err(fault);

@@ -111,7 +111,10 @@ impl Scan {
         ensures { PassesOver self available result }
     {
         let Part::Body(left) = self.part else {
-            return Run { scan: self, taken: 0 };
+            return Run {
+                scan: self,
+                taken: 0,
+            };
         };
         let taken = available.min(left as usize);
         let part = Part::Body(left - taken as u32);
@@ -170,10 +173,16 @@ impl Scan {
         ensures { result ≡ step_of self Part.Star byte }
     {
         if byte == b'0' {
-            return Step::Go(Scan { part: Part::Zero, ..self });
+            return Step::Go(Scan {
+                part: Part::Zero,
+                ..self
+            });
         }
         if byte == b'-' {
-            return Step::Go(Scan { part: Part::Minus, ..self });
+            return Step::Go(Scan {
+                part: Part::Minus,
+                ..self
+            });
         }
         self.count_digit(0, byte)
     }
@@ -184,7 +193,10 @@ impl Scan {
         ensures { result ≡ step_of self (Part.Count n) byte }
     {
         if byte == b'\r' {
-            return Step::Go(Scan { part: Part::CountEnd(n), ..self });
+            return Step::Go(Scan {
+                part: Part::CountEnd(n),
+                ..self
+            });
         }
         self.count_digit(n, byte)
     }
@@ -194,7 +206,10 @@ impl Scan {
         ensures { result ≡ number_step self (digit_behind high byte 1024) Part.Count ProtocolKind.Count }
     {
         match digit_behind(high, byte, MOST_WORDS) {
-            Some(n) => Step::Go(Scan { part: Part::Count(n), ..self }),
+            Some(n) => Step::Go(Scan {
+                part: Part::Count(n),
+                ..self
+            }),
             None => Step::Break(ProtocolKind::Count),
         }
     }
@@ -205,7 +220,10 @@ impl Scan {
         ensures { result ≡ step_of self (Part.Length n) byte }
     {
         if byte == b'\r' {
-            return Step::Go(Scan { part: Part::LengthEnd(n), ..self });
+            return Step::Go(Scan {
+                part: Part::LengthEnd(n),
+                ..self
+            });
         }
         if n == 0 {
             return Step::Break(ProtocolKind::Length);
@@ -218,7 +236,10 @@ impl Scan {
         ensures { result ≡ number_step self (digit_behind high byte (min 1048576 self.room)) Part.Length ProtocolKind.Length }
     {
         match digit_behind(high, byte, MOST_LENGTH.min(self.room)) {
-            Some(n) => Step::Go(Scan { part: Part::Length(n), ..self }),
+            Some(n) => Step::Go(Scan {
+                part: Part::Length(n),
+                ..self
+            }),
             None => Step::Break(ProtocolKind::Length),
         }
     }
@@ -230,7 +251,10 @@ impl Scan {
         if self.words == 0 {
             return Step::Whole;
         }
-        Step::Go(Scan { part: Part::Dollar, ..self })
+        Step::Go(Scan {
+            part: Part::Dollar,
+            ..self
+        })
     }
 }
 
@@ -238,7 +262,11 @@ impl Scan {
 fn due(byte: u8, expected: u8, step: Step, kind: ProtocolKind) -> Step
     ensures { result ≡ step_if byte expected step kind }
 {
-    if byte == expected { step } else { Step::Break(kind) }
+    if byte == expected {
+        step
+    } else {
+        Step::Break(kind)
+    }
 }
 
 /// A number with one more digit, where the byte is a digit and the number stays within the limit.

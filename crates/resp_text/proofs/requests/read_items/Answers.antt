@@ -8,7 +8,7 @@ items-preserved c =
     let fits : c.items.whole + c.in-End.taken ≤ length c.args.bytes.now = omega (arith, c.in-End.ensures.1, ap length c.split_at.ensures.back, length-drop c.items.whole c.args.bytes.now, c.items.invariant.within) in
     record {
       within = fits;
-      read = came_more _ _ _ c.args.bytes.now c.split_at-in-End.result.0.now c.items.whole c.in-End.taken fits (c.split_at-in-End.ensures.front ∙ ap (take c.in-End.taken) c.split_at.ensures.back) c.items.invariant.read c.in_ok-push_item-in-End.ensures.added
+      read = came_more _ _ _ c.args.bytes.now c.split_at-in-End.result.0.now c.items.whole c.in-End.taken fits (c.split_at-in-End.ensures.front ∙ ap (take c.in-End.taken) c.split_at.ensures.back) c.items.invariant.read c.in_ok-push_item-in-End.ensures.added;
     }
 
 pub returns-in-Open-clause-read : goal.returns-in-Open-clause-read

@@ -33,5 +33,5 @@ loop-at-preserved c =
     record {
       within = omega (arith, behind);
       sound = c.in-Go.ensures.0;
-      leads = leads_step c.args.scan run.scan c.in-Go.next (c.loop-at.at + run.taken) c.args.bytes.now behind over c.in-Go.ensures
+      leads = leads_step c.args.scan run.scan c.in-Go.next (c.loop-at.at + run.taken) c.args.bytes.now behind over c.in-Go.ensures;
     }

@@ -9,5 +9,5 @@ abbrev pub invariant-loop-at : goal.invariant-loop-at
 invariant-loop-at l = record {
   within : l.at ≤ length l.bytes;
   sound : IsSound l.scan;
-  leads : Leads l.fn.scan (take l.at l.bytes) l.scan
+  leads : Leads l.fn.scan (take l.at l.bytes) l.scan;
 }

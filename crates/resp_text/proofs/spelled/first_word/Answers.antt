@@ -30,9 +30,10 @@ pub returns-clause-split : goal.returns-clause-split
 returns-clause-split c word words spelled =
     let w = word_first c.args.text.now word words spelled in
     let line = c.line_of-line.ensures (length word) w.digits _ w.line in
-    let parts = word_parts c.args.text.now word words c.line_of-line.result.length c.line_of-line.result.number w line.0 line.1 in
-    (c.split_at-2.ensures.front ∙ ap (take c.line_of-line.result.number) c.split_at.ensures.back ∙ parts.word_is,
-     subst (λ (t : List ℕ). AreWords t words) (sym (c.split_at-3.ensures.back ∙ ap (drop 2) (c.split_at-2.ensures.back ∙ ap (drop c.line_of-line.result.number) c.split_at.ensures.back))) parts.more)
+    let parts = word_parts c.args.text.now word words c.line_of-line.result.length c.line_of-line.result.number w line.0 line.1 in (
+      c.split_at-2.ensures.front ∙ ap (take c.line_of-line.result.number) c.split_at.ensures.back ∙ parts.word_is,
+      subst (λ (t : List ℕ). AreWords t words) (sym (c.split_at-3.ensures.back ∙ ap (drop 2) (c.split_at-2.ensures.back ∙ ap (drop c.line_of-line.result.number) c.split_at.ensures.back))) parts.more,
+    )
 
 pub returns-clause-shorter : goal.returns-clause-shorter
 returns-clause-shorter c =

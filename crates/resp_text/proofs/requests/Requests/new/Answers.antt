@@ -2,11 +2,11 @@ use Rattle.std.proofs.Common.{ℕ, List, [], ◌∷◌, ◌++◌, None, inl, ref
 use Rattle.resp_text.specs.Grammar.{IsUnfinished}
 use Rattle.resp_text.proofs.requests.Requests.new.Goals as goal
 
-pub returns-clause-empty : goal.returns-clause-empty
-returns-clause-empty c = record {
+pub returns-clause-stands : goal.returns-clause-stands
+returns-clause-stands c = record {
   whole = [];
   is = sym c.new-2.ensures.items;
   stream = ([], refl, c.new.ensures.items);
   before = refl;
-  unfinished = subst IsUnfinished (sym c.new-2.ensures.items) (42, 48 ∷ 13 ∷ 10 ∷ [], (None, inl refl))
+  unfinished = subst IsUnfinished (sym c.new-2.ensures.items) (42, 48 ∷ 13 ∷ 10 ∷ [], (None, inl refl));
 }
