@@ -1,5 +1,6 @@
 //! Pairs in rising order of keys.
-ghost use Rattle.std.specs.Prelude.{◌≡◌, ◌<◌, ◌≤◌, ◌==◌, [], ◌∷◌, ◌++◌, length, slice_get, Some, OnOk, OnErr};
+ghost use Rattle.std.specs.Prelude.{◌≡◌, ◌<◌, ◌≤◌, ◌==◌, [], ◌∷◌, ◌++◌, length, slice_index_or, OnOk, OnErr};
+ghost use Rattle.image_text.specs.Pairs.{pairs_between, ArePairEnds, pair_start};
 
 use crate::pair_end::PairEnd;
 use std::alloc::Global;
@@ -49,7 +50,11 @@ impl PairList {
     {
         self.ends.reserve(1)?;
         self.bytes.reserve(key.len() + value.len())?;
-        push_pair(&mut self.bytes, &mut self.ends, key, value);
+        self.bytes.extend_from_slice(key)?;
+        let key = self.bytes.len();
+        self.bytes.extend_from_slice(value)?;
+        let value = self.bytes.len();
+        self.ends.push_reserved(PairEnd { key, value });
         Ok(())
     }
 
@@ -66,4 +71,50 @@ impl PairList {
     {
         self.ends.is_empty()
     }
+
+    /// The key at a place, counted from 0.
+    pub fn key(&self, i: usize) -> &[u8]
+        requires { i < length self.now }
+        ensures { result.now ≡ (slice_index_or self.now i ([], [])).0 }
+    {
+        key_at(&self.bytes, &self.ends, i)
+    }
+
+    /// The value at a place, counted from 0.
+    pub fn value(&self, i: usize) -> &[u8]
+        requires { i < length self.now }
+        ensures { result.now ≡ (slice_index_or self.now i ([], [])).1 }
+    {
+        value_at(&self.bytes, &self.ends, i)
+    }
+}
+
+/// Where a pair begins: where the one before it ends.
+fn start_of(ends: &[PairEnd], i: usize) -> usize
+    requires { i < length ends.now }
+    ensures { result ≡ pair_start 0 ends.now i }
+{
+    if i == 0 { 0 } else { ends[i - 1].value }
+}
+
+/// The key at a place, of the pairs that end at these places of a buffer.
+fn key_at<'a>(bytes: &'a [u8], ends: &[PairEnd], i: usize) -> &'a [u8]
+    requires places { ArePairEnds 0 ends.now (length bytes.now) }
+    requires within { i < length ends.now }
+    ensures { result.now ≡ (slice_index_or (pairs_between 0 bytes.now ends.now) i ([], [])).0 }
+{
+    let start = start_of(ends, i);
+    let end = ends[i].key;
+    &bytes[start..end]
+}
+
+/// The value at a place, of the pairs that end at these places of a buffer.
+fn value_at<'a>(bytes: &'a [u8], ends: &[PairEnd], i: usize) -> &'a [u8]
+    requires places { ArePairEnds 0 ends.now (length bytes.now) }
+    requires within { i < length ends.now }
+    ensures { result.now ≡ (slice_index_or (pairs_between 0 bytes.now ends.now) i ([], [])).1 }
+{
+    let start = ends[i].key;
+    let end = ends[i].value;
+    &bytes[start..end]
 }
