@@ -1,6 +1,7 @@
 -- Laws of pairs that lie in one buffer.
 use Rattle.std.proofs.Common.{◌≡◌, ℕ, ◌+◌, ◌-◌, ◌<◌, ◌≤◌, zero, suc, List, [], ◌∷◌, ◌++◌, length, get_or, take, drop, refl, sym, ap, subst, ◌∙◌, arith, length-append}
-use Rattle.std.proofs.lemmas.List.{take_all, take_at, drop_at, drop-append-le, take-append-le, length-drop, append_assoc}
+use Rattle.std.proofs.lemmas.List.{take_all, take_at, drop_at, drop-append-le, take-append-le, length-drop, append_assoc, drop-drop}
+use Rattle.std.proofs.Math.Seq.{take-add}
 use Rattle.image_text.specs.Pairs.{pairs_between, ArePairEnds, pair_start}
 use Rattle.image_text.specs.declared.pair_end.PairEnd.{PairEnd}
 
@@ -61,3 +62,10 @@ pub pair_start-suc : (from : ℕ) (ends : List PairEnd) (i : ℕ) (d : PairEnd) 
 pair_start-suc from [] i d lt = absurd (omega (arith, lt))
 pair_start-suc from (end ∷ ends) zero d lt = refl
 pair_start-suc from (end ∷ ends) (suc i) d lt = pair_start-suc end.value ends i d (omega (arith, lt))
+
+-- a key and the value behind it are one part of the buffer
+pub key_then_value : (bytes : List ℕ) (from key value : ℕ) → from ≤ key → key ≤ value → value ≤ length bytes →
+    take (value - from) (drop from bytes) ≡ take (key - from) (drop from bytes) ++ take (value - key) (drop key bytes)
+key_then_value bytes from key value first second within =
+    ap (λ (n : ℕ). take n (drop from bytes)) (omega (arith, first, second)) ∙ take-add (key - from) (value - key) (drop from bytes)
+    ∙ ap (λ (t : List ℕ). take (key - from) (drop from bytes) ++ take (value - key) t) (drop-drop (key - from) from bytes ∙ ap (λ (n : ℕ). drop n bytes) (omega (arith, first)))

@@ -1,5 +1,5 @@
 -- Pairs in rising order, and one more.
-use Rattle.std.proofs.Common.{◌≡◌, ℕ, ◌+◌, ◌<◌, ◌≤◌, List, [], ◌∷◌, ◌++◌, length, arith, length-append}
+use Rattle.std.proofs.Common.{◌≡◌, ℕ, ◌+◌, ◌<◌, ◌≤◌, zero, suc, get_or, List, [], ◌∷◌, ◌++◌, length, arith, length-append}
 use Rattle.std.specs.List.{AllByRecursion}
 use Rattle.image_text.specs.Image.{AreRising, IsBehind, FitsImage, HasImage}
 
@@ -18,3 +18,9 @@ HasImage-push pairs key value h fewer behind key_fits value_fits = record {
   rising = AreRising-push pairs (key, value) h.rising behind;
   each = each-push pairs (key, value) h.each (key_fits, value_fits);
 }
+
+-- each pair is within the limits
+pub fits_at : (pairs : List (List ℕ × List ℕ)) (i : ℕ) (d : List ℕ × List ℕ) → i < length pairs → AllByRecursion FitsImage pairs → FitsImage (get_or pairs i d)
+fits_at [] i d lt h = absurd (omega (arith, lt))
+fits_at (p ∷ pairs) zero d lt h = h.0
+fits_at (p ∷ pairs) (suc i) d lt h = fits_at pairs i d (omega (arith, lt)) h.1

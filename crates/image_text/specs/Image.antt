@@ -13,15 +13,15 @@ abbrev pub bytes_cmp : List ℕ → List ℕ → Ordering
 bytes_cmp = slice_cmp nat_cmp
 
 -- a pair: the lengths of its key and of its value in four bytes each, and then both
-abbrev pub pair_text : List ℕ × List ℕ → List ℕ
+unfoldable pub pair_text : List ℕ × List ℕ → List ℕ
 pair_text pair = big_bytes 4 (length pair.0) ++ big_bytes 4 (length pair.1) ++ pair.0 ++ pair.1
 
 -- what stands before the pairs: the magic word and how many pairs there are
-abbrev pub image_front : ℕ → List ℕ
+unfoldable pub image_front : ℕ → List ℕ
 image_front count = codes "AFIMAGE1" ++ big_bytes 8 count
 
 -- what stands behind the pairs: the end word and their number again
-abbrev pub image_end : ℕ → List ℕ
+unfoldable pub image_end : ℕ → List ℕ
 image_end count = codes "AFEND" ++ big_bytes 8 count
 
 -- the image of these pairs

@@ -8,5 +8,7 @@
 
 mod pair_end;
 mod pair_list;
+mod write;
 
 pub use pair_list::PairList;
+pub use write::write_image;

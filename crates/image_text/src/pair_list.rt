@@ -75,7 +75,8 @@ impl PairList {
     /// The key at a place, counted from 0.
     pub fn key(&self, i: usize) -> &[u8]
         requires { i < length self.now }
-        ensures { result.now ≡ (slice_index_or self.now i ([], [])).0 }
+        ensures key { result.now ≡ (slice_index_or self.now i ([], [])).0 }
+        ensures fits { length result.now ≤ 65536 }
     {
         key_at(&self.bytes, &self.ends, i)
     }
@@ -83,9 +84,18 @@ impl PairList {
     /// The value at a place, counted from 0.
     pub fn value(&self, i: usize) -> &[u8]
         requires { i < length self.now }
-        ensures { result.now ≡ (slice_index_or self.now i ([], [])).1 }
+        ensures value { result.now ≡ (slice_index_or self.now i ([], [])).1 }
+        ensures fits { length result.now ≤ 1048576 }
     {
         value_at(&self.bytes, &self.ends, i)
+    }
+
+    /// The key at a place and the value behind it, as they lie in the buffer.
+    pub(crate) fn key_and_value(&self, i: usize) -> &[u8]
+        requires { i < length self.now }
+        ensures { let pair = slice_index_or self.now i ([], []) in result.now ≡ pair.0 ++ pair.1 }
+    {
+        pair_at(&self.bytes, &self.ends, i)
     }
 }
 
@@ -115,6 +125,18 @@ fn value_at<'a>(bytes: &'a [u8], ends: &[PairEnd], i: usize) -> &'a [u8]
     ensures { result.now ≡ (slice_index_or (pairs_between 0 bytes.now ends.now) i ([], [])).1 }
 {
     let start = ends[i].key;
+    let end = ends[i].value;
+    &bytes[start..end]
+}
+
+/// The key and the value at a place, of the pairs that end at these places of a buffer.
+fn pair_at<'a>(bytes: &'a [u8], ends: &[PairEnd], i: usize) -> &'a [u8]
+    requires places { ArePairEnds 0 ends.now (length bytes.now) }
+    requires within { i < length ends.now }
+    ensures { let pair = slice_index_or (pairs_between 0 bytes.now ends.now) i ([], []) in
+        result.now ≡ pair.0 ++ pair.1 }
+{
+    let start = start_of(ends, i);
     let end = ends[i].value;
     &bytes[start..end]
 }
