@@ -12,3 +12,6 @@ mod write;
 
 pub use pair_list::PairList;
 pub use write::write_image;
+
+#[cfg(test)]
+mod tests;
