@@ -1,8 +1,8 @@
 -- From each part of an item on, some bytes finish it.
-use Rattle.std.proofs.Common.{◌≡◌, ℕ, ◌+◌, ◌-◌, ◌*◌, ◌<◌, ◌≤◌, zero, suc, inl, List, [], ◌∷◌, ◌++◌, length, replicate, refl, ap, sym, arith, None}
+use Rattle.std.proofs.Common.{◌≡◌, ℕ, ◌-◌, zero, suc, inl, List, [], ◌∷◌, ◌++◌, length, replicate, refl, ap, arith, None}
 use Rattle.std.proofs.lemmas.List.{length-replicate}
 use Rattle.resp_text.specs.Grammar.{line_end, AreWords, total_bytes, IsWord, IsUnfinished}
-use Rattle.resp_text.specs.Residual.{AreWordsWithin, FinishesBody, Finishes, FinishesPart, IsSoundPart, IsSound}
+use Rattle.resp_text.specs.Residual.{AreWordsWithin, FinishesBody, FinishesPart, IsSoundPart}
 use Rattle.resp_text.specs.Pieces.{StandsBehind}
 use Rattle.resp_text.specs.declared.scan.Scan.{Scan}
 use Rattle.resp_text.specs.declared.scan.Part.{Part}

@@ -1,10 +1,10 @@
 -- What a feed leaves, for whatever bytes were fed before it.
-use Rattle.std.proofs.Common.{◌≡◌, ℕ, ◌+◌, ◌-◌, ◌<◌, ◌≤◌, List, [], ◌∷◌, ◌++◌, length, take, drop, get_or, refl, sym, ap, subst, ◌∙◌, arith, length-append, Option, Some, None}
-use Rattle.std.proofs.lemmas.List.{append_assoc, take_all, length-drop, length-take-le, take-append-drop, take-take, take_more, drop-append-le}
+use Rattle.std.proofs.Common.{◌≡◌, ℕ, ◌+◌, ◌≤◌, List, [], ◌∷◌, ◌++◌, length, take, drop, get_or, sym, ap, subst, ◌∙◌, arith, length-append, Some, None}
+use Rattle.std.proofs.lemmas.List.{append_assoc, take_all, length-take-le, take-append-drop, take-take, take_more, drop-append-le}
 use Rattle.std.proofs.Math.Seq.{take-append-add}
 use Rattle.resp_text.specs.Grammar.{IsStream, IsBegun, IsWhole, IsUnfinished}
 use Rattle.resp_text.specs.Reading.{Reading, StandsFor, BreaksAt}
-use Rattle.resp_text.specs.Pieces.{StandsBehind, EndsFor, Reads}
+use Rattle.resp_text.specs.Pieces.{EndsFor, Reads}
 use Rattle.resp_text.specs.declared.requests.Reached.{Reached}
 use Rattle.resp_text.specs.declared.fault.ProtocolKind.{ProtocolKind}
 use Rattle.resp_text.proofs.Grammars.{IsStream-append, begun, not_begun}

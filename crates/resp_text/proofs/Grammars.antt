@@ -1,11 +1,10 @@
 -- Laws of the request grammar: no item begins another, so each text has one reading.
-use Rattle.std.proofs.Common.{◌≡◌, ℕ, ◌+◌, ◌-◌, ◌*◌, ◌<◌, ◌≤◌, ◌≢◌, ◌⊎◌, inl, inr, zero, suc, List, [], ◌∷◌, ◌++◌, length, take, drop, refl, sym, ap, subst, ◌∙◌, arith, length-append, Option, Some, None, option_to_list}
-use Rattle.std.specs.List.{flat_map}
+use Rattle.std.proofs.Common.{◌≡◌, ℕ, ◌+◌, ◌-◌, ◌*◌, ◌<◌, ◌≤◌, ◌≢◌, ◌⊎◌, inl, inr, List, [], ◌∷◌, ◌++◌, length, take, drop, refl, sym, ap, subst, ◌∙◌, arith, length-append, Option, Some, None, option_to_list}
 use Rattle.std.proofs.lemmas.List.{append_assoc, append-nil, append_cancel_left, append_cancel_right, take_at, drop_at}
-use Rattle.resp_text.specs.Grammar.{line_end, GoesOn, IsNumber, IsLine, IsWord, AreWords, IsRequest, IsSkipped, IsItem, AreItems, requests_of, IsStream, IsBegun, IsWhole, IsUnfinished}
+use Rattle.resp_text.specs.Grammar.{line_end, GoesOn, IsNumber, AreWords, IsRequest, IsSkipped, IsItem, AreItems, requests_of, IsStream, IsBegun, IsWhole, IsUnfinished}
 use Rattle.resp_text.specs.Lines.{HasLine}
 use Rattle.resp_text.proofs.Residuals.{head_is, tail_is}
-use Rattle.resp_text.proofs.Texts.{GoesOn-number, FirstWord, word_first, line_behind, request_line}
+use Rattle.resp_text.proofs.Texts.{GoesOn-number, word_first, line_behind, request_line}
 
 -- digits end at the first byte that is none
 one_end : (h k m n : ℕ) (ds es x y : List ℕ) → GoesOn h ds m → GoesOn k es n → ds ++ 13 ∷ x ≡ es ++ 13 ∷ y → (ds ≡ es) × (x ≡ y)

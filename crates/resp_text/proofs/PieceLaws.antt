@@ -1,6 +1,6 @@
 -- How what is read of one list of bytes goes on with what is read of the next.
-use Rattle.std.proofs.Common.{◌≡◌, ℕ, ◌+◌, ◌-◌, ◌*◌, ◌<◌, ◌≤◌, ◌≢◌, ◌⊎◌, ◌↔◌, inl, inr, zero, suc, List, [], ◌∷◌, ◌++◌, length, take, drop, get_or, refl, sym, ap, subst, ◌∙◌, arith, length-append, Option, Some, None, option_to_list}
-use Rattle.std.proofs.lemmas.List.{append_assoc, append-nil, take_all, drop-take, length-drop, length-take-le, take-append-le, drop_at, take_at, take-append-drop}
+use Rattle.std.proofs.Common.{◌≡◌, ℕ, ◌+◌, ◌<◌, ◌≤◌, List, [], ◌++◌, length, take, drop, refl, sym, ap, subst, ◌∙◌, arith, length-append, Option, Some, None, option_to_list}
+use Rattle.std.proofs.lemmas.List.{append_assoc, append-nil, take_all, drop-take, length-drop, length-take-le, take-append-drop}
 use Rattle.std.proofs.Math.Seq.{take-add, take-append-add, drop-append-add}
 use Rattle.resp_text.specs.Grammar.{IsItem, IsStream, IsWhole}
 use Rattle.resp_text.specs.Residual.{IsSound, Finishes, Leads}

@@ -1,7 +1,7 @@
 -- Bytes have one reading, and a break is final.
-use Rattle.std.proofs.Common.{◌≡◌, ℕ, ◌+◌, ◌<◌, ◌≤◌, ◌↔◌, List, [], ◌∷◌, ◌++◌, length, take, drop, refl, sym, ap, subst, ◌∙◌, arith, inl, None}
-use Rattle.std.proofs.lemmas.List.{append_assoc, append-nil, take-append-drop, take-append-le, nil_from_length}
-use Rattle.resp_text.specs.Grammar.{IsStream, IsBegun, IsUnfinished, requests_of}
+use Rattle.std.proofs.Common.{◌≡◌, ℕ, ◌+◌, ◌↔◌, List, [], ◌∷◌, ◌++◌, length, take, drop, refl, sym, ap, subst, ◌∙◌, inl, None}
+use Rattle.std.proofs.lemmas.List.{append_assoc, append-nil, take-append-drop, nil_from_length}
+use Rattle.resp_text.specs.Grammar.{IsStream, IsUnfinished, requests_of}
 use Rattle.resp_text.specs.Reading.{Reading, StandsFor, BreaksAt}
 use Rattle.resp_text.proofs.Grammars.{one_reading}
 

@@ -1,8 +1,8 @@
 -- What may follow each part of an item, in another form.
-use Rattle.std.proofs.Common.{◌≡◌, ℕ, ◌+◌, ◌-◌, ◌*◌, ◌<◌, ◌≤◌, ◌≢◌, ◌⊎◌, inl, inr, zero, suc, List, [], ◌∷◌, ◌++◌, length, refl, sym, ap, subst, ◌∙◌, arith, Option, Some, None}
+use Rattle.std.proofs.Common.{◌≡◌, ℕ, ◌+◌, ◌-◌, ◌*◌, ◌<◌, ◌≤◌, ◌≢◌, ◌⊎◌, inl, inr, suc, List, [], ◌∷◌, ◌++◌, length, refl, sym, ap, subst, ◌∙◌, arith, Some, None}
 use Rattle.std.proofs.lemmas.List.{append_assoc}
-use Rattle.resp_text.specs.Grammar.{line_end, GoesOn, IsNumber, IsLine, IsWord, AreWords, total_bytes, IsRequest, IsSkipped, IsItem, IsWhole}
-use Rattle.resp_text.specs.Residual.{AreWordsWithin, FinishesCount, FinishesBody, FinishesLength}
+use Rattle.resp_text.specs.Grammar.{line_end, GoesOn, IsNumber, AreWords, total_bytes, IsWhole}
+use Rattle.resp_text.specs.Residual.{AreWordsWithin, FinishesCount, FinishesLength}
 
 -- digits behind a number never make it less
 pub GoesOn-le : (high : ℕ) (digits : List ℕ) (n : ℕ) → GoesOn high digits n → high ≤ n

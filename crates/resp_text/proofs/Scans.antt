@@ -1,6 +1,6 @@
 -- How several bytes change what may follow.
-use Rattle.std.proofs.Common.{◌≡◌, ℕ, ◌+◌, ◌-◌, ◌<◌, ◌≤◌, ◌↔◌, min, List, [], ◌∷◌, ◌++◌, length, take, drop, get_or, refl, sym, ap, subst, ◌∙◌, arith, length-append}
-use Rattle.std.proofs.lemmas.List.{append_assoc, append-nil, drop_at, drop-append-le, length-drop, length-take-le, take_more, take_all, nil_from_length}
+use Rattle.std.proofs.Common.{◌≡◌, ℕ, ◌+◌, ◌-◌, ◌<◌, ◌≤◌, min, List, [], ◌∷◌, ◌++◌, length, take, drop, get_or, refl, sym, ap, subst, ◌∙◌, arith, length-append}
+use Rattle.std.proofs.lemmas.List.{append_assoc, drop_at, drop-append-le, length-drop, length-take-le, take_more, take_all, nil_from_length}
 use Rattle.std.proofs.Math.Seq.{take-add}
 use Rattle.resp_text.specs.Residual.{FinishesBody, Finishes, IsSound, IsAtByte, StepMeans, Leads, PassesOver}
 use Rattle.resp_text.specs.declared.scan.Scan.{Scan}

@@ -1,9 +1,9 @@
 -- How one byte changes what may follow.
-use Rattle.std.proofs.Common.{◌≡◌, ℕ, ◌+◌, ◌-◌, ◌*◌, ◌<◌, ◌≤◌, ◌≢◌, ◌⊎◌, ◌↔◌, ◌==◌, ◌&&◌, inl, inr, Bool, true, false, cond, eqb, leb, nat_le, min, zero, suc, List, [], ◌∷◌, ◌++◌, length, refl, sym, ap, subst, ◌∙◌, arith, Option, Some, None}
+use Rattle.std.proofs.Common.{◌≡◌, ℕ, ◌+◌, ◌-◌, ◌*◌, ◌<◌, ◌≤◌, ◌≢◌, ◌↔◌, ◌==◌, ◌&&◌, inl, inr, Bool, true, false, cond, leb, nat_le, min, List, [], ◌∷◌, ◌++◌, refl, sym, ap, subst, ◌∙◌, arith, Option, Some, None}
 use Rattle.std.proofs.lemmas.Bool.{eqb-true, eqb-false, leb-true, leb-false}
 use Rattle.std.proofs.lemmas.List.{nil_from_length}
-use Rattle.resp_text.specs.Grammar.{line_end, GoesOn, IsWhole}
-use Rattle.resp_text.specs.Residual.{AreWordsWithin, FinishesCount, FinishesBody, FinishesLength, Finishes, FinishesPart, IsSoundPart, IsSound, IsAtByte, StepMeans, digit_behind, number_step, step_if, step_of}
+use Rattle.resp_text.specs.Grammar.{GoesOn, IsWhole}
+use Rattle.resp_text.specs.Residual.{AreWordsWithin, FinishesCount, FinishesBody, FinishesLength, Finishes, IsSoundPart, IsSound, IsAtByte, StepMeans, digit_behind, number_step, step_if, step_of}
 use Rattle.resp_text.specs.declared.scan.Scan.{Scan}
 use Rattle.resp_text.specs.declared.scan.Part.{Part}
 use Rattle.resp_text.specs.declared.scan.Part.TheVariants.{Start, Star, Zero, Minus, MinusOne, SkipEnd, Count, CountEnd, Dollar, Sign, Length, LengthEnd, Body, Ending}
@@ -11,7 +11,7 @@ use Rattle.resp_text.specs.declared.scan.Step.{Step}
 use Rattle.resp_text.specs.declared.scan.Step.TheVariants.{Go, Whole, Break}
 use Rattle.resp_text.specs.declared.fault.ProtocolKind.{ProtocolKind}
 use Rattle.resp_text.specs.declared.fault.ProtocolKind.TheVariants as kind
-use Rattle.resp_text.proofs.Residuals.{GoesOn-le, head_is, tail_is, whole_begins, FollowsStar, StartsCount, StartsLength, star_follows, star_followed, words_begin, sign_follows, sign_followed}
+use Rattle.resp_text.proofs.Residuals.{GoesOn-le, head_is, tail_is, whole_begins, star_follows, star_followed, words_begin, sign_follows, sign_followed}
 
 -- a reader at a part
 abbrev at : Part → ℕ → ℕ → Scan

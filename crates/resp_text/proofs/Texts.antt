@@ -1,7 +1,7 @@
 -- What stands at the front of a text of words.
-use Rattle.std.proofs.Common.{◌≡◌, ℕ, ◌+◌, ◌-◌, ◌*◌, ◌<◌, ◌≤◌, ◌≢◌, ◌^◌, zero, suc, List, [], ◌∷◌, ◌++◌, length, take, drop, get_or, refl, sym, ap, subst, ◌∙◌, arith, length-append}
+use Rattle.std.proofs.Common.{◌≡◌, ℕ, ◌+◌, ◌-◌, ◌*◌, ◌<◌, ◌≤◌, ◌≢◌, ◌^◌, List, [], ◌∷◌, ◌++◌, length, take, drop, get_or, refl, sym, ap, subst, ◌∙◌, arith, length-append}
 use Rattle.std.proofs.lemmas.List.{append_assoc, length-drop, drop_more, drop_at, take_at, nil_from_length, append-nil}
-use Rattle.resp_text.specs.Grammar.{line_end, GoesOn, IsNumber, IsWord, AreWords, IsRequest}
+use Rattle.resp_text.specs.Grammar.{line_end, GoesOn, IsNumber, AreWords, IsRequest}
 use Rattle.resp_text.specs.Lines.{HasLine, BeginsWithLine, BeginsWithWord}
 use Rattle.resp_text.proofs.Residuals.{GoesOn-le, head_is, tail_is}
 

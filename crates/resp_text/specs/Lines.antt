@@ -1,5 +1,5 @@
 -- What stands at the front of whole items: lines and words.
-use Rattle.std.specs.Prelude.{◌≡◌, ℕ, ◌+◌, ◌^◌, ◌<◌, List, ◌∷◌, ◌++◌, length}
+use Rattle.std.specs.Prelude.{◌≡◌, ℕ, ◌^◌, ◌<◌, List, ◌∷◌, ◌++◌, length}
 use Rattle.resp_text.specs.Grammar.{IsNumber, AreWords}
 
 -- the text begins with a line: a byte, these digits of n, a line end, and then more

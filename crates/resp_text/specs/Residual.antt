@@ -1,6 +1,6 @@
 -- How a reader stands in an item: what may still follow, and how one byte moves it on.
-use Rattle.std.specs.Prelude.{◌≡◌, ℕ, ◌+◌, ◌-◌, ◌*◌, ◌<◌, ◌≤◌, ◌↔◌, List, [], ◌∷◌, ◌++◌, length, take, min, Option, Some, None, Bool, if◌then◌else◌, ◌&&◌, nat_le, ◌==◌}
-use Rattle.resp_text.specs.Grammar.{line_end, GoesOn, IsNumber, AreWords, total_bytes, IsWhole}
+use Rattle.std.specs.Prelude.{◌≡◌, ℕ, ◌+◌, ◌-◌, ◌*◌, ◌<◌, ◌≤◌, ◌↔◌, List, [], ◌∷◌, ◌++◌, length, take, min, Option, Some, None, if◌then◌else◌, ◌&&◌, nat_le, ◌==◌}
+use Rattle.resp_text.specs.Grammar.{line_end, GoesOn, AreWords, total_bytes, IsWhole}
 use Rattle.resp_text.specs.declared.scan.Scan.{Scan}
 use Rattle.resp_text.specs.declared.scan.Part.{Part}
 use Rattle.resp_text.specs.declared.scan.Part.TheVariants.{Start, Star, Zero, Minus, MinusOne, SkipEnd, Count, CountEnd, Dollar, Sign, Length, LengthEnd, Body, Ending}

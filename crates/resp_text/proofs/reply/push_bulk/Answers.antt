@@ -1,4 +1,4 @@
-use Rattle.std.proofs.Common.{◌≡◌, ℕ, List, [], ◌∷◌, ◌++◌, ◌∙◌, sym, ap, length, decimal}
+use Rattle.std.proofs.Common.{ℕ, List, [], ◌∷◌, ◌++◌, ◌∙◌, sym, ap, length, decimal}
 use Rattle.std.proofs.lemmas.List.{append_assoc}
 use Rattle.resp_text.specs.Grammar.{line_end}
 use Rattle.resp_text.specs.Replies.{AppendsFront}

@@ -1,4 +1,4 @@
-use Rattle.std.proofs.Common.{◌≡◌, ◌≤◌, ◌-◌, ℕ, take, drop, get_or, ◌∷◌, [], length, sym, ap, ◌∙◌, arith, rules}
+use Rattle.std.proofs.Common.{◌≤◌, ◌-◌, ℕ, take, drop, get_or, length, sym, ap, ◌∙◌, arith, rules}
 use Rattle.resp_text.proofs.Buffers.{AreEnds-at, get_or-words_between}
 use Rattle.resp_text.proofs.request.word_at.Goals as goal
 

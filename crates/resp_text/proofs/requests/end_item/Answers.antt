@@ -1,6 +1,6 @@
-use Rattle.std.proofs.Common.{◌≡◌, ◌++◌, List, ℕ, take, refl, ap, sym, subst, ◌∙◌, arith}
+use Rattle.std.proofs.Common.{◌++◌, List, ℕ, take, refl, ap, sym, subst, ◌∙◌}
 use Rattle.resp_text.specs.Pieces.{StandsBehind}
-use Rattle.resp_text.proofs.PieceLaws.{stands_on, ends_on, breaks_on}
+use Rattle.resp_text.proofs.PieceLaws.{stands_on, breaks_on}
 use Rattle.resp_text.proofs.requests.end_item.Goals as goal
 
 pub returns-in_ok-extend_from_slice-in-Broken-clause-ended : goal.returns-in_ok-extend_from_slice-in-Broken-clause-ended

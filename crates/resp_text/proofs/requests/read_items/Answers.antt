@@ -1,4 +1,4 @@
-use Rattle.std.proofs.Common.{◌≡◌, ◌≤◌, ◌+◌, length, take, ap, ◌∙◌, arith}
+use Rattle.std.proofs.Common.{◌≤◌, ◌+◌, length, take, ap, ◌∙◌, arith}
 use Rattle.resp_text.proofs.PieceLaws.{came_more, reads_open, reads_broken}
 use Rattle.std.proofs.lemmas.List.{length-drop}
 use Rattle.resp_text.proofs.requests.read_items.Goals as goal

@@ -1,4 +1,4 @@
-use Rattle.std.proofs.Common.{◌≡◌, ◌<◌, ◌≤◌, ◌+◌, length, arith}
+use Rattle.std.proofs.Common.{◌<◌, ◌≤◌, ◌+◌, length, arith}
 use Rattle.resp_text.proofs.Scans.{leads_over, leads_step, ends_step, breaks_step, leads_all}
 use Rattle.resp_text.proofs.scan.scan_item.Goals as goal
 

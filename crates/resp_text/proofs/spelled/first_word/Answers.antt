@@ -1,6 +1,6 @@
-use Rattle.std.proofs.Common.{◌≡◌, ℕ, List, ◌+◌, ◌-◌, ◌*◌, ◌<◌, ◌∷◌, ◌++◌, length, get_or, take, drop, subst, sym, ap, ◌∙◌, arith}
+use Rattle.std.proofs.Common.{ℕ, List, length, take, drop, subst, sym, ap, ◌∙◌, arith}
 use Rattle.resp_text.specs.Grammar.{AreWords}
-use Rattle.resp_text.proofs.Texts.{FirstWord, WordParts, word_first, some_word, word_line, word_parts}
+use Rattle.resp_text.proofs.Texts.{word_first, some_word, word_line, word_parts}
 use Rattle.resp_text.proofs.spelled.first_word.Goals as goal
 
 pub line_of-line-requires : goal.line_of-line-requires

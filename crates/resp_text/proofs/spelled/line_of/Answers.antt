@@ -1,5 +1,5 @@
-use Rattle.std.proofs.Common.{◌≡◌, ℕ, ◌+◌, ◌-◌, ◌*◌, ◌<◌, ◌≢◌, length, get_or, subst, sym, ap, arith, rules}
-use Rattle.resp_text.proofs.Texts.{StandsInLine, line_begins, in_text, line_goes_on, digit_fits, line_ends}
+use Rattle.std.proofs.Common.{ℕ, ◌+◌, ◌*◌, subst, sym, arith, rules}
+use Rattle.resp_text.proofs.Texts.{StandsInLine, in_text, line_goes_on, digit_fits, line_ends}
 use Rattle.resp_text.proofs.spelled.line_of.Goals as goal
 
 pub bounds-text-at : goal.bounds-text-at

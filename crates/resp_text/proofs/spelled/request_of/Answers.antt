@@ -1,5 +1,5 @@
-use Rattle.std.proofs.Common.{◌≡◌, ℕ, List, ◌+◌, ◌-◌, ◌*◌, ◌<◌, ◌≤◌, ◌^◌, [], ◌∷◌, ◌++◌, length, get_or, take, drop, subst, refl, sym, ap, ◌∙◌, arith}
-use Rattle.resp_text.specs.Grammar.{AreWords, IsRequest}
+use Rattle.std.proofs.Common.{◌≡◌, ℕ, List, ◌<◌, ◌++◌, length, drop, subst, sym, ap, ◌∙◌, arith}
+use Rattle.resp_text.specs.Grammar.{AreWords}
 use Rattle.resp_text.proofs.Texts.{line_behind, request_line, words_more, words_all}
 use Rattle.std.proofs.lemmas.Bool.Decides.{nat_tests}
 use Rattle.resp_text.proofs.spelled.request_of.Goals as goal

@@ -1,4 +1,4 @@
-use Rattle.std.proofs.Common.{length, sym, ap, ◌∙◌, arith}
+use Rattle.std.proofs.Common.{length, ap, arith}
 use Rattle.resp_text.proofs.Buffers.{length-words_between}
 use Rattle.resp_text.proofs.request.Request.len.Goals as goal
 

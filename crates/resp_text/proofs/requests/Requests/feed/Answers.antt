@@ -1,4 +1,4 @@
-use Rattle.std.proofs.Common.{◌≡◌, ◌+◌, ◌++◌, refl, sym, ap, subst, ◌∙◌, Some}
+use Rattle.std.proofs.Common.{◌+◌, refl, sym, ap, subst, ◌∙◌, Some}
 use Rattle.resp_text.specs.Reading.{Reading, StandsFor}
 use Rattle.resp_text.specs.declared.fault.FeedFault.TheVariants.{Protocol}
 use Rattle.resp_text.proofs.Feeds.{Follows, stands_for, stands_for_all, breaks_at}

@@ -1,4 +1,4 @@
-use Rattle.std.proofs.Common.{ℕ, List, [], ◌∷◌, ◌++◌, None, inl, refl, sym, ap, subst}
+use Rattle.std.proofs.Common.{[], ◌∷◌, None, inl, refl, sym, subst}
 use Rattle.resp_text.specs.Grammar.{IsUnfinished}
 use Rattle.resp_text.proofs.requests.Requests.new.Goals as goal
 
