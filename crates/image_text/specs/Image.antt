@@ -1,5 +1,5 @@
 -- The text of an image: a function of the pairs of a finite map.
-use Rattle.std.specs.Prelude.{◌≡◌, ℕ, ◌<◌, ◌≤◌, List, [], ◌∷◌, ◌++◌, length, codes}
+use Rattle.std.specs.Prelude.{◌≡◌, ℕ, ◌≤◌, List, [], ◌∷◌, ◌++◌, length, codes}
 use Rattle.std.specs.List.{flat_map, AllByRecursion}
 use Rattle.std.specs.Ordering.{nat_cmp}
 use Rattle.std.specs.Cmp.Lexicographic.{slice_cmp}
@@ -26,7 +26,8 @@ image_end count = codes "AFEND" ++ big_bytes 8 count
 
 -- the image of these pairs
 abbrev pub pairs_text : List (List ℕ × List ℕ) → List ℕ
-pairs_text pairs = image_front (length pairs) ++ flat_map pair_text pairs ++ image_end (length pairs)
+pairs_text pairs =
+    image_front (length pairs) ++ flat_map pair_text pairs ++ image_end (length pairs)
 
 -- the image of a map: that of its pairs in rising order of keys
 abbrev pub image_text : FinMap bytes_cmp (List ℕ) → List ℕ

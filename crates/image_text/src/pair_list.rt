@@ -23,7 +23,8 @@ impl Model for PairList {
 
     ghost view = { λ p. pairs_between 0 p.bytes.items p.ends.items };
 
-    ghost invariant = { λ p. ArePairEnds 0 p.ends.items (length p.bytes.items) × HasImage (pairs_between 0 p.bytes.items p.ends.items) };
+    ghost invariant = { λ p. ArePairEnds 0 p.ends.items (length p.bytes.items)
+        × HasImage (pairs_between 0 p.bytes.items p.ends.items) };
 }
 
 impl PairList {

@@ -31,8 +31,10 @@ fn length_bytes(key: u32, value: u32) -> [u8; 8]
 
 /// Hands two texts to the sink, one behind the other.
 fn write_both<K: Sink>(sink: &mut K, first: &[u8], second: &[u8]) -> Result<(), Failed>
-    ensures ok { OnOk result (Adds (K.written sink.old) (K.written sink.new) (first.now ++ second.now)) }
-    ensures failed { OnErr result (AddsPrefix (K.written sink.old) (K.written sink.new) (first.now ++ second.now)) }
+    ensures ok { OnOk result
+        (Adds (K.written sink.old) (K.written sink.new) (first.now ++ second.now)) }
+    ensures failed { OnErr result
+        (AddsPrefix (K.written sink.old) (K.written sink.new) (first.now ++ second.now)) }
     ensures faults { K.faults sink.old ≤ K.faults sink.new }
     ensures cause { OnErr result (Rose (K.faults sink.old) (K.faults sink.new)) }
 {
@@ -43,8 +45,10 @@ fn write_both<K: Sink>(sink: &mut K, first: &[u8], second: &[u8]) -> Result<(), 
 /// Writes what stands before the pairs.
 #[tactic(auto, unfolding(crate::specs::Image::image_front))]
 fn write_front<K: Sink>(count: u64, sink: &mut K) -> Result<(), Failed>
-    ensures ok { OnOk result (Adds (K.written sink.old) (K.written sink.new) (image_front count)) }
-    ensures failed { OnErr result (AddsPrefix (K.written sink.old) (K.written sink.new) (image_front count)) }
+    ensures ok { OnOk result
+        (Adds (K.written sink.old) (K.written sink.new) (image_front count)) }
+    ensures failed { OnErr result
+        (AddsPrefix (K.written sink.old) (K.written sink.new) (image_front count)) }
     ensures faults { K.faults sink.old ≤ K.faults sink.new }
     ensures cause { OnErr result (Rose (K.faults sink.old) (K.faults sink.new)) }
 {
@@ -54,8 +58,10 @@ fn write_front<K: Sink>(count: u64, sink: &mut K) -> Result<(), Failed>
 /// Writes what stands behind the pairs.
 #[tactic(auto, unfolding(crate::specs::Image::image_end))]
 fn write_end<K: Sink>(count: u64, sink: &mut K) -> Result<(), Failed>
-    ensures ok { OnOk result (Adds (K.written sink.old) (K.written sink.new) (image_end count)) }
-    ensures failed { OnErr result (AddsPrefix (K.written sink.old) (K.written sink.new) (image_end count)) }
+    ensures ok { OnOk result
+        (Adds (K.written sink.old) (K.written sink.new) (image_end count)) }
+    ensures failed { OnErr result
+        (AddsPrefix (K.written sink.old) (K.written sink.new) (image_end count)) }
     ensures faults { K.faults sink.old ≤ K.faults sink.new }
     ensures cause { OnErr result (Rose (K.faults sink.old) (K.faults sink.new)) }
 {
@@ -66,8 +72,12 @@ fn write_end<K: Sink>(count: u64, sink: &mut K) -> Result<(), Failed>
 #[tactic(auto, unfolding(crate::specs::Image::pair_text))]
 fn write_pair<K: Sink>(pairs: &PairList, i: usize, sink: &mut K) -> Result<(), Failed>
     requires { i < length pairs.now }
-    ensures ok { OnOk result (Adds (K.written sink.old) (K.written sink.new) (pair_text (slice_index_or pairs.now i ([], [])))) }
-    ensures failed { OnErr result (AddsPrefix (K.written sink.old) (K.written sink.new) (pair_text (slice_index_or pairs.now i ([], [])))) }
+    ensures ok { OnOk result
+        (Adds (K.written sink.old) (K.written sink.new)
+        (pair_text (slice_index_or pairs.now i ([], [])))) }
+    ensures failed { OnErr result
+        (AddsPrefix (K.written sink.old) (K.written sink.new)
+        (pair_text (slice_index_or pairs.now i ([], [])))) }
     ensures faults { K.faults sink.old ≤ K.faults sink.new }
     ensures cause { OnErr result (Rose (K.faults sink.old) (K.faults sink.new)) }
 {
@@ -77,8 +87,10 @@ fn write_pair<K: Sink>(pairs: &PairList, i: usize, sink: &mut K) -> Result<(), F
 
 /// Writes all pairs, one behind another.
 fn write_pairs<K: Sink>(pairs: &PairList, sink: &mut K) -> Result<(), Failed>
-    ensures ok { OnOk result (Adds (K.written sink.old) (K.written sink.new) (flat_map pair_text pairs.now)) }
-    ensures failed { OnErr result (AddsPrefix (K.written sink.old) (K.written sink.new) (flat_map pair_text pairs.now)) }
+    ensures ok { OnOk result
+        (Adds (K.written sink.old) (K.written sink.new) (flat_map pair_text pairs.now)) }
+    ensures failed { OnErr result
+        (AddsPrefix (K.written sink.old) (K.written sink.new) (flat_map pair_text pairs.now)) }
     ensures faults { K.faults sink.old ≤ K.faults sink.new }
     ensures cause { OnErr result (Rose (K.faults sink.old) (K.faults sink.new)) }
 {
@@ -91,8 +103,10 @@ fn write_pairs<K: Sink>(pairs: &PairList, sink: &mut K) -> Result<(), Failed>
 /// Writes the image of the pairs, which takes no memory. After `Failed` a prefix of it was
 /// written, and no one can tell how long it is.
 pub fn write_image<K: Sink>(pairs: &PairList, sink: &mut K) -> Result<(), Failed>
-    ensures ok { OnOk result (Adds (K.written sink.old) (K.written sink.new) (pairs_text pairs.now)) }
-    ensures failed { OnErr result (AddsPrefix (K.written sink.old) (K.written sink.new) (pairs_text pairs.now)) }
+    ensures ok { OnOk result
+        (Adds (K.written sink.old) (K.written sink.new) (pairs_text pairs.now)) }
+    ensures failed { OnErr result
+        (AddsPrefix (K.written sink.old) (K.written sink.new) (pairs_text pairs.now)) }
     ensures faults { K.faults sink.old ≤ K.faults sink.new }
     ensures cause { OnErr result (Rose (K.faults sink.old) (K.faults sink.new)) }
 {

@@ -9,6 +9,7 @@ on_err (Ok x) p = tt
 on_err (Err e) p = p
 
 -- a front of a text is one of a longer text
-pub AppendsFront-longer : (old new text more longer : List ℕ) → longer ≡ text ++ more → AppendsFront old new text → AppendsFront old new longer
+pub AppendsFront-longer : (old new text more longer : List ℕ) → longer ≡ text ++ more →
+    AppendsFront old new text → AppendsFront old new longer
 AppendsFront-longer old new text more longer e (front, rest, is, was) =
     (front, rest ++ more, e ∙ ap (λ (t : List ℕ). t ++ more) is ∙ append_assoc front rest more, was)

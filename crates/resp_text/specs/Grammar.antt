@@ -6,15 +6,17 @@ use Rattle.std.specs.List.{flat_map}
 abbrev pub line_end : List ℕ
 line_end = 13 ∷ 10 ∷ []
 
--- decimal digits that stand behind those of high make n: each puts what stands before it one place up
+-- decimal digits behind those of high make n: each puts what stands before it one place up
 abbrev pub GoesOn : ℕ → List ℕ → ℕ → Type 0
 GoesOn high [] n = n ≡ high
-GoesOn high (digit ∷ digits) n = (48 ≤ digit) × (digit ≤ 57) × GoesOn (high * 10 + (digit - 48)) digits n
+GoesOn high (digit ∷ digits) n = (48 ≤ digit) × (digit ≤ 57)
+    × GoesOn (high * 10 + (digit - 48)) digits n
 
 -- the bytes are the decimal digits of n: at least one, and no leading zero but in 0 itself
 abbrev pub IsNumber : List ℕ → ℕ → Type 0
 IsNumber [] n = ⊥
-IsNumber (digit ∷ digits) n = (48 ≤ digit) × (digit ≤ 57) × (digit ≡ 48 → digits ≡ []) × GoesOn (digit - 48) digits n
+IsNumber (digit ∷ digits) n = (48 ≤ digit) × (digit ≤ 57)
+    × (digit ≡ 48 → digits ≡ []) × GoesOn (digit - 48) digits n
 
 -- a line: its first byte, a number and a line end
 abbrev pub IsLine : ℕ → List ℕ → ℕ → Type 0
@@ -22,12 +24,14 @@ IsLine first text n = (digits : List ℕ) × IsNumber digits n × (text ≡ firs
 
 -- a word: the line of `$` and its length, its bytes, and a line end
 abbrev pub IsWord : List ℕ → List ℕ → Type 0
-IsWord text word = (line : List ℕ) × IsLine 36 line (length word) × (length word ≤ 1048576) × (text ≡ line ++ (word ++ line_end))
+IsWord text word = (line : List ℕ) × IsLine 36 line (length word) × (length word ≤ 1048576)
+    × (text ≡ line ++ (word ++ line_end))
 
 -- the text is these words, one behind another
 abbrev pub AreWords : List ℕ → List (List ℕ) → Type 0
 AreWords text [] = text ≡ []
-AreWords text (word ∷ words) = (front rest : List ℕ) × IsWord front word × (text ≡ front ++ rest) × AreWords rest words
+AreWords text (word ∷ words) = (front rest : List ℕ) × IsWord front word
+    × (text ≡ front ++ rest) × AreWords rest words
 
 -- how many bytes the words have together
 abbrev pub total_bytes : List (List ℕ) → ℕ
@@ -57,7 +61,8 @@ IsItem text (Some words) = IsRequest text words
 -- the text is these items, one behind another
 abbrev pub AreItems : List ℕ → List (Option (List (List ℕ))) → Type 0
 AreItems text [] = text ≡ []
-AreItems text (item ∷ items) = (front rest : List ℕ) × IsItem front item × (text ≡ front ++ rest) × AreItems rest items
+AreItems text (item ∷ items) = (front rest : List ℕ) × IsItem front item
+    × (text ≡ front ++ rest) × AreItems rest items
 
 -- the requests among the items, in order
 abbrev pub requests_of : List (Option (List (List ℕ))) → List (List (List ℕ))
@@ -65,11 +70,13 @@ requests_of = flat_map option_to_list
 
 -- the bytes are whole items, and the requests among them are these
 abbrev pub IsStream : List ℕ → List (List (List ℕ)) → Type 0
-IsStream text requests = (items : List (Option (List (List ℕ)))) × AreItems text items × (requests ≡ requests_of items)
+IsStream text requests = (items : List (Option (List (List ℕ)))) × AreItems text items
+    × (requests ≡ requests_of items)
 
 -- the bytes begin a stream
 abbrev pub IsBegun : List ℕ → Type 0
-IsBegun bytes = (more : List ℕ) × (requests : List (List (List ℕ))) × IsStream (bytes ++ more) requests
+IsBegun bytes = (more : List ℕ) × (requests : List (List (List ℕ)))
+    × IsStream (bytes ++ more) requests
 
 -- the bytes are one whole item
 abbrev pub IsWhole : List ℕ → Type 0

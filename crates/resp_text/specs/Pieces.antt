@@ -8,7 +8,7 @@ use Rattle.resp_text.specs.declared.scan.Outcome.TheVariants.{Open, End, Broken}
 use Rattle.resp_text.specs.declared.requests.Reached.{Reached}
 use Rattle.resp_text.specs.declared.fault.ProtocolKind.{ProtocolKind}
 
--- a reader stands behind these bytes of an item: what finishes the item is known from where it stands
+-- a reader stands behind these bytes of an item: where it stands tells what finishes the item
 pub record StandsBehind (scan : Scan) (bytes : List ℕ) : Type 0 where
   pub sound : IsSound scan
   pub leads : (tail : List ℕ) → IsWhole (bytes ++ tail) ↔ Finishes scan tail
@@ -16,11 +16,13 @@ pub record StandsBehind (scan : Scan) (bytes : List ℕ) : Type 0 where
 -- all bytes were read; or the byte behind those that were read is one with which the item is none
 abbrev pub EndsFor : List ℕ → ℕ → ℕ → Option ProtocolKind → Type 0
 EndsFor bytes whole end None = end ≡ length bytes
-EndsFor bytes whole end (Some kind) = (end < length bytes) × ((tail : List ℕ) → IsWhole (drop whole (take (end + 1) bytes) ++ tail) → ⊥)
+EndsFor bytes whole end (Some kind) = (end < length bytes)
+    × ((tail : List ℕ) → IsWhole (drop whole (take (end + 1) bytes) ++ tail) → ⊥)
 
 -- up to a place the bytes are whole items, whose requests wait now; up to another they are the item
 -- in which the reader stands
-pub record Reads (old new : List (List (List ℕ))) (bytes : List ℕ) (reached : Reached) : Type 0 where
+pub record Reads (old new : List (List (List ℕ))) (bytes : List ℕ)
+    (reached : Reached) : Type 0 where
   pub came : List (List (List ℕ))
   pub stream : IsStream (take reached.whole bytes) came
   pub waiting : new ≡ old ++ came
@@ -31,10 +33,16 @@ pub record Reads (old new : List (List (List ℕ))) (bytes : List ℕ) (reached 
 
 -- an item that began in earlier bytes was read on: those bytes and the piece's are one item, or the
 -- reader stands behind them, or behind those before the byte with which they are none
-abbrev pub EndsItem : List (List (List ℕ)) → List (List (List ℕ)) → List ℕ → List ℕ → List ℕ → Outcome → Type 0
-EndsItem old new rest rest' piece (End taken) = (taken ≤ length piece) × (rest' ≡ rest ++ take taken piece) × ((item : Option (List (List ℕ))) × IsItem rest' item × (new ≡ old ++ option_to_list item))
-EndsItem old new rest rest' piece (Open scan) = (new ≡ old) × (rest' ≡ rest ++ piece) × StandsBehind scan rest'
-EndsItem old new rest rest' piece (Broken at scan kind) = (new ≡ old) × (at < length piece) × (rest' ≡ rest ++ take at piece) × StandsBehind scan rest' × ((tail : List ℕ) → IsWhole ((rest ++ take (at + 1) piece) ++ tail) → ⊥)
+abbrev pub EndsItem : List (List (List ℕ)) → List (List (List ℕ)) → List ℕ → List ℕ → List ℕ →
+    Outcome → Type 0
+EndsItem old new rest rest' piece (End taken) = (taken ≤ length piece)
+    × (rest' ≡ rest ++ take taken piece)
+    × ((item : Option (List (List ℕ))) × IsItem rest' item × (new ≡ old ++ option_to_list item))
+EndsItem old new rest rest' piece (Open scan) = (new ≡ old) × (rest' ≡ rest ++ piece)
+    × StandsBehind scan rest'
+EndsItem old new rest rest' piece (Broken at scan kind) = (new ≡ old) × (at < length piece)
+    × (rest' ≡ rest ++ take at piece) × StandsBehind scan rest'
+    × ((tail : List ℕ) → IsWhole ((rest ++ take (at + 1) piece) ++ tail) → ⊥)
 
 -- a list has these first, whatever came behind
 abbrev pub Begins : List (List (List ℕ)) → List (List (List ℕ)) → Type 0

@@ -4,8 +4,8 @@ use Rattle.resp_text.specs.Grammar.{IsStream, IsBegun, IsUnfinished}
 use Rattle.resp_text.specs.declared.fault.FeedFault.{FeedFault}
 use Rattle.resp_text.specs.declared.fault.FeedFault.TheVariants.{Protocol, NoMemory}
 
--- the requests that are whole and were not given yet, the bytes behind the last whole item, how many
--- bytes stand before those, and where the bytes broke
+-- the requests that are whole and were not given yet, the bytes behind the last whole item, how
+-- many bytes stand before those, and where the bytes broke
 pub record Reading : Type 0 where
   pub waiting : List (List (List ℕ))
   pub rest : List ℕ
@@ -18,7 +18,8 @@ nothing_read = record { waiting = []; rest = []; before = 0; fault = None }
 
 -- the bytes taken so far are whole items and then an unfinished one; the requests among the whole
 -- ones are those that were given and those that wait
-pub record StandsFor (reader : Reading) (taken : List ℕ) (given : List (List (List ℕ))) : Type 0 where
+pub record StandsFor (reader : Reading) (taken : List ℕ)
+    (given : List (List (List ℕ))) : Type 0 where
   pub whole : List ℕ
   pub is : taken ≡ whole ++ reader.rest
   pub stream : IsStream whole (given ++ reader.waiting)
@@ -33,7 +34,9 @@ pub record BreaksAt (bytes : List ℕ) (place : ℕ) : Type 0 where
 
 -- what a feed of a piece leaves of a reader that stood for these bytes: at `Ok` it stands for the
 -- piece too, at a break for the bytes before it, and without memory nothing has changed
-abbrev pub FeedsOn : Reading → Reading → List ℕ → List (List (List ℕ)) → Result (Unit {0}) FeedFault → Type 0
+abbrev pub FeedsOn : Reading → Reading → List ℕ → List (List (List ℕ)) →
+    Result (Unit {0}) FeedFault → Type 0
 FeedsOn old new fed given (Ok x) = StandsFor new fed given × (new.fault ≡ None)
 FeedsOn old new fed given (Err NoMemory) = new ≡ old
-FeedsOn old new fed given (Err (Protocol place kind)) = BreaksAt fed place × StandsFor new (take place fed) given × (new.fault ≡ Some (Protocol place kind))
+FeedsOn old new fed given (Err (Protocol place kind)) = BreaksAt fed place
+    × StandsFor new (take place fed) given × (new.fault ≡ Some (Protocol place kind))

@@ -80,7 +80,8 @@ pub fn reply_text(reply: &Reply, out: &mut Bytes) -> Result<(), NoMemory>
 /// Appends a line: its first bytes, the rest of it, and a line end.
 fn push_line(out: &mut Bytes, first: &[u8], rest: &[u8]) -> Result<(), NoMemory>
     ensures whole { OnOk result (out.new ≡ out.old ++ (first.now ++ rest.now ++ line_end)) }
-    ensures front { OnErr result (AppendsFront out.old out.new (first.now ++ rest.now ++ line_end)) }
+    ensures front { OnErr result
+        (AppendsFront out.old out.new (first.now ++ rest.now ++ line_end)) }
 {
     out.push_all(first)?;
     out.push_all(rest)?;

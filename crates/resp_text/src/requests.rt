@@ -28,7 +28,8 @@ pub(crate) struct Reached {
 /// Adds the request that a whole item is. A skipped item is none.
 fn push_item(alloc: Global, waiting: &mut VecDeque<Request>, text: &[u8]) -> Result<(), NoMemory>
     requires { IsWhole text.now }
-    ensures added { OnOk result ((item : Option (List (List ℕ))) × IsItem text.now item × (waiting.new.items ≡ waiting.old.items ++ option_to_list item)) }
+    ensures added { OnOk result ((item : Option (List (List ℕ))) × IsItem text.now item
+        × (waiting.new.items ≡ waiting.old.items ++ option_to_list item)) }
     ensures no_memory { OnErr result (waiting.new.items ≡ waiting.old.items) }
 {
     if text[1] == b'0' || text[1] == b'-' {
@@ -89,7 +90,8 @@ fn end_item(
     piece: &[u8],
 ) -> Result<Outcome, NoMemory>
     requires { StandsBehind scan rest.old.items }
-    ensures ended { IfOk result (EndsItem waiting.old.items waiting.new.items rest.old.items rest.new.items piece.now) }
+    ensures ended { IfOk result (EndsItem waiting.old.items waiting.new.items
+        rest.old.items rest.new.items piece.now) }
     ensures no_memory { OnErr result (waiting.new.items ≡ waiting.old.items) }
     ensures no_memory_rest { OnErr result (BeginsBytes rest.old.items rest.new.items) }
 {
@@ -135,8 +137,10 @@ fn read_piece(
 ) -> Result<Reached, NoMemory>
     requires stands { StandsBehind scan rest.old.items }
     requires small { length rest.old.items + length piece.now < 2 ^ 63 }
-    ensures read { IfOk result (Reads waiting.old.items waiting.new.items (rest.old.items ++ piece.now)) }
-    ensures kept { IfOk result (λ reached. rest.new.items ≡ drop reached.whole (take reached.end (rest.old.items ++ piece.now))) }
+    ensures read { IfOk result
+        (Reads waiting.old.items waiting.new.items (rest.old.items ++ piece.now)) }
+    ensures kept { IfOk result (λ reached. rest.new.items
+        ≡ drop reached.whole (take reached.end (rest.old.items ++ piece.now))) }
     ensures no_memory { OnErr result (Begins waiting.old.items waiting.new.items) }
     ensures no_memory_rest { OnErr result (BeginsBytes rest.old.items rest.new.items) }
 {
@@ -270,7 +274,9 @@ impl Requests {
         ensures first { self.old.waiting ≡ option_to_list result ++ self.new.waiting }
         ensures none { IsNone result ↔ (self.old.waiting ≡ []) }
         ensures others { self.new ≡ record self.old { waiting = self.new.waiting } }
-        ensures given { (taken : List ℕ) (given : List (List (List ℕ))) → StandsFor self.old taken given → StandsFor self.new taken (given ++ option_to_list result) }
+        ensures given { (taken : List ℕ) (given : List (List (List ℕ))) →
+            StandsFor self.old taken given →
+            StandsFor self.new taken (given ++ option_to_list result) }
     {
         self.waiting.pop_front()
     }

@@ -203,7 +203,8 @@ impl Scan {
 
     fn count_digit(self, high: u32, byte: u8) -> Step
         requires { high ≤ 1048576 }
-        ensures { result ≡ number_step self (digit_behind high byte 1024) Part.Count ProtocolKind.Count }
+        ensures { result
+            ≡ number_step self (digit_behind high byte 1024) Part.Count ProtocolKind.Count }
     {
         match digit_behind(high, byte, MOST_WORDS) {
             Some(n) => Step::Go(Scan {
@@ -233,7 +234,8 @@ impl Scan {
 
     fn length_digit(self, high: u32, byte: u8) -> Step
         requires { high ≤ 1048576 }
-        ensures { result ≡ number_step self (digit_behind high byte (min 1048576 self.room)) Part.Length ProtocolKind.Length }
+        ensures { result ≡ number_step self (digit_behind high byte (min 1048576 self.room))
+            Part.Length ProtocolKind.Length }
     {
         match digit_behind(high, byte, MOST_LENGTH.min(self.room)) {
             Some(n) => Step::Go(Scan {
@@ -246,7 +248,8 @@ impl Scan {
 
     /// Behind a word: the next one, or the end of the request.
     fn behind_word(self) -> Step
-        ensures { result ≡ (if self.words == 0 then Step.Whole else Step.Go (record self { part = Part.Dollar })) }
+        ensures { result ≡ (if self.words == 0 then Step.Whole
+            else Step.Go (record self { part = Part.Dollar })) }
     {
         if self.words == 0 {
             return Step::Whole;

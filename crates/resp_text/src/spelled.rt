@@ -17,7 +17,8 @@ struct Line {
 /// The line at the front of a text.
 fn line_of(text: &[u8]) -> Line
     requires { BeginsWithLine text.now }
-    ensures { (n : ℕ) (digits more : List ℕ) → HasLine text.now n digits more → (result.number ≡ n) × (result.length ≡ length digits + 3) }
+    ensures { (n : ℕ) (digits more : List ℕ) → HasLine text.now n digits more →
+        (result.number ≡ n) × (result.length ≡ length digits + 3) }
 {
     let mut number = 0;
     let mut at = 1;
@@ -34,7 +35,9 @@ fn line_of(text: &[u8]) -> Line
 /// The word at the front of a text, and what stands behind its line end.
 fn first_word(text: &[u8]) -> (&[u8], &[u8])
     requires { BeginsWithWord text.now }
-    ensures split { (word : List ℕ) (words : List (List ℕ)) → AreWords text.now (word ∷ words) → (result.0.now ≡ word) × AreWords result.1.now words }
+    ensures split { (word : List ℕ) (words : List (List ℕ)) →
+        AreWords text.now (word ∷ words) →
+        (result.0.now ≡ word) × AreWords result.1.now words }
     ensures shorter { length result.1.now < length text.now }
 {
     let line = line_of(text);

@@ -12,6 +12,10 @@ returns-in_err-write_pair-clause-failed g c =
     let within : i < length pairs = omega (arith, c.loop-i-test.true, c.len-i-end.ensures.count) in
     let before : List ℕ = flat_map pair_text (take i pairs) in
     let pair : List ℕ = pair_text (get_or pairs i none) in
-    failed_front c.from_residual.result (g.K.Sink.written c.args.sink.now) (g.K.Sink.written c.write_pair.new.sink) (before ++ pair) (flat_map pair_text (drop (i + 1) pairs)) (flat_map pair_text pairs)
+    failed_front c.from_residual.result (g.K.Sink.written c.args.sink.now)
+    (g.K.Sink.written c.write_pair.new.sink) (before ++ pair) (flat_map pair_text (drop
+    (i + 1) pairs)) (flat_map pair_text pairs)
     (text_split pairs i none within)
-    (AddsPrefix-behind (g.K.Sink.written c.args.sink.now) (g.K.Sink.written c.loop-i.sink) (g.K.Sink.written c.write_pair.new.sink) before pair c.loop-i.invariant.written c.in_err-write_pair.ensures.failed)
+    (AddsPrefix-behind (g.K.Sink.written c.args.sink.now) (g.K.Sink.written c.loop-i.sink)
+    (g.K.Sink.written c.write_pair.new.sink) before pair c.loop-i.invariant.written
+    c.in_err-write_pair.ensures.failed)

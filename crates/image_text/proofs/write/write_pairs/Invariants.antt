@@ -6,6 +6,7 @@ use Rattle.image_text.proofs.write.write_pairs.Given as goal
 
 abbrev pub invariant-loop-i : goal.invariant-loop-i
 invariant-loop-i g l = record {
-  written : Adds (g.K.Sink.written l.fn.sink) (g.K.Sink.written l.sink) (flat_map pair_text (take l.i l.pairs));
+  written : Adds (g.K.Sink.written l.fn.sink) (g.K.Sink.written l.sink) (flat_map pair_text
+      (take l.i l.pairs));
   faults : g.K.Sink.faults l.fn.sink ≤ g.K.Sink.faults l.sink;
 }

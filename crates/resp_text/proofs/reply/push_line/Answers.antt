@@ -7,7 +7,8 @@ use Rattle.resp_text.proofs.reply.push_line.Goals as goal
 
 pub returns-in_err-push_all-2-clause-front : goal.returns-in_err-push_all-2-clause-front
 returns-in_err-push_all-2-clause-front c =
-    let front : AppendsFront c.args.out.now c.push_all-2.new.self (c.args.first.now ++ c.args.rest.now ++ line_end) = (
+    let front : AppendsFront c.args.out.now c.push_all-2.new.self
+    (c.args.first.now ++ c.args.rest.now ++ line_end) = (
       c.args.first.now,
       c.args.rest.now ++ line_end,
       append_assoc c.args.first.now c.args.rest.now line_end,

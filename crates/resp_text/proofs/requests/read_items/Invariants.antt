@@ -8,5 +8,6 @@ decreases-items l = length l.bytes - l.whole
 abbrev pub invariant-items : goal.invariant-items
 invariant-items l = record {
   within : l.whole ≤ length l.bytes;
-  read : (came : List (List (List ℕ))) × IsStream (take l.whole l.bytes) came × (l.waiting.items ≡ l.fn.waiting.items ++ came);
+  read : (came : List (List (List ℕ))) × IsStream (take l.whole l.bytes) came
+      × (l.waiting.items ≡ l.fn.waiting.items ++ came);
 }

@@ -6,4 +6,5 @@ abbrev pub decreases-loop-rest : goal.decreases-loop-rest
 decreases-loop-rest l = length l.rest
 
 abbrev pub invariant-loop-rest : goal.invariant-loop-rest
-invariant-loop-rest l = (words : List (List ℕ)) → IsRequest l.text words → (left : List (List ℕ)) × AreWords l.rest left × (words ≡ l.request ++ left)
+invariant-loop-rest l = (words : List (List ℕ)) → IsRequest l.text words →
+    (left : List (List ℕ)) × AreWords l.rest left × (words ≡ l.request ++ left)

@@ -8,5 +8,9 @@ returns-clause-stands c = record {
   is = sym c.new-2.ensures.items;
   stream = ([], refl, c.new.ensures.items);
   before = refl;
-  unfinished = subst IsUnfinished (sym c.new-2.ensures.items) (42, 48 ∷ 13 ∷ 10 ∷ [], (None, inl refl));
+  unfinished = subst IsUnfinished (sym c.new-2.ensures.items) (
+    42,
+    48 ∷ 13 ∷ 10 ∷ [],
+    (None, inl refl),
+  );
 }

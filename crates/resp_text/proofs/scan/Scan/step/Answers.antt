@@ -5,4 +5,5 @@ use Rattle.resp_text.proofs.Steps.{step_means}
 use Rattle.resp_text.proofs.scan.Scan.step.Goals as goal
 
 pub returns : goal.returns
-returns c = subst (λ (step : Step). StepMeans c.args.self c.args.byte step) (sym c.step_by.ensures) (step_means c.args.self c.args.byte c.requires.sound c.requires.at_byte)
+returns c = subst (λ (step : Step). StepMeans c.args.self c.args.byte step)
+    (sym c.step_by.ensures) (step_means c.args.self c.args.byte c.requires.sound c.requires.at_byte)
