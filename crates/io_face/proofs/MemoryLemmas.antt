@@ -52,16 +52,16 @@ write-added old new piece n size ok =
     ap Some (ap (λ s. s.written) ok ∙ ap (λ bytes. old.written ++ bytes) (sym (take_all n piece (omega arith))))
 
 -- a source in memory, by its parts
-abbrev script : List ℕ → List ℕ → CallLog → Script
-script left cuts calls = record { left = left; cuts = cuts; calls = calls }
+abbrev script : ℕ → List ℕ → List ℕ → CallLog → Script
+script room left cuts calls = record { left = left; cuts = cuts; room = room; calls = calls }
 
 -- the source whose places moved on by a read is the source after that read
-pub after_read-moved : (bytes cuts : List ℕ) (at used size next : ℕ) (before now : CallLog) → next ≡ min (length cuts) (used + 1) → now ≡ after_call before → script (drop (at + size) bytes) (drop next cuts) now ≡ after_read (script (drop at bytes) (drop used cuts) before) size
-after_read-moved bytes cuts at used size next before now moved counted =
+pub after_read-moved : (bytes cuts : List ℕ) (room at used size next : ℕ) (before now : CallLog) → next ≡ min (length cuts) (used + 1) → now ≡ after_call before → script room (drop (at + size) bytes) (drop next cuts) now ≡ after_read (script room (drop at bytes) (drop used cuts) before) size
+after_read-moved bytes cuts room at used size next before now moved counted =
     let left : drop (at + size) bytes ≡ drop size (drop at bytes) = sym (drop-drop size at bytes) in
     let turned : next ≡ min (used + 1) (length cuts) = omega arith in
     let rest : drop next cuts ≡ drop 1 (drop used cuts) =
     ap (λ n. drop n cuts) turned ∙ drop_min (used + 1) cuts ∙ sym (drop-drop 1 used cuts) in
-    ap (λ l. script l (drop next cuts) now) left
-    ∙ ap (λ c. script (drop size (drop at bytes)) c now) rest
-    ∙ ap (script (drop size (drop at bytes)) (drop 1 (drop used cuts))) counted
+    ap (λ l. script room l (drop next cuts) now) left
+    ∙ ap (λ c. script room (drop size (drop at bytes)) c now) rest
+    ∙ ap (script room (drop size (drop at bytes)) (drop 1 (drop used cuts))) counted

@@ -1,4 +1,5 @@
 pub mod Faults
+pub mod Folder
 pub mod Told
 pub mod Calls
 pub mod Memory

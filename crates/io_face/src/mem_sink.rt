@@ -53,6 +53,13 @@ impl MemSink {
         &self.text
     }
 
+    /// What was written, as the vector that it lies in.
+    pub(crate) fn into_text(self) -> Vec<u8>
+        ensures { result.items ≡ self.written }
+    {
+        self.text
+    }
+
     /// How many writes failed.
     pub fn faults(&self) -> u64
         ensures { result ≡ self.now.calls.faults }
@@ -70,8 +77,8 @@ impl Sink for MemSink {
     fn write(&mut self, piece: &[u8]) -> Result<usize, Failed>
         ensures size { IfOk result (λ n. n ≡ length piece.now) }
         ensures ok { OnOk result (self.new ≡ after_write self.old piece.now) }
-        ensures due { IsErr result
-            ↔ (IsDue self.old.calls ⊎ (self.old.room < length self.old.written + length piece.now)) }
+        ensures due { IsErr result ↔ (IsDue self.old.calls
+            ⊎ (self.old.room < length self.old.written + length piece.now)) }
         ensures err { OnErr result (self.new ≡ after_failed_write self.old) }
         ensures faults { self.old.calls.faults ≤ self.new.calls.faults }
     {

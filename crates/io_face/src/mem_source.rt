@@ -1,5 +1,5 @@
 //! A source over bytes in memory, whose reads are cut short and fail where its maker says.
-ghost use Rattle.std.specs.Prelude.{◌≡◌, ◌+◌, ◌<◌, ◌≤◌, ◌↔◌, [], ◌++◌, length, take, drop, IfOk, IsErr, OnErr, IfSome, Some};
+ghost use Rattle.std.specs.Prelude.{◌≡◌, ◌+◌, ◌<◌, ◌≤◌, ◌↔◌, [], ◌++◌, length, take, drop, IfOk, IsErr, OnErr, IfSome, Some, vec_capacity};
 ghost use Rattle.io_face.specs.Faults.{Rose};
 ghost use Rattle.io_face.specs.Told.{Takes};
 ghost use Rattle.io_face.specs.Calls.{IsDue};
@@ -23,7 +23,7 @@ pub struct MemSource {
 }
 
 impl Model for MemSource {
-    ghost use Rattle.std.specs.Prelude.{◌≤◌, drop, vec_len};
+    ghost use Rattle.std.specs.Prelude.{◌≤◌, drop, vec_len, vec_capacity};
     ghost use Rattle.io_face.specs.Memory.{Script};
 
     ghost Value = { Script };
@@ -31,6 +31,7 @@ impl Model for MemSource {
     ghost view = { λ s. record {
       left = drop s.at s.bytes.items;
       cuts = drop s.used s.cuts.items;
+      room = vec_capacity s.bytes;
       calls = s.calls;
     } };
 
@@ -45,6 +46,7 @@ impl MemSource {
         ensures { result ≡ record {
           left = bytes.items;
           cuts = cuts.items;
+          room = vec_capacity bytes;
           calls = record { fails = fails.items; made = 0; faults = 0 };
         } }
     {
@@ -64,6 +66,13 @@ impl MemSource {
         &self.bytes[self.at..]
     }
 
+    /// The memory under the bytes, with the bytes that were read still at its front.
+    pub(crate) fn into_bytes(self) -> Vec<u8>
+        ensures { vec_capacity result ≡ self.room }
+    {
+        self.bytes
+    }
+
     /// How many reads failed.
     pub fn faults(&self) -> u64
         ensures { result ≡ self.now.calls.faults }
@@ -78,7 +87,8 @@ impl Source for MemSource {
     ghost left = { λ s. Some s.left };
 
     fn read(&mut self, buf: &mut [u8]) -> Result<usize, Failed>
-        ensures size { IfOk result (λ n. n ≡ read_size self.old.cuts (length buf.old) (length self.old.left)) }
+        ensures size { IfOk result
+            (λ n. n ≡ read_size self.old.cuts (length buf.old) (length self.old.left)) }
         ensures placed { IfOk result (λ n. buf.new ≡ take n self.old.left ++ drop n buf.old) }
         ensures ok { IfOk result (λ n. self.new ≡ after_read self.old n) }
         ensures due { IsErr result ↔ IsDue self.old.calls }

@@ -18,7 +18,8 @@ pub trait Sink {
     fn write(&mut self, piece: &[u8]) -> Result<usize, Failed>
         ensures count { IfOk result (λ n. n ≤ length piece.now) }
         ensures some { IfOk result (λ n. 0 < length piece.now → 0 < n) }
-        ensures added { IfOk result (λ n. Adds (written self.old) (written self.new) (take n piece.now)) }
+        ensures added { IfOk result
+            (λ n. Adds (written self.old) (written self.new) (take n piece.now)) }
 
         // A failed write adds nothing, and comes only where the count rose.
         ensures failed { OnErr result (written self.new ≡ written self.old) }
