@@ -1,0 +1,19 @@
+use Rattle.std.proofs.Common.{◌++◌, ℕ, List, OnOk, OnErr, subst}
+use Rattle.std.specs.Prelude.{codes}
+use Rattle.io_face.specs.Told.{Adds, AddsPrefix}
+use Rattle.image_text.specs.Image.{image_front}
+use Rattle.image_text.proofs.write.write_front.Goals as goal
+
+pub returns-clause-ok : goal.returns-clause-ok
+unfolding image_front
+returns-clause-ok g c =
+    subst (λ (count : List ℕ). OnOk c.write_both.result (Adds (g.K.Sink.written c.args.sink.now)
+    (g.K.Sink.written c.write_both.new.sink)
+    (codes "AFIMAGE1" ++ count))) c.count_bytes.ensures c.write_both.ensures.ok
+
+pub returns-clause-failed : goal.returns-clause-failed
+unfolding image_front
+returns-clause-failed g c =
+    subst (λ (count : List ℕ). OnErr c.write_both.result (AddsPrefix
+    (g.K.Sink.written c.args.sink.now) (g.K.Sink.written c.write_both.new.sink)
+    (codes "AFIMAGE1" ++ count))) c.count_bytes.ensures c.write_both.ensures.failed

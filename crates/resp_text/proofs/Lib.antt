@@ -1,0 +1,13 @@
+-- What the proofs of this crate share.
+pub mod Buffers
+pub mod Residuals
+pub mod Steps
+pub mod Scans
+pub mod Texts
+pub mod Grammars
+pub mod Completions
+pub mod PieceLaws
+pub mod Feeds
+pub mod Fronts
+pub mod Spellings
+pub mod Readings

@@ -1,0 +1,36 @@
+use Rattle.std.proofs.Common.{◌≤◌, ◌+◌, length, take, ap, ◌∙◌, arith}
+use Rattle.resp_text.proofs.PieceLaws.{came_more, reads_open, reads_broken}
+use Rattle.std.proofs.lemmas.List.{length-drop}
+use Rattle.resp_text.proofs.requests.read_items.Goals as goal
+
+pub items-preserved : goal.items-preserved
+items-preserved c =
+    let fits : c.items.whole + c.in-End.taken ≤ length c.args.bytes.now = omega (
+      arith,
+      c.in-End.ensures.1,
+      ap length c.split_at.ensures.back,
+      length-drop c.items.whole
+          c.args.bytes.now,
+      c.items.invariant.within,
+    ) in
+    record {
+      within = fits;
+      read = came_more _ _ _ c.args.bytes.now c.split_at-in-End.result.0.now c.items.whole
+          c.in-End.taken fits (c.split_at-in-End.ensures.front
+          ∙ ap (take c.in-End.taken) c.split_at.ensures.back) c.items.invariant.read
+          c.in_ok-push_item-in-End.ensures.added;
+    }
+
+pub returns-in-Open-clause-read : goal.returns-in-Open-clause-read
+returns-in-Open-clause-read c =
+    reads_open _ _ c.args.bytes.now c.split_at.result.1.now c.in-Open.scan c.items.whole
+    c.items.invariant.within c.split_at.ensures.back c.items.invariant.read
+    (record { sound = c.in-Open.ensures.0; leads = c.in-Open.ensures.1 })
+
+pub returns-in-Broken-clause-read : goal.returns-in-Broken-clause-read
+returns-in-Broken-clause-read c =
+    reads_broken _ _ c.args.bytes.now c.split_at.result.1.now c.in-Broken.scan c.in-Broken.kind
+    c.items.whole c.in-Broken.at c.items.invariant.within c.split_at.ensures.back
+    c.items.invariant.read
+    c.in-Broken.ensures.0 (record { sound = c.in-Broken.ensures.1; leads = c.in-Broken.ensures.2 })
+    c.in-Broken.ensures.3

@@ -1,0 +1,8 @@
+-- What is defined of RESP2: requests, replies, and what a reader of requests has.
+pub mod Grammar
+pub mod Pieces
+pub mod Reading
+pub mod Lines
+pub mod Residual
+pub mod Words
+pub mod Replies

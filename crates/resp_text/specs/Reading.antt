@@ -1,0 +1,42 @@
+-- What a reader of requests has, and what it says of the bytes that it was fed.
+use Rattle.std.specs.Prelude.{◌≡◌, ℕ, ◌+◌, ◌<◌, List, [], ◌++◌, length, take, Option, Some, None, Result, Ok, Err}
+use Rattle.resp_text.specs.Grammar.{IsStream, IsBegun, IsUnfinished}
+use Rattle.resp_text.specs.declared.fault.FeedFault.{FeedFault}
+use Rattle.resp_text.specs.declared.fault.FeedFault.TheVariants.{Protocol, NoMemory}
+
+-- the requests that are whole and were not given yet, the bytes behind the last whole item, how
+-- many bytes stand before those, and where the bytes broke
+pub record Reading : Type 0 where
+  pub waiting : List (List (List ℕ))
+  pub rest : List ℕ
+  pub before : ℕ
+  pub fault : Option FeedFault
+
+-- a reader that was fed nothing
+abbrev pub nothing_read : Reading
+nothing_read = record { waiting = []; rest = []; before = 0; fault = None }
+
+-- the bytes taken so far are whole items and then an unfinished one; the requests among the whole
+-- ones are those that were given and those that wait
+pub record StandsFor (reader : Reading) (taken : List ℕ)
+    (given : List (List (List ℕ))) : Type 0 where
+  pub whole : List ℕ
+  pub is : taken ≡ whole ++ reader.rest
+  pub stream : IsStream whole (given ++ reader.waiting)
+  pub before : reader.before ≡ length whole
+  pub unfinished : IsUnfinished reader.rest
+
+-- the bytes before the place begin a stream, and with the byte at the place they begin none
+pub record BreaksAt (bytes : List ℕ) (place : ℕ) : Type 0 where
+  pub within : place < length bytes
+  pub begun : IsBegun (take place bytes)
+  pub broken : IsBegun (take (place + 1) bytes) → ⊥
+
+-- what a feed of a piece leaves of a reader that stood for these bytes: at `Ok` it stands for the
+-- piece too, at a break for the bytes before it, and without memory nothing has changed
+abbrev pub FeedsOn : Reading → Reading → List ℕ → List (List (List ℕ)) →
+    Result (Unit {0}) FeedFault → Type 0
+FeedsOn old new fed given (Ok x) = StandsFor new fed given × (new.fault ≡ None)
+FeedsOn old new fed given (Err NoMemory) = new ≡ old
+FeedsOn old new fed given (Err (Protocol place kind)) = BreaksAt fed place
+    × StandsFor new (take place fed) given × (new.fault ≡ Some (Protocol place kind))

@@ -1,0 +1,24 @@
+//! Laws of the request grammar, for whatever bytes and requests.
+ghost use Rattle.std.specs.Prelude.{◌≡◌, ◌++◌, ℕ, List};
+ghost use Rattle.resp_text.specs.Grammar.{IsRequest, IsStream, IsUnfinished};
+ghost use Rattle.resp_text.specs.Reading.{BreaksAt};
+
+/// Each request has one spelling.
+pub fn one_spelling()
+    ensures { (text other : List ℕ) (words : List (List ℕ)) →
+        IsRequest text words → IsRequest other words → text ≡ other }
+{}
+
+/// Bytes have one reading: where they are whole items and an unfinished one, they are so in one
+/// way, and the requests are the same.
+pub fn one_reading()
+    ensures { (whole other rest behind : List ℕ) (requests others : List (List (List ℕ))) →
+        IsStream whole requests → IsStream other others → IsUnfinished rest → IsUnfinished behind →
+        whole ++ rest ≡ other ++ behind → (requests ≡ others) × (whole ≡ other) × (rest ≡ behind) }
+{}
+
+/// No bytes behind a break make the bytes a stream.
+pub fn break_is_final()
+    ensures { (bytes more : List ℕ) (place : ℕ) (requests : List (List (List ℕ))) →
+        BreaksAt bytes place → IsStream (bytes ++ more) requests → ⊥ }
+{}
