@@ -14,10 +14,6 @@ TakesCount old new count = (piece : List ℕ) × ((length piece ≡ count) × Ta
 abbrev pub TakesSome : Option (List ℕ) → Option (List ℕ) → Type 0
 TakesSome old new = (piece : List ℕ) × Takes old new piece
 
--- at most so many bytes were taken off the front
-abbrev pub TakesAtMost : Option (List ℕ) → Option (List ℕ) → ℕ → Type 0
-TakesAtMost old new most = (piece : List ℕ) × ((length piece ≤ most) × Takes old new piece)
-
 -- nothing is left, where that is told
 abbrev pub IsAtEnd : Option (List ℕ) → Type 0
 IsAtEnd left = IfSome left (λ rest. rest ≡ [])

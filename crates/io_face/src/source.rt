@@ -1,7 +1,7 @@
 //! Where bytes come from.
 ghost use Rattle.std.specs.Prelude.{◌≡◌, ℕ, ◌+◌, ◌<◌, ◌≤◌, ◌↔◌, List, Option, None, [], length, take, IfOk, IfSome, OnErr, IsErrOf, vec_len};
 ghost use Rattle.io_face.specs.Faults.{Rose};
-ghost use Rattle.io_face.specs.Told.{Takes, TakesCount, TakesAtMost, TakesSome, IsAtEnd};
+ghost use Rattle.io_face.specs.Told.{Takes, TakesCount, TakesSome, IsAtEnd};
 
 use crate::failed::Failed;
 use std::alloc::{AllocError, Global};
@@ -80,11 +80,9 @@ pub fn read_all<S: Source>(
     ensures end { IfOk result (λ _. IsAtEnd (S.left source.new)) }
     ensures within { IfOk result (λ text. length text ≤ limit) }
 
-    // Too long is exactly where one byte past the limit was taken, unless memory ran out.
+    // Too long is exactly where one byte past the limit was taken.
     ensures too_long { IsErrOf result ReadAllError.TooLong
         → TakesCount (S.left source.old) (S.left source.new) (limit + 1) }
-    ensures limited { IsErrOf result ReadAllError.ReadFault
-        → TakesAtMost (S.left source.old) (S.left source.new) limit }
     ensures part { OnErr result (TakesSome (S.left source.old) (S.left source.new)) }
 
     ensures faults { S.faults source.old ≤ S.faults source.new }
