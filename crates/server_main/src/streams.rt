@@ -1,5 +1,7 @@
 //! Readers and writers of std as a source and a sink. They tell no bytes, and count their faults.
-ghost use Rattle.std.specs.Prelude.{◌≡◌, length};
+ghost use Rattle.std.specs.Prelude.{◌≡◌, ◌<◌, ◌≤◌, length, IfOk, OnErr};
+ghost use Rattle.std.specs.Io.KnownBytes.{ReadConsumes, WriteAppends};
+ghost use Rattle.io_face.specs.Faults.{Rose};
 
 use io_face::{Failed, Sink, Source};
 use std::io::{ErrorKind, Read, Write};
@@ -15,7 +17,10 @@ pub struct InputStream<R: Read> {
 }
 
 impl<R: Read> InputStream<R> {
-    pub fn new(reader: R) -> Self {
+    pub fn new(reader: R) -> Self
+        ensures reader { result.reader ≡ reader }
+        ensures faults { result.faults ≡ 0 }
+    {
         InputStream { reader, faults: 0 }
     }
 }
@@ -23,7 +28,14 @@ impl<R: Read> InputStream<R> {
 impl<R: Read> Source for InputStream<R> {
     ghost faults = { λ stream. stream.faults };
 
-    fn read(&mut self, buf: &mut [u8]) -> Result<usize, Failed> {
+    // Of a reader whose bytes are known it takes what the reader gives, and nothing at `Failed`.
+    fn read(&mut self, buf: &mut [u8]) -> Result<usize, Failed>
+        ensures count { IfOk result (λ n. n ≤ length buf.new) }
+        ensures bytes { ReadConsumes (R.remaining self.old.reader) (R.remaining self.new.reader)
+            result buf.new }
+        ensures faults { self.old.faults ≤ self.new.faults }
+        ensures cause { OnErr result (Rose self.old.faults self.new.faults) }
+    {
         for _ in 0..TRIES {
             match self.reader.read(buf) {
                 Ok(count) => return Ok(count),
@@ -47,7 +59,10 @@ pub struct OutputStream<W: Write> {
 }
 
 impl<W: Write> OutputStream<W> {
-    pub fn new(writer: W) -> Self {
+    pub fn new(writer: W) -> Self
+        ensures writer { result.writer ≡ writer }
+        ensures faults { result.faults ≡ 0 }
+    {
         OutputStream { writer, faults: 0 }
     }
 }
@@ -55,8 +70,16 @@ impl<W: Write> OutputStream<W> {
 impl<W: Write> Sink for OutputStream<W> {
     ghost faults = { λ stream. stream.faults };
 
-    // A writer that takes nothing of a piece never goes on, so that is a fault.
-    fn write(&mut self, piece: &[u8]) -> Result<usize, Failed> {
+    // A writer that takes nothing of a piece never goes on, so that is a fault. A writer whose
+    // bytes are known gets just those that are told as written.
+    fn write(&mut self, piece: &[u8]) -> Result<usize, Failed>
+        ensures count { IfOk result (λ n. n ≤ length piece.now) }
+        ensures some { IfOk result (λ n. 0 < length piece.now → 0 < n) }
+        ensures bytes { WriteAppends (W.contents self.old.writer) (W.contents self.new.writer)
+            result piece.now }
+        ensures faults { self.old.faults ≤ self.new.faults }
+        ensures cause { OnErr result (Rose self.old.faults self.new.faults) }
+    {
         for _ in 0..TRIES {
             match self.writer.write(piece) {
                 Ok(count) => {
