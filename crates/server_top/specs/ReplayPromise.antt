@@ -1,7 +1,7 @@
 -- What a run of a top call read, wrote and published, by its words and its status.
 use Rattle.std.specs.Prelude.{◌≡◌, ◌⊎◌, ℕ, ◌+◌, ◌-◌, ◌^◌, ◌≤◌, List, [], ◌++◌, Option, Some, None, Result, Ok, Err, length, min}
 use Rattle.std.specs.FinMap.{empty}
-use Rattle.io_face.specs.Told.{TakesCount, TakesSome, Adds, AddsPrefix}
+use Rattle.io_face.specs.Told.{TakesAtMost, TakesCount, TakesSome, Adds, AddsPrefix}
 use Rattle.io_face.specs.Folder.{Files}
 use Rattle.resp_text.specs.Grammar.{IsStream}
 use Rattle.service_meaning.specs.History.{Moment, Entry, opening, LeadAlong, IsLegal, refusals, calls_of, ends_of}
@@ -125,7 +125,8 @@ abbrev pub RanReplay : Sides → Status → Type 0
 RanReplay sides Done = ReadAndRan sides Done
 RanReplay sides (Usage place) = ⊥
 RanReplay sides (BadScript line) = ⊥
-RanReplay sides ReadFault = TakesSome sides.left sides.left_after × IsUntouched sides.outside
+RanReplay sides ReadFault =
+    TakesAtMost sides.left sides.left_after replay_limit × IsUntouched sides.outside
 RanReplay sides WriteFault = ReadAndRan sides WriteFault
 RanReplay sides (Protocol place) = ReadAndRan sides (Protocol place)
 RanReplay sides TooLong =

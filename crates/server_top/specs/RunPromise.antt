@@ -1,6 +1,6 @@
 -- What a run of `trace` read and wrote, by its status.
 use Rattle.std.specs.Prelude.{◌≡◌, ◌⊎◌, ℕ, ◌+◌, ◌^◌, ◌≤◌, List, Option, Some, None, length}
-use Rattle.io_face.specs.Told.{Takes, TakesCount, TakesSome, IsAtEnd, Adds, AddsPrefix}
+use Rattle.io_face.specs.Told.{Takes, TakesAtMost, TakesCount, TakesSome, IsAtEnd, Adds, AddsPrefix}
 use Rattle.trace_core.specs.declared.event.Event.{Event}
 use Rattle.server_top.specs.declared.status.Status.{Status}
 use Rattle.server_top.specs.declared.status.Status.TheVariants.{Done, Usage, BadScript, ReadFault, WriteFault, Protocol, TooLong, NoMemory}
@@ -59,7 +59,8 @@ abbrev pub Ran : Streams → Status → Type 0
 Ran streams Done = WroteLines streams
 Ran streams (Usage place) = ⊥
 Ran streams (BadScript line) = (line ≡ 1) × RefusedScript streams
-Ran streams ReadFault = TakesSome streams.left streams.left_after × WroteNothing streams
+Ran streams ReadFault =
+    TakesAtMost streams.left streams.left_after script_limit × WroteNothing streams
 Ran streams WriteFault = WroteSomeLines streams
 Ran streams (Protocol place) = ⊥
 Ran streams TooLong = TakesCount streams.left streams.left_after (script_limit + 1) × WroteNothing streams
