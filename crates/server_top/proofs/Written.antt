@@ -1,5 +1,5 @@
 -- Lines that are written in pieces.
-use Rattle.std.proofs.Common.{◌≡◌, ℕ, ◌+◌, ◌≤◌, ◌<◌, List, [], ◌∷◌, ◌++◌, length, take, drop, refl, sym, ◌∙◌, ap, arith}
+use Rattle.std.proofs.Common.{◌≡◌, ℕ, ◌+◌, ◌≤◌, ◌<◌, List, [], ◌∷◌, ◌++◌, length, take, drop, refl, sym, ◌∙◌, ap, subst, arith}
 use Rattle.std.specs.Prelude.{Option, Some, None, Result, Ok, Err, OnErr}
 use Rattle.std.specs.Option.{option_map}
 use Rattle.std.proofs.lemmas.List.{append_assoc, append-nil, length-append, take_at, take-append-drop}
@@ -42,6 +42,11 @@ writing_written old now new waiting coming all writing adds = record {
   added = adds_more old now new writing.done waiting writing.added adds;
   whole = ap (λ front. front ++ coming) (append-nil (writing.done ++ waiting)) ∙ writing.whole;
 }
+
+-- what was written and what waits, by other names
+pub writing_renamed : (old now other : Option (List ℕ)) (waiting same coming all : List ℕ) → other ≡ now → same ≡ waiting → Writing old now waiting coming all → Writing old other same coming all
+writing_renamed old now other waiting same coming all now_is waiting_is writing =
+    subst (λ o. Writing old o same coming all) (sym now_is) (subst (λ w. Writing old now w coming all) (sym waiting_is) writing)
 
 -- all is written
 pub writing_all : (old now new : Option (List ℕ)) (waiting all : List ℕ) → Writing old now waiting [] all → Adds now new waiting → Adds old new all

@@ -1,5 +1,5 @@
 //! The commands on an ordered map of std. A snapshot is a copy of all its pairs.
-ghost use Rattle.std.specs.Prelude.{◌≡◌, ◌^◌, [], drop, IfOk, OnErr, None};
+ghost use Rattle.std.specs.Prelude.{◌≡◌, ◌^◌, ◌<◌, [], drop, length, IfOk, OnErr, None};
 ghost use Rattle.std.specs.FinMap.{empty};
 ghost use Rattle.service_meaning.specs.MapMachine.{answer, get_answer, save_answer, set_answer};
 ghost use Rattle.server_top.specs.ReplayRun.{kept_in, AreStorable, Gives, IsServable};
@@ -103,7 +103,8 @@ impl Book {
 
     /// BGSAVE: a snapshot with the next number is started.
     fn save(&mut self, alloc: Global, request: &Request) -> Result<Reply, NoMemory>
-        requires { AreStorable (2 ^ 28) (kept_in self.old).service.pairs }
+        requires some { 0 < length request.now }
+        requires storable { AreStorable (2 ^ 28) (kept_in self.old).service.pairs }
         ensures given { IfOk result (λ reply. let old = kept_in self.old in
             Gives old (save_answer old.service (drop 1 request.now)) reply (kept_in self.new)) }
         ensures no_memory { OnErr result (kept_in self.new ≡ kept_in self.old) }
