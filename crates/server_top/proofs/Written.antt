@@ -1,6 +1,6 @@
 -- Lines that are written in pieces.
 use Rattle.std.proofs.Common.{◌≡◌, ℕ, ◌+◌, ◌≤◌, ◌<◌, List, [], ◌∷◌, ◌++◌, length, take, drop, refl, sym, ◌∙◌, ap, subst, arith}
-use Rattle.std.specs.Prelude.{Option, Some, None, Result, Ok, Err, OnErr}
+use Rattle.std.specs.Prelude.{Option, Some, None, Result, Ok, Err, OnErr, OnOk}
 use Rattle.std.specs.Option.{option_map}
 use Rattle.std.proofs.lemmas.List.{append_assoc, append-nil, length-append, take_at, take-append-drop}
 use Rattle.io_face.specs.Told.{Adds, AddsPrefix}
@@ -87,3 +87,8 @@ on_err (Err error) P holds = holds
 pub on_err_then : {X E : Type 0} (result : Result X E) (P Q : Type 0) → OnErr result P → (P → Q) → OnErr result Q
 on_err_then (Ok value) P Q holds f = tt
 on_err_then (Err error) P Q holds f = f holds
+
+-- what follows from what holds at a success
+pub on_ok_then : {X E : Type 0} (result : Result X E) (P Q : Type 0) → OnOk result P → (P → Q) → OnOk result Q
+on_ok_then (Ok value) P Q holds f = f holds
+on_ok_then (Err error) P Q holds f = tt
