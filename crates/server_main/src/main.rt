@@ -2,6 +2,7 @@
 #![tactic(auto)]
 
 mod ending;
+mod folder;
 mod streams;
 mod words;
 
