@@ -147,7 +147,7 @@ forks kept (words ∷ requests) before servable lead has =
     lead_append replay_opening (moment_of kept) (moment_of next) before (call ∷ []) lead (moment_of next, (lead_call kept words servable.0, refl)) in
     let has_next : IfSome next.snapshot (HasFork (before ++ call ∷ [])) = fork_on before kept words servable.0 leads has (reply_to kept words) refl in
     subst (λ history. IfSome (kept_behind next requests).snapshot (HasFork history)) (append_assoc before (call ∷ []) (calls_from next requests))
-      (forks next requests (before ++ call ∷ []) servable.1 leads has_next)
+    (forks next requests (before ++ call ∷ []) servable.1 leads has_next)
 
 -- ---- a session without a save
 
@@ -246,20 +246,25 @@ contains_one number numbers is = subst (λ ns. Contains ns number) (sym is) (0, 
 
 lead_saving : (moment : Moment) (end : ℕ × Saved) → moment.waiting ≡ end.0 ∷ [] → moment.saving ≡ []
     → LeadAlong moment (saving_of end) (ended_from (taken_from moment end.0) end.0)
-lead_saving moment end waits none =
-    (taken_from moment end.0, (
-      (contains_one end.0 moment.waiting waits, refl),
-      (ended_from (taken_from moment end.0) end.0, (
+lead_saving moment end waits none = (
+  taken_from moment end.0,
+  (
+    (contains_one end.0 moment.waiting waits, refl),
+    (
+      ended_from (taken_from moment end.0) end.0,
+      (
         (contains_one end.0 (moment.saving ++ end.0 ∷ []) (ap (λ (ns : List ℕ). ns ++ end.0 ∷ []) none), refl),
         refl,
-      )),
-    ))
+      ),
+    ),
+  ),
+)
 
 lead_saved : (requests : List (List (List ℕ))) (end : ℕ × Saved) → AllByRecursion IsServable requests → (kept_behind opening_kept requests).service.live ≡ end.0 ∷ []
     → LeadAlong replay_opening (saved_history requests end) (ended_from (taken_from (moment_of (kept_behind opening_kept requests)) end.0) end.0)
 lead_saved requests end servable lives =
     lead_append replay_opening (moment_of (kept_behind opening_kept requests)) _ (calls_from opening_kept requests) (saving_of end)
-      (lead_calls opening_kept requests servable) (lead_saving (moment_of (kept_behind opening_kept requests)) end lives refl)
+    (lead_calls opening_kept requests servable) (lead_saving (moment_of (kept_behind opening_kept requests)) end lives refl)
 
 history_saved : (requests : List (List (List ℕ))) (end : ℕ × Saved) → AllByRecursion IsServable requests → (kept_behind opening_kept requests).service.live ≡ end.0 ∷ [] → IsHistoryOf requests (saved_history requests end)
 history_saved requests end servable lives = record {
@@ -275,13 +280,18 @@ ended_saved requests end servable lives =
 -- what the save made of the files
 file_saved : (history : List Entry) (snapshot : Snapshot) (end : Saved) (old : Files) (new : Option Files) → HasFork history snapshot → Saves snapshot end (Some old) new
     → (next : Files) × ((new ≡ Some next) × FileOf replay_opening history (snapshot.number, end) old next)
-file_saved history snapshot (saved.Ok count) old new has saves =
-    (insert old (file_name snapshot.number) (pairs_text snapshot.pairs), (saves.1, (
+file_saved history snapshot (saved.Ok count) old new has saves = (
+  insert old (file_name snapshot.number) (pairs_text snapshot.pairs),
+  (
+    saves.1,
+    (
       has.pairs,
       has.forked,
       saves.0 ∙ ap length has.same ∙ sym (len-entries has.pairs),
       ap (λ pairs. insert old (file_name snapshot.number) (pairs_text pairs)) has.same,
-    )))
+    ),
+  ),
+)
 file_saved history snapshot (saved.Lost at) old new has saves = absurd saves
 file_saved history snapshot (saved.Refused at) old new has saves = absurd saves
 file_saved history snapshot saved.SinkFault old new has saves = (old, (saves, refl))
@@ -322,7 +332,7 @@ served_saved outside requests snapshot end lives so =
     record {
       is_history = history_saved requests (snapshot.number, end) lives.servable lives.live;
       files = published_saved (saved_history requests (snapshot.number, end)) snapshot end outside.files outside.files_after (ends_saved requests (snapshot.number, end))
-        (fork_more (calls_from opening_kept requests) (saving_of (snapshot.number, end)) snapshot fork) so.saves;
+          (fork_more (calls_from opening_kept requests) (saving_of (snapshot.number, end)) snapshot fork) so.saves;
       faults = subst (λ ends. min (outside.faults + faults_of ends) (2 ^ 64 - 1) ≤ outside.faults_after) (sym (ends_saved requests (snapshot.number, end))) (faults_saved snapshot end outside so);
     }
 
@@ -333,7 +343,7 @@ served_all_saved outside between requests snapshot end lives so replies line = r
   served = served_saved outside requests snapshot end lives so;
   ended = ended_saved requests (snapshot.number, end) lives.servable lives.live;
   sent = subst (Adds outside.written outside.written_after) (sym (sent_saved requests (snapshot.number, end)))
-    (adds_more outside.written between outside.written_after (replies_from opening_kept requests) (report_line (snapshot.number, end)) replies line);
+      (adds_more outside.written between outside.written_after (replies_from opening_kept requests) (report_line (snapshot.number, end)) replies line);
 }
 
 pub served_some_saved : (outside : Outside) (between : Option (List ℕ)) (requests : List (List (List ℕ))) (snapshot : Snapshot) (end : Saved) → Lives requests snapshot → SavedSo snapshot end outside
@@ -349,7 +359,7 @@ served_some_saved outside between requests snapshot end lives so replies line =
       history = saved_history requests (snapshot.number, end);
       served = served_saved outside requests snapshot end lives so;
       sent = subst (AddsPrefix outside.written outside.written_after) (sym (sent_saved requests (snapshot.number, end)))
-        (writing_part outside.written between outside.written_after text [] (replies_from opening_kept requests ++ text) writing line);
+          (writing_part outside.written between outside.written_after text [] (replies_from opening_kept requests ++ text) writing line);
     }
 
 -- ---- the book behind the requests

@@ -35,9 +35,9 @@ pub pushed_reply : (old now : Option (List ℕ)) (kept new : Kept) (replies more
 pushed_reply old now kept new replies more words waiting rest all is new_is more_is writing =
     let waits : Writing old now (replies ++ text_of (reply_to kept words)) (replies_from (kept_after kept words) rest) all =
     writing_more old now replies (text_of (reply_to kept words)) (replies_from (kept_after kept words) rest) all
-      (subst (λ requests. Writing old now replies (replies_from kept requests) all) is writing) in
+    (subst (λ requests. Writing old now replies (replies_from kept requests) all) is writing) in
     subst (λ text. Writing old now text (replies_from new rest) all) (sym more_is)
-      (subst (λ k. Writing old now (replies ++ text_of (reply_to kept words)) (replies_from k rest) all) (sym new_is) waits)
+    (subst (λ k. Writing old now (replies ++ text_of (reply_to kept words)) (replies_from k rest) all) (sym new_is) waits)
 
 -- what is kept behind all requests
 pub kept_on : (kept new end : Kept) (words : List (List ℕ)) (waiting rest : List (List (List ℕ))) → waiting ≡ words ∷ rest → new ≡ kept_after kept words → kept_behind kept waiting ≡ end → kept_behind new rest ≡ end

@@ -25,7 +25,7 @@ find-stored : {A : Type 0} (es : List (Vec ℕ A × Vec ℕ A)) (key : List ℕ)
 find-stored [] key = refl
 find-stored (e ∷ es) key =
     elim (is_eq (slice_cmp nat_cmp key e.0.items)) as (λ b. cond b (Some e.1.items) (find bytes_cmp key (pairs_in es))
-      ≡ option_map (λ v. v.items) (cond b (Some e.1) (lookup (is_at (λ k. slice_cmp nat_cmp key k.items)) es))) [
+    ≡ option_map (λ v. v.items) (cond b (Some e.1) (lookup (is_at (λ k. slice_cmp nat_cmp key k.items)) es))) [
       | true ↦ refl
       | false ↦ find-stored es key
     ]
@@ -72,7 +72,7 @@ put-stored : {A : Type 0} (es : List (Vec ℕ A × Vec ℕ A)) (key value : Vec 
 put-stored [] key value = refl
 put-stored (e ∷ es) key value =
     elim (slice_cmp nat_cmp key.items e.0.items) as (λ r. pairs_in (match_ordering r ((key, value) ∷ e ∷ es) ((e.0, value) ∷ es) (e ∷ insert_entry vec_cmp es key value))
-      ≡ by_order r ((key.items, value.items) ∷ (e.0.items, e.1.items) ∷ pairs_in es) ((e.0.items, value.items) ∷ pairs_in es) ((e.0.items, e.1.items) ∷ put bytes_cmp key.items value.items (pairs_in es))) [
+    ≡ by_order r ((key.items, value.items) ∷ (e.0.items, e.1.items) ∷ pairs_in es) ((e.0.items, value.items) ∷ pairs_in es) ((e.0.items, e.1.items) ∷ put bytes_cmp key.items value.items (pairs_in es))) [
       | Less ↦ refl
       | Equal ↦ refl
       | Greater ↦ ap (λ (rest : List (List ℕ × List ℕ)). (e.0.items, e.1.items) ∷ rest) (put-stored es key value)
@@ -83,8 +83,8 @@ pub insert-stored : {A : Type 0} (old new : List (Vec ℕ A × Vec ℕ A)) (key 
     → stored new ≡ insert (stored old) key.items value.items
 insert-stored old new key value was is new_is =
     same_entries_map _ _ (entries-stored new is ∙ ap pairs_in new_is ∙ put-stored old key value
-      ∙ ap (put bytes_cmp key.items value.items) (sym (entries-stored old was))
-      ∙ sym (entries-insert nat_list_cmp_total (stored old) key.items value.items))
+    ∙ ap (put bytes_cmp key.items value.items) (sym (entries-stored old was))
+    ∙ sym (entries-insert nat_list_cmp_total (stored old) key.items value.items))
 
 -- pairs of which there is an image, and those of an ordered map that is small enough
 pub image-stored : {A : Type 0} (es : List (Vec ℕ A × Vec ℕ A)) → IsStrictlySortedBy vec_cmp (keys_of es) → AreStorable (2 ^ 28) (stored es) → HasImage (pairs_in es)

@@ -12,6 +12,8 @@ mod book;
 mod pairs;
 mod save;
 mod serve;
+#[cfg(test)]
+mod tests;
 
 use crate::replay::book::{Book, Snapshot};
 use crate::replay::save::{report_line, save};

@@ -18,7 +18,7 @@ longer_name : command_of (codes "bgsaves") ≡ None
 longer_name = refl
 
 -- bytes that differ from letters by the bit of their case are no letters
-no_letters : command_of (codes "BGS\x01VE") ≡ None
+no_letters : command_of (codes "BGS\u{1}VE") ≡ None
 no_letters = refl
 
 -- a command that is not in the table

@@ -32,11 +32,7 @@ pub(crate) fn save<F: Folder>(alloc: Global, snapshot: &Snapshot, files: &mut F)
 }
 
 /// Writes the image of a snapshot and publishes it under a name.
-fn publish_image<F: Folder>(
-    snapshot: &Snapshot,
-    name: &str,
-    files: &mut F,
-) -> Result<(), Failed>
+fn publish_image<F: Folder>(snapshot: &Snapshot, name: &str, files: &mut F) -> Result<(), Failed>
     ensures ok { OnOk result (F.files files.new ≡ option_map
         (λ old. insert old name.now (pairs_text snapshot.now.pairs)) (F.files files.old)) }
     ensures failed { OnErr result (F.files files.new ≡ F.files files.old) }

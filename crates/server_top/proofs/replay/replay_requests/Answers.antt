@@ -18,24 +18,24 @@ serve-requires-clause-few g c =
 pub returns-in_err-serve-clause-some : goal.returns-in_err-serve-clause-some
 returns-in_err-serve-clause-some g c =
     on_err _ _ (served_some_alone _ _ c.requires.servable (record { files = refl; faults = omega arith })
-      (subst (λ kept. AddsPrefix (g.O.Sink.written c.args.output.now) (g.O.Sink.written c.serve.new.output) (replies_from kept c.args.requests.now.waiting)) c.new-book.ensures.pairs c.in_err-serve.ensures.err))
+    (subst (λ kept. AddsPrefix (g.O.Sink.written c.args.output.now) (g.O.Sink.written c.serve.new.output) (replies_from kept c.args.requests.now.waiting)) c.new-book.ensures.pairs c.in_err-serve.ensures.err))
 
 pub returns-in-Some-clause-all : goal.returns-in-Some-clause-all
 returns-in-Some-clause-all g c =
     let lives = lives_in c.serve.new.book (kept_in c.new-book.result) c.args.requests.now.waiting c.in-Some.snapshot c.requires.servable c.new-book.ensures.pairs c.in_ok-serve.ensures.kept c.in-Some.is in
     let replies = subst (λ kept. Adds (g.O.Sink.written c.args.output.now) (g.O.Sink.written c.serve.new.output) (replies_from kept c.args.requests.now.waiting)) c.new-book.ensures.pairs c.in_ok-serve.ensures.ok in
     on_ok_then _ _ _ c.report_save.ensures.all (λ reports. served_all_saved _ _ _ _ reports.0 lives
-      (record { saves = reports.1.0.saves; faults = reports.1.0.faults; cause = reports.1.0.cause }) replies reports.1.1)
+    (record { saves = reports.1.0.saves; faults = reports.1.0.faults; cause = reports.1.0.cause }) replies reports.1.1)
 
 pub returns-in-Some-clause-some : goal.returns-in-Some-clause-some
 returns-in-Some-clause-some g c =
     let lives = lives_in c.serve.new.book (kept_in c.new-book.result) c.args.requests.now.waiting c.in-Some.snapshot c.requires.servable c.new-book.ensures.pairs c.in_ok-serve.ensures.kept c.in-Some.is in
     let replies = subst (λ kept. Adds (g.O.Sink.written c.args.output.now) (g.O.Sink.written c.serve.new.output) (replies_from kept c.args.requests.now.waiting)) c.new-book.ensures.pairs c.in_ok-serve.ensures.ok in
     on_err_then _ _ _ c.report_save.ensures.some (λ reports. served_some_saved _ _ _ _ reports.0 lives
-      (record { saves = reports.1.0.saves; faults = reports.1.0.faults; cause = reports.1.0.cause }) replies reports.1.1)
+    (record { saves = reports.1.0.saves; faults = reports.1.0.faults; cause = reports.1.0.cause }) replies reports.1.1)
 
 pub returns-clause-all : goal.returns-clause-all
 returns-clause-all g c =
     served_all_alone _ _ c.requires.servable (record { files = refl; faults = omega arith })
-      (none_lives c.serve.new.book (kept_in c.new-book.result) c.args.requests.now.waiting c.new-book.ensures.pairs c.in_ok-serve.ensures.kept c.in-None.is)
-      (subst (λ kept. Adds (g.O.Sink.written c.args.output.now) (g.O.Sink.written c.serve.new.output) (replies_from kept c.args.requests.now.waiting)) c.new-book.ensures.pairs c.in_ok-serve.ensures.ok)
+    (none_lives c.serve.new.book (kept_in c.new-book.result) c.args.requests.now.waiting c.new-book.ensures.pairs c.in_ok-serve.ensures.kept c.in-None.is)
+    (subst (λ kept. Adds (g.O.Sink.written c.args.output.now) (g.O.Sink.written c.serve.new.output) (replies_from kept c.args.requests.now.waiting)) c.new-book.ensures.pairs c.in_ok-serve.ensures.ok)

@@ -10,7 +10,7 @@ use Rattle.server_top.proofs.replay.pairs.copy_pairs.Goals as goal
 pub loop-key-init : goal.loop-key-init
 loop-key-init c = record {
   copied = ap (λ (list : List (List ℕ × List ℕ)). list ++ pairs_in c.into_iter-key-iterator.result) c.new-list.ensures
-    ∙ ap pairs_in c.into_iter-key-iterator.ensures.into_iter_gives.0;
+      ∙ ap pairs_in c.into_iter-key-iterator.ensures.into_iter_gives.0;
   image = image-stored _ c.into_iter-key-iterator.ensures.into_iter_gives.5 c.requires;
 }
 

@@ -13,13 +13,13 @@ returns-in_err-push_reply-clause-err g c = on_err _ _ (writing_front _ _ _ _ _ c
 pub returns-in_err-write_lines-clause-err : goal.returns-in_err-write_lines-clause-err
 returns-in_err-write_lines-clause-err g c =
     let waits = pushed_reply _ _ (kept_in c.loop-request.book) (kept_in c.push_reply.new.book) _ c.push_reply.new.replies c.in-Some.request _ c.next.new.self.waiting _
-      c.in-Some.ensures.first c.in_ok-push_reply.ensures.kept c.in_ok-push_reply.ensures.text c.loop-request.invariant.writing in
+    c.in-Some.ensures.first c.in_ok-push_reply.ensures.kept c.in_ok-push_reply.ensures.text c.loop-request.invariant.writing in
     on_err _ _ (writing_part _ _ _ _ _ _ waits c.in_err-write_lines.ensures.err)
 
 pub loop-request-preserved : goal.loop-request-preserved
 loop-request-preserved g c =
     let waits = pushed_reply (g.O.Sink.written c.args.output.now) (g.O.Sink.written c.loop-request.output) (kept_in c.loop-request.book) (kept_in c.push_reply.new.book) c.loop-request.replies c.push_reply.new.replies c.in-Some.request c.loop-request.requests.waiting c.next.new.self.waiting (replies_from (kept_in c.args.book.now) c.args.requests.now.waiting)
-      c.in-Some.ensures.first c.in_ok-push_reply.ensures.kept c.in_ok-push_reply.ensures.text c.loop-request.invariant.writing in
+    c.in-Some.ensures.first c.in_ok-push_reply.ensures.kept c.in_ok-push_reply.ensures.text c.loop-request.invariant.writing in
     let can : CanServe (kept_in c.push_reply.new.book) c.next.new.self.waiting =
     serves_on (kept_in c.loop-request.book) _ c.in-Some.request c.loop-request.requests.waiting _ c.in-Some.ensures.first c.in_ok-push_reply.ensures.kept (record {
       servable = c.loop-request.invariant.servable;
