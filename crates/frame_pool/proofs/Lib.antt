@@ -1,0 +1,4 @@
+pub mod ListLemmas
+pub mod TurnLemmas
+pub mod AskLemmas
+pub mod StandingLemmas
