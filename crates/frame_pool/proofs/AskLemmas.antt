@@ -19,9 +19,17 @@ pub AllGrant-push : (old new : List PolicyView) (policy after : PolicyView)
     → AllGrant old new → Grants policy after → AllGrant (old ++ policy ∷ []) (new ++ kept after [])
 AllGrant-push [] new policy after all granted = (after, ([], (granted, refl, ap (λ front. front ++ kept after []) all)))
 AllGrant-push (first ∷ old) new policy after all granted =
-    let rest = all.1.0 in
-    (all.0, (rest ++ kept after [], (all.1.1.0, AllGrant-push old rest policy after all.1.1.1 granted,
-    ap (λ front. front ++ kept after []) all.1.1.2 ∙ kept-append all.0 rest (kept after []))))
+    let rest = all.1.0 in (
+      all.0,
+      (
+        rest ++ kept after [],
+        (
+          all.1.1.0,
+          AllGrant-push old rest policy after all.1.1.1 granted,
+          ap (λ front. front ++ kept after []) all.1.1.2 ∙ kept-append all.0 rest (kept after []),
+        ),
+      ),
+    )
 
 -- where a list is cut, from its two parts
 front_of : {X : Type 0} (xs front back : List X) (n : ℕ) → xs ≡ front ++ back → length front ≡ n → take n xs ≡ front
@@ -70,21 +78,21 @@ HaveGranted-one told asker answer place at next old now new so_far turn granted 
     let all = AllGrant-push (map told so_far.asked) (map told so_far.stays) (told turn.policy) (told turn.after) so_far.granted (turn.granted granted) in
     let asked = sym (map-append told so_far.asked (turn.policy ∷ [])) in
     let stays : map told so_far.stays ++ kept (told turn.after) [] ≡ map told (so_far.stays ++ turn.stays) =
-        ap (λ back. map told so_far.stays ++ back) (sym turn.kept_or_gone) ∙ sym (map-append told so_far.stays turn.stays) in
+    ap (λ back. map told so_far.stays ++ back) (sym turn.kept_or_gone) ∙ sym (map-append told so_far.stays turn.stays) in
     record {
       asked = so_far.asked ++ turn.policy ∷ [];
       stays = so_far.stays ++ turn.stays;
       rest = turn.behind;
       was =
-        so_far.was ∙ ap (λ rest. so_far.asked ++ rest) (same_rest told asker answer place at next old now new so_far turn)
-        ∙ sym (append_assoc so_far.asked (turn.policy ∷ []) turn.behind);
+          so_far.was ∙ ap (λ rest. so_far.asked ++ rest) (same_rest told asker answer place at next old now new so_far turn)
+          ∙ sym (append_assoc so_far.asked (turn.policy ∷ []) turn.behind);
       is =
-        stays_then told asker answer place at next old now new so_far turn ∙ sym (append_assoc so_far.stays turn.stays turn.behind);
+          stays_then told asker answer place at next old now new so_far turn ∙ sym (append_assoc so_far.stays turn.stays turn.behind);
       here = length-append so_far.asked (turn.policy ∷ []) ∙ ap (λ n. n + 1) so_far.here;
       there = length-append so_far.stays turn.stays ∙ ap (λ n. n + length turn.stays) so_far.there ∙ sym turn.there;
       granted =
-        subst (λ new. AllGrant (map told (so_far.asked ++ turn.policy ∷ [])) new) stays
-        (subst (λ old. AllGrant old (map told so_far.stays ++ kept (told turn.after) [])) asked all);
+          subst (λ new. AllGrant (map told (so_far.asked ++ turn.policy ∷ [])) new) stays
+          (subst (λ old. AllGrant old (map told so_far.stays ++ kept (told turn.after) [])) asked all);
     }
 
 -- one more was asked and denied
@@ -95,17 +103,17 @@ DeniesAt-one told asker answer place at next old now new so_far turn denied = re
   policy = told turn.policy;
   behind = map told turn.behind;
   was =
-    ap (map told) (so_far.was ∙ ap (λ rest. so_far.asked ++ rest) (same_rest told asker answer place at next old now new so_far turn))
-    ∙ map-append told so_far.asked (turn.policy ∷ turn.behind);
+      ap (map told) (so_far.was ∙ ap (λ rest. so_far.asked ++ rest) (same_rest told asker answer place at next old now new so_far turn))
+      ∙ map-append told so_far.asked (turn.policy ∷ turn.behind);
   here = length-map so_far.asked told ∙ so_far.here;
   granted = map told so_far.stays;
   asked = so_far.granted;
   after = told turn.after;
   denied = turn.denied denied;
   is =
-    ap (map told) (stays_then told asker answer place at next old now new so_far turn)
-    ∙ map-append told so_far.stays (turn.stays ++ turn.behind)
-    ∙ ap (λ back. map told so_far.stays ++ back) (map-append told turn.stays turn.behind
+      ap (map told) (stays_then told asker answer place at next old now new so_far turn)
+      ∙ map-append told so_far.stays (turn.stays ++ turn.behind)
+      ∙ ap (λ back. map told so_far.stays ++ back) (map-append told turn.stays turn.behind
       ∙ ap (λ front. front ++ map told turn.behind) turn.kept_or_gone ∙ kept-append (told turn.after) [] (map told turn.behind));
 }
 

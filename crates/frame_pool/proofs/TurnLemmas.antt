@@ -44,9 +44,9 @@ turn-leaves told asker at answer old new policy after inside here done granted d
   denied = denied;
   stays = [];
   is =
-    let above : at < at + 1 = omega arith in
-    is ∙ ap (λ front. front ++ drop (at + 1) (slice_set old at after)) (take-set old at after)
-    ∙ ap (λ back. take at old ++ back) (drop-set-lt (at + 1) old at after above);
+      let above : at < at + 1 = omega arith in
+      is ∙ ap (λ front. front ++ drop (at + 1) (slice_set old at after)) (take-set old at after)
+      ∙ ap (λ back. take at old ++ back) (drop-set-lt (at + 1) old at after above);
   kept_or_gone = sym (cond-true (told after).done _ _ done);
   there = omega arith;
 }

@@ -66,3 +66,30 @@ pub record DeniesAt (asker : Asker) (place : ℕ) (old new : List PolicyView) : 
   pub after : PolicyView
   pub denied : Denies asker policy after
   pub is : new ≡ granted ++ kept after behind
+
+-- the sum of two numbers, where both are told
+abbrev pub told_sum : Option ℕ → Option ℕ → Option ℕ
+told_sum None more = None
+told_sum (Some first) None = None
+told_sum (Some first) (Some second) = Some (first + second)
+
+-- how many denials may still come from all of them, where each tells it
+abbrev pub left_of_all : List PolicyView → Option ℕ
+left_of_all [] = Some 0
+left_of_all (policy ∷ behind) = told_sum policy.left (left_of_all behind)
+
+-- each of them grants what the parent asks for
+abbrev pub AllSpare : List PolicyView → Type 0
+AllSpare policies = All (λ policy. policy.spares ≡ true) policies
+
+-- a number that was told is still told, and not more than it was
+abbrev pub StaysWithin : Option ℕ → Option ℕ → Type 0
+StaysWithin None new = Unit {0}
+StaysWithin (Some old) None = ⊥
+StaysWithin (Some old) (Some new) = new ≤ old
+
+-- a number that was told is still told, and less than it was
+abbrev pub FallsBelow : Option ℕ → Option ℕ → Type 0
+FallsBelow None new = Unit {0}
+FallsBelow (Some old) None = ⊥
+FallsBelow (Some old) (Some new) = new < old

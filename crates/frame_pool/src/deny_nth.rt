@@ -1,5 +1,7 @@
 //! A policy that denies one request.
-ghost use Rattle.std.specs.Prelude.{◌≡◌, ◌-◌, ◌<◌};
+ghost use Rattle.std.specs.Prelude.{◌≡◌, ◌-◌, ◌<◌, false, IsTrue};
+ghost use Rattle.frame_pool.specs.Policies.{Grants, Denies};
+ghost use Rattle.frame_pool.specs.OneDenial.{told_of, grants_next, after_ask};
 
 use crate::ask::Ask;
 use crate::policy::FramePolicy;
@@ -37,7 +39,15 @@ impl FramePolicy for DenyNth {
 
     ghost told = { told_of };
 
-    fn grant(&mut self, _ask: Ask) -> bool {
+    fn grant(&mut self, _ask: Ask) -> bool
+        requires { (told_of self.old).done ≡ false }
+        ensures granted { IsTrue result → Grants (told_of self.old) (told_of self.new) }
+        ensures denied { result ≡ false → Denies _ask.asker (told_of self.old) (told_of self.new) }
+
+        // The ask that is denied is the one that it was made for.
+        ensures nth { result ≡ grants_next self.old }
+        ensures after { self.new ≡ after_ask self.old }
+    {
         match self.grants {
             Some(0) => {
                 self.grants = None;

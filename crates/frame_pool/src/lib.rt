@@ -7,6 +7,8 @@ mod deny_nth;
 mod frame_stack;
 mod one_pool;
 mod policy;
+#[cfg(test)]
+mod tests;
 mod turns;
 
 pub use ask::Ask;

@@ -104,3 +104,32 @@ impl Pool {
         self.stack.push(frame);
     }
 }
+
+#[cfg(test)]
+mod tests {
+    use super::*;
+    use crate::deny_nth::DenyNth;
+    use std::test::Fail;
+
+    #[test]
+    fn a_policy_that_is_done_leaves_the_list(rt: HostRuntime) -> Result<(), Fail> {
+        let mut policies: Vec<Box<dyn FramePolicy + Send>> = Vec::new(rt.alloc());
+        policies.push(Box::new(rt.alloc(), DenyNth::new(2))?)?;
+        let mut pool = Pool::new(rt.alloc(), 8, policies)?;
+        assert_eq!(rt; pool.free(), 8);
+        for (free, left) in [(7, 1), (7, 0), (6, 0)] {
+            let answer = pool.take(Asker::Parent, Want::Page);
+            assert_eq!(rt; answer.is_err(), free == 7 && left == 0);
+            assert_eq!(rt; pool.free(), free);
+            assert_eq!(rt; pool.policies.len(), left);
+        }
+        for _ in 0..6 {
+            assert_eq!(rt; pool.take(Asker::Parent, Want::Page).is_ok(), true);
+        }
+        assert_eq!(rt;
+            pool.take(Asker::Parent, Want::Page).err(),
+            Some(Why::Empty)
+        );
+        Ok(())
+    }
+}

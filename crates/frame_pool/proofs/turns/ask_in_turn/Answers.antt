@@ -16,8 +16,10 @@ returns-then-not-turn-clause-denied g c =
 pub loop-at-preserved : goal.loop-at-preserved
 loop-at-preserved g c =
     let bound = c.loop-at.invariant.2 in
-    let fewer = c.ask_one-turn.ensures.fewer in
-    (HaveGranted-one g.P.FramePolicy.told c.args.ask.asker c.ask_one-turn.result.granted c.loop-at.place c.loop-at.at c.ask_one-turn.result.next
-      c.args.policies.now.items c.loop-at.policies.items c.ask_one-turn.new.policies.items
-      c.loop-at.invariant.0 c.ask_one-turn.ensures.turn (is_granted c.ask_one-turn.result.granted c.if-not-turn.false),
-    c.ask_one-turn.ensures.undone, omega arith)
+    let fewer = c.ask_one-turn.ensures.fewer in (
+      HaveGranted-one g.P.FramePolicy.told c.args.ask.asker c.ask_one-turn.result.granted c.loop-at.place c.loop-at.at c.ask_one-turn.result.next
+          c.args.policies.now.items c.loop-at.policies.items c.ask_one-turn.new.policies.items
+          c.loop-at.invariant.0 c.ask_one-turn.ensures.turn (is_granted c.ask_one-turn.result.granted c.if-not-turn.false),
+      c.ask_one-turn.ensures.undone,
+      omega arith,
+    )

@@ -12,10 +12,11 @@ loop-number-preserved c =
     let so_far = c.loop-number.invariant in
     let number = c.loop-number.number in
     let items : c.push_reserved.new.self.items ≡ c.loop-number.frames.items ++ new_frame number ∷ [] =
-        c.push_reserved.ensures.items ∙ ap (λ frame. c.loop-number.frames.items ++ frame ∷ []) c.in_ok-new.ensures in
-    (ap (map (λ frame. frame.number)) items ∙ map-append (λ frame. frame.number) c.loop-number.frames.items (new_frame number ∷ [])
-      ∙ ap (λ front. front ++ number ∷ []) so_far.0 ∙ sym (range-push number),
-    c.push_reserved.ensures.len ∙ ap (λ n. n + 1) so_far.1,
-    c.push_reserved.ensures.capacity ∙ so_far.2,
-    subst (All (λ frame. frame.bytes ≡ zero_page)) (sym items)
-      (All-push (λ frame. frame.bytes ≡ zero_page) c.loop-number.frames.items (new_frame number) so_far.3 refl))
+    c.push_reserved.ensures.items ∙ ap (λ frame. c.loop-number.frames.items ++ frame ∷ []) c.in_ok-new.ensures in (
+      ap (map (λ frame. frame.number)) items ∙ map-append (λ frame. frame.number) c.loop-number.frames.items (new_frame number ∷ [])
+          ∙ ap (λ front. front ++ number ∷ []) so_far.0 ∙ sym (range-push number),
+      c.push_reserved.ensures.len ∙ ap (λ n. n + 1) so_far.1,
+      c.push_reserved.ensures.capacity ∙ so_far.2,
+      subst (All (λ frame. frame.bytes ≡ zero_page)) (sym items)
+          (All-push (λ frame. frame.bytes ≡ zero_page) c.loop-number.frames.items (new_frame number) so_far.3 refl),
+    )
