@@ -1,9 +1,9 @@
 -- Policies of a list that were asked in turn.
-use Rattle.std.proofs.Common.{◌≡◌, ℕ, zero, suc, ◌+◌, ◌-◌, ◌<◌, ◌≤◌, Bool, true, false, IsTrue, not, List, [], ◌∷◌, ◌++◌, length, take, drop, map, if◌then◌else◌, refl, sym, ◌∙◌, ap, subst, arith}
+use Rattle.std.proofs.Common.{◌≡◌, ℕ, suc, ◌+◌, ◌-◌, ◌<◌, ◌≤◌, Bool, true, false, IsTrue, not, List, [], ◌∷◌, ◌++◌, length, take, drop, map, if◌then◌else◌, refl, sym, ◌∙◌, ap, subst, arith}
 use Rattle.std.proofs.Math.Seq.{take-append_seam, drop-append_seam}
 use Rattle.std.proofs.lemmas.List.{append-nil, append_assoc, map-append, length-append, length-map}
 use Rattle.vm_base.specs.declared.frame_request.Asker.{Asker}
-use Rattle.frame_pool.specs.Policies.{PolicyView, Grants, Denies, AllGrant, DeniesAt, kept}
+use Rattle.frame_pool.specs.Policies.{PolicyView, Grants, AllGrant, DeniesAt, kept}
 use Rattle.frame_pool.specs.Turns.{TakesTurn, HaveGranted}
 
 -- what stays of one policy stands in front of those behind it

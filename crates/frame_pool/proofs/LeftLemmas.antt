@@ -1,9 +1,7 @@
 -- How a request changes the denials that may still come, and that a pool whose policies spare the parent refuses it no frame that is there.
-use Rattle.std.proofs.Common.{◌≡◌, ◌≢◌, ℕ, ◌+◌, ◌<◌, ◌≤◌, Bool, true, false, not, List, [], ◌∷◌, ◌++◌, Option, Some, None, All, filter, cond, if◌then◌else◌, refl, sym, ◌∙◌, ap, subst, arith}
-use Rattle.std.proofs.lemmas.List.Elements.{All-head, All-tail, All-filter, All-append}
+use Rattle.std.proofs.Common.{ℕ, Bool, true, false, not, List, [], ◌∷◌, ◌++◌, Option, Some, None, cond, if◌then◌else◌, sym, ◌∙◌, ap, subst, arith}
 use Rattle.vm_base.specs.declared.frame_request.Asker.{Asker}
-use Rattle.vm_base.specs.declared.frame_request.Asker.TheVariants.{Parent}
-use Rattle.frame_pool.specs.Policies.{PolicyView, Grants, Denies, NotRaised, Lowered, AllGrant, DeniesAt, kept, standing, told_sum, left_of_all, AllSpare, StaysWithin, FallsBelow}
+use Rattle.frame_pool.specs.Policies.{PolicyView, Denies, NotRaised, Lowered, AllGrant, kept, standing, told_sum, left_of_all, StaysWithin, FallsBelow}
 use Rattle.frame_pool.specs.Frames.{PoolView, TakesOut, IsDenied}
 use Rattle.frame_pool.proofs.AskLemmas.{kept-append}
 use Rattle.vm_base.specs.Frames.{FrameView}

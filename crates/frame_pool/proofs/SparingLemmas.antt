@@ -1,10 +1,10 @@
 -- Policies that spare the parent deny it no frame.
-use Rattle.std.proofs.Common.{◌≡◌, ◌≢◌, ℕ, ◌<◌, arith, Bool, true, false, not, List, [], ◌∷◌, ◌++◌, All, filter, if◌then◌else◌, refl, sym, ◌∙◌, ap, subst}
+use Rattle.std.proofs.Common.{◌≡◌, ◌≢◌, ℕ, ◌<◌, arith, Bool, true, false, not, List, [], ◌∷◌, ◌++◌, if◌then◌else◌, sym, ◌∙◌, subst}
 use Rattle.std.proofs.lemmas.List.Elements.{All-head, All-tail, All-cons, All-filter, All-append}
 use Rattle.vm_base.specs.declared.frame_request.Asker.{Asker}
 use Rattle.vm_base.specs.declared.frame_request.Asker.TheVariants.{Parent}
 use Rattle.vm_base.specs.Frames.{FrameView}
-use Rattle.frame_pool.specs.Policies.{PolicyView, Grants, Denies, AllGrant, DeniesAt, kept, standing, AllSpare}
+use Rattle.frame_pool.specs.Policies.{PolicyView, AllGrant, kept, standing, AllSpare}
 use Rattle.frame_pool.specs.Frames.{PoolView, TakesOut, IsDenied}
 
 abbrev Spares : PolicyView → Type 0

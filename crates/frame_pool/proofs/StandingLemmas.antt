@@ -1,5 +1,5 @@
 -- The policies of a list that are not done, as they are known.
-use Rattle.std.proofs.Common.{◌≡◌, Bool, true, false, not, List, [], ◌∷◌, map, filter, All, cond, refl, sym, ◌∙◌, ap}
+use Rattle.std.proofs.Common.{◌≡◌, Bool, true, false, not, List, [], ◌∷◌, map, filter, All, cond, refl, ◌∙◌, ap}
 use Rattle.std.proofs.lemmas.List.Elements.{All-map, filter_passes}
 use Rattle.frame_pool.specs.Policies.{PolicyView, NoneIsDone, standing}
 use Rattle.frame_pool.proofs.AskLemmas.{is_refused}

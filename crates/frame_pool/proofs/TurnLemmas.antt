@@ -1,9 +1,9 @@
 -- What one policy of a list answers, and a list of which some were asked.
-use Rattle.std.proofs.Common.{◌≡◌, ℕ, ◌+◌, ◌<◌, Bool, true, false, IsTrue, List, [], ◌∷◌, ◌++◌, length, take, drop, map, slice_index_or, slice_set, if◌then◌else◌, refl, sym, ◌∙◌, ap, arith}
+use Rattle.std.proofs.Common.{◌≡◌, ℕ, ◌+◌, ◌<◌, Bool, true, false, IsTrue, List, [], ◌∷◌, ◌++◌, length, take, drop, slice_index_or, slice_set, refl, sym, ◌∙◌, ap, arith}
 use Rattle.std.proofs.lemmas.Bool.{cond-true, cond-false}
 use Rattle.std.proofs.lemmas.List.{take-set, drop-set-lt}
 use Rattle.vm_base.specs.declared.frame_request.Asker.{Asker}
-use Rattle.frame_pool.specs.Policies.{PolicyView, Grants, Denies, AllGrant, kept}
+use Rattle.frame_pool.specs.Policies.{PolicyView, Grants, Denies}
 use Rattle.frame_pool.specs.Turns.{TakesTurn}
 use Rattle.frame_pool.proofs.ListLemmas.{around_item, set_around, length-front}
 

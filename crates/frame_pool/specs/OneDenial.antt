@@ -1,20 +1,16 @@
--- A policy that denies once: how many asks it grants before, or nothing once it has denied.
-use Rattle.std.specs.Prelude.{ℕ, zero, suc, Bool, true, false, Option, Some, None}
+-- A policy that denies one ask: which one it is, counted from 1, and how many have reached it.
+use Rattle.std.specs.Prelude.{ℕ, nat_le, Bool, true, false, Some}
 use Rattle.frame_pool.specs.Policies.{PolicyView}
 
--- it may deny once, the parent too, and is done then
-abbrev pub told_of : Option ℕ → PolicyView
-told_of (Some grants) = record { denials = 0; left = Some 1; spares = false; done = false }
-told_of None = record { denials = 1; left = Some 0; spares = false; done = true }
+pub record OneDenial : Type 0 where
+  pub nth : ℕ
+  pub reached : ℕ
 
--- whether it grants the next ask
-abbrev pub grants_next : Option ℕ → Bool
-grants_next (Some zero) = false
-grants_next (Some (suc grants)) = true
-grants_next None = true
+-- what is known of it before it has denied, and then
+abbrev pub told_when : Bool → ℕ → PolicyView
+told_when false reached = record { reached = reached; denials = 0; left = Some 1; spares = false; done = false }
+told_when true reached = record { reached = reached; denials = 1; left = Some 0; spares = false; done = true }
 
--- what it is after the next ask
-abbrev pub after_ask : Option ℕ → Option ℕ
-after_ask (Some zero) = None
-after_ask (Some (suc grants)) = Some grants
-after_ask None = None
+-- it is done once the ask that it denies has reached it
+abbrev pub told_of : OneDenial → PolicyView
+told_of policy = told_when (nat_le policy.nth policy.reached) policy.reached

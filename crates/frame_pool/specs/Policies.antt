@@ -2,10 +2,11 @@
 use Rattle.std.specs.Prelude.{◌≡◌, ◌≢◌, ℕ, ◌+◌, ◌<◌, ◌≤◌, Bool, true, false, if◌then◌else◌, List, [], ◌∷◌, ◌++◌, length, filter, not, All, Option, Some, None}
 use Rattle.vm_base.specs.Counts.{next_count}
 use Rattle.vm_base.specs.declared.frame_request.Asker.{Asker}
-use Rattle.vm_base.specs.declared.frame_request.Asker.TheVariants.{Parent, Snapshot}
+use Rattle.vm_base.specs.declared.frame_request.Asker.TheVariants.{Parent}
 
--- how often a policy has denied, how many denials it may still make, whether it spares the parent, and whether it is done
+-- how many asks have reached a policy, how often it has denied, how many denials it may still make, whether it spares the parent, and whether it is done
 pub record PolicyView : Type 0 where
+  pub reached : ℕ
   pub denials : ℕ
   pub left : Option ℕ
   pub spares : Bool
@@ -23,14 +24,16 @@ Lowered None new = new ≡ None
 Lowered (Some old) None = ⊥
 Lowered (Some old) (Some new) = new < old
 
--- a request was granted
+-- a policy was asked and granted
 pub record Grants (old new : PolicyView) : Type 0 where
+  pub reached : new.reached ≡ next_count old.reached
   pub denials : new.denials ≡ old.denials
   pub left : NotRaised old.left new.left
   pub spares : new.spares ≡ old.spares
 
--- a request was denied; one that spares the parent does not deny a request of it
+-- a policy was asked and denied; one that spares the parent does not deny a request of it
 pub record Denies (asker : Asker) (old new : PolicyView) : Type 0 where
+  pub reached : new.reached ≡ next_count old.reached
   pub denials : next_count old.denials ≤ new.denials
   pub left : Lowered old.left new.left
   pub spares : new.spares ≡ old.spares

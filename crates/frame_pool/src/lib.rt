@@ -1,4 +1,9 @@
-//! Frames that are made at opening, taken and given back, with policies that may deny a request.
+//! The frames of the modelled machine: made at opening, taken and given back, with policies that
+//! may deny a request.
+//!
+//! The main type is [`Pool`]: `pool.take(Asker::Parent, Want::Page)` gives a frame of zeros or says
+//! [`Why`] not. A caller may rely on one sentence: a request is refused exactly where no frame is
+//! there or a policy that was asked denied it. The README beside this crate goes on from here.
 #![tactic(auto)]
 
 mod ask;

@@ -6,8 +6,8 @@ use crate::ask::Ask;
 
 /// A rule that a pool asks before it hands out a frame.
 pub trait FramePolicy: Drop {
-    /// What may be known of it: its denials, how many may still come, whether it spares the
-    /// parent, and whether it is done.
+    /// What may be known of it: how often it was asked and has denied, how many denials may still
+    /// come where it tells so, whether it spares the parent, and whether it is done.
     ghost told: { Self → PolicyView };
 
     /// Whether the request is granted. A policy that is done is never asked.

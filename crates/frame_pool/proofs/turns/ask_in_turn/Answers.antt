@@ -1,4 +1,4 @@
-use Rattle.std.proofs.Common.{◌≡◌, length, sym, refl, arith}
+use Rattle.std.proofs.Common.{length, arith}
 use Rattle.frame_pool.proofs.AskLemmas.{HaveGranted-none, HaveGranted-one, DeniesAt-one, is_granted, is_refused}
 use Rattle.frame_pool.proofs.turns.ask_in_turn.Goals as goal
 

@@ -1,4 +1,4 @@
-use Rattle.std.proofs.Common.{◌≡◌, ◌-◌, ◌≤◌, ◌<◌, ◌^◌, false, length, All}
+use Rattle.std.proofs.Common.{◌≡◌, ◌-◌, ◌≤◌, false, length, All}
 use Rattle.frame_pool.specs.Turns.{HaveGranted}
 use Rattle.frame_pool.proofs.turns.ask_in_turn.Given as goal
 

@@ -1,4 +1,3 @@
-use Rattle.std.proofs.Common.{rules}
 use Rattle.frame_pool.proofs.StandingLemmas.{undone_views}
 use Rattle.frame_pool.proofs.turns.ask_standing.Goals as goal
 

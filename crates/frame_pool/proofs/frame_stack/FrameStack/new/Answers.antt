@@ -1,9 +1,8 @@
-use Rattle.std.proofs.Common.{◌≡◌, ◌+◌, List, [], ◌∷◌, ◌++◌, map, All, sym, ◌∙◌, ap, subst, refl}
-use Rattle.std.specs.List.{range_with_len}
+use Rattle.std.proofs.Common.{◌≡◌, ◌+◌, [], ◌∷◌, ◌++◌, map, All, sym, ◌∙◌, ap, subst, refl}
 use Rattle.std.proofs.lemmas.List.{map-append}
 use Rattle.std.proofs.lemmas.List.Elements.{All-push}
 use Rattle.vm_base.specs.FlatMemory.{zero_page}
-use Rattle.vm_base.specs.Frames.{FrameView, new_frame}
+use Rattle.vm_base.specs.Frames.{new_frame}
 use Rattle.frame_pool.proofs.ListLemmas.{range-push}
 use Rattle.frame_pool.proofs.frame_stack.FrameStack.new.Goals as goal
 

@@ -1,4 +1,4 @@
-use Rattle.std.proofs.Common.{◌≡◌, ◌≤◌, length, map, All, vec_len, vec_capacity}
+use Rattle.std.proofs.Common.{◌≡◌, map, All, vec_len, vec_capacity}
 use Rattle.std.specs.List.{range_with_len}
 use Rattle.vm_base.specs.FlatMemory.{zero_page}
 use Rattle.frame_pool.proofs.frame_stack.FrameStack.new.Given as goal
