@@ -1,7 +1,8 @@
--- A policy that denies one ask: which one it is, counted from 1, and how many have reached it.
+-- A policy that denies one ask, counted from 1 among those that reach it.
 use Rattle.std.specs.Prelude.{ℕ, nat_le, Bool, true, false, Some}
 use Rattle.frame_pool.specs.Policies.{PolicyView}
 
+-- which ask it denies, and how many have reached it
 pub record OneDenial : Type 0 where
   pub nth : ℕ
   pub reached : ℕ
