@@ -1,0 +1,4 @@
+pub mod Policies
+pub mod Frames
+pub mod OneDenial
+pub mod Turns
