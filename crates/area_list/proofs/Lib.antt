@@ -7,3 +7,4 @@ pub mod Permissions
 pub mod Within
 pub mod Unique
 pub mod Found
+pub mod Made

@@ -90,9 +90,9 @@ pub front_from : (low : ℕ) (x : Area) (ys : List Area) → low ≤ x.first →
 front_from low x [] le some from = (le, some, tt)
 front_from low x (y ∷ ys) le some from = elim (cases_Bool (joins x y)) [
   | inl one ↦
-    let touches : x.first + x.pages ≡ y.first = joins_touches x y one in
-    let ends : y.first + y.pages ≡ x.first + (x.pages + y.pages) = omega arith in
-    subst (IsFrom low) (sym (front_joins x y ys one)) (le, omega arith, subst (λ end. IsFrom end ys) ends from.2)
+      let touches : x.first + x.pages ≡ y.first = joins_touches x y one in
+      let ends : y.first + y.pages ≡ x.first + (x.pages + y.pages) = omega arith in
+      subst (IsFrom low) (sym (front_joins x y ys one)) (le, omega arith, subst (λ end. IsFrom end ys) ends from.2)
   | inr two ↦ subst (IsFrom low) (sym (front_apart x y ys two)) (le, some, from)
 ]
 

@@ -70,12 +70,12 @@ below_between page low [] le from = le
 below_between page low (a ∷ areas) le from = elim (cases_lt a.first page) [
   | inl lt ↦ elim (cases_lt (a.first + a.pages) page) [
     | inl whole ↦ subst (λ l. IsBetween low page (l ++ areas_below page areas)) (sym (area_below_all page a from.1 (omega arith)))
-      (from.0, from.1, below_between page (a.first + a.pages) areas (omega arith) from.2)
+        (from.0, from.1, below_between page (a.first + a.pages) areas (omega arith) from.2)
     | inr part ↦
-      let none = below_none page (a.first + a.pages) areas part from.2 in
-      let end : page ≡ a.first + (page - a.first) = omega arith in
-      subst (λ l. IsBetween low page (l ++ areas_below page areas)) (sym (area_below_some page a lt part))
-      (from.0, omega arith, subst (λ l. IsBetween (a.first + (page - a.first)) page l) (sym none) (omega arith))
+        let none = below_none page (a.first + a.pages) areas part from.2 in
+        let end : page ≡ a.first + (page - a.first) = omega arith in
+        subst (λ l. IsBetween low page (l ++ areas_below page areas)) (sym (area_below_some page a lt part))
+        (from.0, omega arith, subst (λ l. IsBetween (a.first + (page - a.first)) page l) (sym none) (omega arith))
   ]
   | inr beyond ↦ subst (IsBetween low page) (sym (below_none page a.first (a ∷ areas) beyond (omega arith, from.1, from.2))) le
 ]
@@ -84,15 +84,15 @@ pub from_from : (page low : ℕ) (areas : List Area) → IsFrom low areas → Is
 from_from page low [] from = tt
 from_from page low (a ∷ areas) from = elim (cases_lt page (a.first + a.pages)) [
   | inl some ↦
-    let rest : IsFrom (a.first + a.pages) (areas_from page areas) =
+      let rest : IsFrom (a.first + a.pages) (areas_from page areas) =
       subst (IsFrom (a.first + a.pages)) (sym (from_all page (a.first + a.pages) areas (omega arith) from.2)) from.2 in
-    elim (cases_lt page a.first) [
-      | inl all ↦ subst (λ l. IsFrom page (l ++ areas_from page areas)) (sym (area_from_all page a from.1 (omega arith))) (omega arith, from.1, rest)
-      | inr part ↦
-        let end : a.first + a.pages ≡ page + (a.first + a.pages - page) = omega arith in
-        subst (λ l. IsFrom page (l ++ areas_from page areas)) (sym (area_from_some page a part some))
-        (omega arith, omega arith, subst (λ e. IsFrom e (areas_from page areas)) end rest)
-    ]
+      elim (cases_lt page a.first) [
+        | inl all ↦ subst (λ l. IsFrom page (l ++ areas_from page areas)) (sym (area_from_all page a from.1 (omega arith))) (omega arith, from.1, rest)
+        | inr part ↦
+            let end : a.first + a.pages ≡ page + (a.first + a.pages - page) = omega arith in
+            subst (λ l. IsFrom page (l ++ areas_from page areas)) (sym (area_from_some page a part some))
+            (omega arith, omega arith, subst (λ e. IsFrom e (areas_from page areas)) end rest)
+      ]
   | inr none ↦ subst (λ l. IsFrom page (l ++ areas_from page areas)) (sym (area_from_none page a none)) (from_from page (a.first + a.pages) areas from.2)
 ]
 

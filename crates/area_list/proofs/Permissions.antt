@@ -45,7 +45,7 @@ permission_append [] ys page = refl
 permission_append (x ∷ xs) ys page = elim (cases_Bool (holds x page)) [
   | inl held ↦ permission_held x (xs ++ ys) page held ∙ sym (ap (λ o. option_or o (permission_at ys page)) (permission_held x xs page held))
   | inr passed ↦ permission_passed x (xs ++ ys) page passed ∙ permission_append xs ys page
-    ∙ sym (ap (λ o. option_or o (permission_at ys page)) (permission_passed x xs page passed))
+      ∙ sym (ap (λ o. option_or o (permission_at ys page)) (permission_passed x xs page passed))
 ]
 
 -- ---- joined
@@ -54,16 +54,16 @@ two_as_one a b areas page one =
     let touches : a.first + a.pages ≡ b.first = joins_touches a b one in
     elim (cases_lt page a.first) [
       | inl before ↦ permission_passed (both a b) areas page (holds_before (both a b) page before)
-        ∙ sym (permission_passed a (b ∷ areas) page (holds_before a page before) ∙ permission_passed b areas page (holds_before b page (omega arith)))
+          ∙ sym (permission_passed a (b ∷ areas) page (holds_before a page before) ∙ permission_passed b areas page (holds_before b page (omega arith)))
       | inr begun ↦ elim (cases_lt page (a.first + a.pages)) [
         | inl first ↦ permission_held (both a b) areas page (holds_inside (both a b) page begun (omega arith))
-          ∙ sym (permission_held a (b ∷ areas) page (holds_inside a page begun first))
+            ∙ sym (permission_held a (b ∷ areas) page (holds_inside a page begun first))
         | inr later ↦ elim (cases_lt page (b.first + b.pages)) [
           | inl second ↦ permission_held (both a b) areas page (holds_inside (both a b) page begun (omega arith))
-            ∙ ap Some (joins_alike a b one)
-            ∙ sym (permission_passed a (b ∷ areas) page (holds_behind a page later) ∙ permission_held b areas page (holds_inside b page (omega arith) second))
+              ∙ ap Some (joins_alike a b one)
+              ∙ sym (permission_passed a (b ∷ areas) page (holds_behind a page later) ∙ permission_held b areas page (holds_inside b page (omega arith) second))
           | inr behind ↦ permission_passed (both a b) areas page (holds_behind (both a b) page (omega arith))
-            ∙ sym (permission_passed a (b ∷ areas) page (holds_behind a page later) ∙ permission_passed b areas page (holds_behind b page behind))
+              ∙ sym (permission_passed a (b ∷ areas) page (holds_behind a page later) ∙ permission_passed b areas page (holds_behind b page behind))
         ]
       ]
     ]
@@ -84,9 +84,9 @@ permission_joined (a ∷ areas) page = permission_front a (joined areas) page �
 permission_between_out : (first end : ℕ) (perm : Perm) (page : ℕ) → (page < first) ⊎ (end ≤ page) → permission_at (area_between first end perm) page ≡ None
 permission_between_out first end perm page out = elim (cases_lt first end) [
   | inl some ↦ ap (λ l. permission_at l page) (area_between_some first end perm some) ∙ permission_passed (run first end perm) [] page (elim out [
-      | inl before ↦ holds_before (run first end perm) page before
-      | inr behind ↦ holds_behind (run first end perm) page (omega arith)
-    ])
+    | inl before ↦ holds_before (run first end perm) page before
+    | inr behind ↦ holds_behind (run first end perm) page (omega arith)
+  ])
   | inr none ↦ ap (λ l. permission_at l page) (area_between_none first end perm none)
 ]
 
@@ -178,20 +178,20 @@ pieces_set first n between areas new over made page =
     ap (λ l. permission_at l page) made ∙ permission_joined (pieces first (first + n) between areas) page ∙ pieces_at first (first + n) between areas page
     ∙ elim (cases_lt page first) [
       | inl before ↦
-        ap (λ o. option_or (option_or below o) behind) (between_out first n between page over (inl before))
-        ∙ ap (λ o. option_or (option_or below None) o) (from_nowhere (first + n) areas page (omega arith))
-        ∙ option_or-none (option_or below None) ∙ option_or-none below ∙ below_here first areas page before
-        ∙ sym (cond-false (is_among first n page) perm old (and_left (leb first page) (ltb page (first + n)) (lt-leb first page before)))
+          ap (λ o. option_or (option_or below o) behind) (between_out first n between page over (inl before))
+          ∙ ap (λ o. option_or (option_or below None) o) (from_nowhere (first + n) areas page (omega arith))
+          ∙ option_or-none (option_or below None) ∙ option_or-none below ∙ below_here first areas page before
+          ∙ sym (cond-false (is_among first n page) perm old (and_left (leb first page) (ltb page (first + n)) (lt-leb first page before)))
       | inr begun ↦ elim (cases_lt page (first + n)) [
         | inl inside ↦
-          ap (λ o. option_or (option_or o some) behind) (below_nowhere first areas page begun)
-          ∙ ap (λ o. option_or some o) (from_nowhere (first + n) areas page inside)
-          ∙ option_or-none some ∙ between_in first n between page over begun inside
-          ∙ sym (cond-true (is_among first n page) perm old (and_from (leb first page) (ltb page (first + n)) (le-leb first page begun) (lt-ltb page (first + n) inside)))
+            ap (λ o. option_or (option_or o some) behind) (below_nowhere first areas page begun)
+            ∙ ap (λ o. option_or some o) (from_nowhere (first + n) areas page inside)
+            ∙ option_or-none some ∙ between_in first n between page over begun inside
+            ∙ sym (cond-true (is_among first n page) perm old (and_from (leb first page) (ltb page (first + n)) (le-leb first page begun) (lt-ltb page (first + n) inside)))
         | inr past ↦
-          ap (λ o. option_or (option_or o some) behind) (below_nowhere first areas page begun)
-          ∙ ap (λ o. option_or o behind) (between_out first n between page over (inr past))
-          ∙ from_here (first + n) areas page past
-          ∙ sym (cond-false (is_among first n page) perm old (and_right (leb first page) (ltb page (first + n)) (le-ltb page (first + n) past)))
+            ap (λ o. option_or (option_or o some) behind) (below_nowhere first areas page begun)
+            ∙ ap (λ o. option_or o behind) (between_out first n between page over (inr past))
+            ∙ from_here (first + n) areas page past
+            ∙ sym (cond-false (is_among first n page) perm old (and_right (leb first page) (ltb page (first + n)) (le-ltb page (first + n) past)))
       ]
     ]

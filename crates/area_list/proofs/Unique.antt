@@ -25,17 +25,17 @@ end_differs a [] from apart same =
     cc
 end_differs a (b ∷ areas) from apart same =
     let passed : permission_at (a ∷ b ∷ areas) (a.first + a.pages) ≡ permission_at (b ∷ areas) (a.first + a.pages) =
-      permission_passed a (b ∷ areas) (a.first + a.pages) (holds_behind a (a.first + a.pages) (omega arith)) in
+    permission_passed a (b ∷ areas) (a.first + a.pages) (holds_behind a (a.first + a.pages) (omega arith)) in
     elim (cases_lt (a.first + a.pages) b.first) [
       | inl gap ↦
-        let none : permission_at (b ∷ areas) (a.first + a.pages) ≡ None =
+          let none : permission_at (b ∷ areas) (a.first + a.pages) ≡ None =
           nothing_below b.first (b ∷ areas) (a.first + a.pages) (omega arith, from.1, from.2) gap in
-        cc
+          cc
       | inr touch ↦
-        let here : a.first + a.pages ≡ b.first = omega (arith, from.0) in
-        let other : permission_at (b ∷ areas) (a.first + a.pages) ≡ Some b.perm = ap (permission_at (b ∷ areas)) here ∙ first_page b areas from.1 in
-        let alike : a.perm ≡ b.perm = cc in
-        apart.1 here alike
+          let here : a.first + a.pages ≡ b.first = omega (arith, from.0) in
+          let other : permission_at (b ∷ areas) (a.first + a.pages) ≡ Some b.perm = ap (permission_at (b ∷ areas)) here ∙ first_page b areas from.1 in
+          let alike : a.perm ≡ b.perm = cc in
+          apart.1 here alike
     ]
 
 -- an area that has a page less than another with the same first page and permission

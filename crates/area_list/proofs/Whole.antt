@@ -10,10 +10,10 @@ use Rattle.area_list.proofs.Order.{IsFrom, IsBetween, IsApart, order_parts, orde
 use Rattle.area_list.proofs.Parts.{run, area_below_all, area_below_none, area_below_some, area_from_all, area_from_none, area_from_some, area_between_none, below_none, from_all, below_between, from_from}
 
 -- ---- one area without n pages
-without_below : (first n : ℕ) (a : Area) → a.first + a.pages ≤ first → area_without first n a ≡ a ∷ []
+pub without_below : (first n : ℕ) (a : Area) → a.first + a.pages ≤ first → area_without first n a ≡ a ∷ []
 without_below first n a le = cond-true (leb (a.first + a.pages) first) _ _ (le-leb (a.first + a.pages) first le)
 
-without_above : (first n : ℕ) (a : Area) → first < a.first + a.pages → first + n ≤ a.first → area_without first n a ≡ a ∷ []
+pub without_above : (first n : ℕ) (a : Area) → first < a.first + a.pages → first + n ≤ a.first → area_without first n a ≡ a ∷ []
 without_above first n a above le =
     cond-false (leb (a.first + a.pages) first) _ _ (lt-leb (a.first + a.pages) first above)
     ∙ cond-true (leb (first + n) a.first) _ _ (le-leb (first + n) a.first le)
@@ -42,26 +42,26 @@ areas_without_parts first n low (a ∷ areas) from =
     let rest = areas_without_parts first n (a.first + a.pages) areas from.2 in
     elim (cases_lt first (a.first + a.pages)) [
       | inl above ↦
-        let none = below_none first (a.first + a.pages) areas (omega arith) from.2 in
-        elim (cases_lt a.first (first + n)) [
-          | inl meets ↦
-            ap (λ l. l ++ areas_without first n areas) (meeting_parts first n a above meets)
-            ∙ ap (λ l. (area_below first a ++ area_from (first + n) a) ++ l) (rest ∙ ap (λ l. l ++ behind) none)
-            ∙ append_assoc (area_below first a) (area_from (first + n) a) behind
-            ∙ sym (ap (λ l. (area_below first a ++ l) ++ (area_from (first + n) a ++ behind)) none
-            ∙ ap (λ l. l ++ (area_from (first + n) a ++ behind)) (append-nil (area_below first a)))
-          | inr behind_all ↦
-            ap (λ l. l ++ areas_without first n areas) (without_above first n a above behind_all)
-            ∙ ap (λ l. a ∷ l) (rest ∙ ap (λ l. l ++ behind) none)
-            ∙ sym (ap (λ l. (l ++ below) ++ (area_from (first + n) a ++ behind)) (area_below_none first a (omega arith))
-            ∙ ap (λ l. l ++ (area_from (first + n) a ++ behind)) none
-            ∙ ap (λ l. l ++ behind) (area_from_all (first + n) a from.1 behind_all))
-        ]
+          let none = below_none first (a.first + a.pages) areas (omega arith) from.2 in
+          elim (cases_lt a.first (first + n)) [
+            | inl meets ↦
+                ap (λ l. l ++ areas_without first n areas) (meeting_parts first n a above meets)
+                ∙ ap (λ l. (area_below first a ++ area_from (first + n) a) ++ l) (rest ∙ ap (λ l. l ++ behind) none)
+                ∙ append_assoc (area_below first a) (area_from (first + n) a) behind
+                ∙ sym (ap (λ l. (area_below first a ++ l) ++ (area_from (first + n) a ++ behind)) none
+                ∙ ap (λ l. l ++ (area_from (first + n) a ++ behind)) (append-nil (area_below first a)))
+            | inr behind_all ↦
+                ap (λ l. l ++ areas_without first n areas) (without_above first n a above behind_all)
+                ∙ ap (λ l. a ∷ l) (rest ∙ ap (λ l. l ++ behind) none)
+                ∙ sym (ap (λ l. (l ++ below) ++ (area_from (first + n) a ++ behind)) (area_below_none first a (omega arith))
+                ∙ ap (λ l. l ++ (area_from (first + n) a ++ behind)) none
+                ∙ ap (λ l. l ++ behind) (area_from_all (first + n) a from.1 behind_all))
+          ]
       | inr whole ↦
-        ap (λ l. l ++ areas_without first n areas) (without_below first n a whole)
-        ∙ ap (λ l. a ∷ l) rest
-        ∙ sym (ap (λ l. (l ++ below) ++ (area_from (first + n) a ++ behind)) (area_below_all first a from.1 whole)
-        ∙ ap (λ l. (a ∷ below) ++ (l ++ behind)) (area_from_none (first + n) a (omega arith)))
+          ap (λ l. l ++ areas_without first n areas) (without_below first n a whole)
+          ∙ ap (λ l. a ∷ l) rest
+          ∙ sym (ap (λ l. (l ++ below) ++ (area_from (first + n) a ++ behind)) (area_below_all first a from.1 whole)
+          ∙ ap (λ l. (a ∷ below) ++ (l ++ behind)) (area_from_none (first + n) a (omega arith)))
     ]
 
 -- an area between those that lie below it and those that begin where it does or behind it
@@ -94,12 +94,12 @@ from_in_order page low (a ∷ areas) from order =
     let parts = order_parts a areas order in
     elim (cases_lt page (a.first + a.pages)) [
       | inl some ↦
-        let all : areas_from page areas ≡ areas = from_all page (a.first + a.pages) areas (omega arith) from.2 in
-        elim (cases_lt page a.first) [
-          | inl whole ↦ subst AreInOrder (sym (ap (λ l. l ++ areas_from page areas) (area_from_all page a from.1 (omega arith)) ∙ ap (λ l. a ∷ l) all)) order
-          | inr part ↦ subst AreInOrder (sym (ap (λ l. l ++ areas_from page areas) (area_from_some page a part some) ∙ ap (λ l. run page (a.first + a.pages) a.perm ∷ l) all))
-            (order_from (run page (a.first + a.pages) a.perm) areas (omega arith) (same_end page a areas some parts.1) parts.2)
-        ]
+          let all : areas_from page areas ≡ areas = from_all page (a.first + a.pages) areas (omega arith) from.2 in
+          elim (cases_lt page a.first) [
+            | inl whole ↦ subst AreInOrder (sym (ap (λ l. l ++ areas_from page areas) (area_from_all page a from.1 (omega arith)) ∙ ap (λ l. a ∷ l) all)) order
+            | inr part ↦ subst AreInOrder (sym (ap (λ l. l ++ areas_from page areas) (area_from_some page a part some) ∙ ap (λ l. run page (a.first + a.pages) a.perm ∷ l) all))
+                (order_from (run page (a.first + a.pages) a.perm) areas (omega arith) (same_end page a areas some parts.1) parts.2)
+          ]
       | inr none ↦ subst AreInOrder (sym (ap (λ l. l ++ areas_from page areas) (area_from_none page a none))) (from_in_order page (a.first + a.pages) areas from.2 parts.2)
     ]
   where
@@ -122,13 +122,13 @@ below_in_order page low (a ∷ areas) behind from order beyond later =
     elim (cases_lt a.first page) [
       | inl some ↦ elim (cases_lt (a.first + a.pages) page) [
         | inl whole ↦
-          subst (λ l. AreInOrder ((l ++ areas_below page areas) ++ behind)) (sym (area_below_all page a from.1 (omega arith)))
-          (order_from a (areas_below page areas ++ behind) from.1 (apart_below page a areas behind whole from.2 parts.1 beyond)
-          (below_in_order page (a.first + a.pages) areas behind from.2 parts.2 beyond later))
+            subst (λ l. AreInOrder ((l ++ areas_below page areas) ++ behind)) (sym (area_below_all page a from.1 (omega arith)))
+            (order_from a (areas_below page areas ++ behind) from.1 (apart_below page a areas behind whole from.2 parts.1 beyond)
+            (below_in_order page (a.first + a.pages) areas behind from.2 parts.2 beyond later))
         | inr part ↦
-          subst (λ l. AreInOrder (l ++ behind)) (sym (ap (λ l. l ++ areas_below page areas) (area_below_some page a some part)
-          ∙ ap (λ l. run a.first page a.perm ∷ l) (below_none page (a.first + a.pages) areas part from.2)))
-          (order_from (run a.first page a.perm) behind (omega arith) (apart_behind (run a.first page a.perm) page behind (omega arith) beyond) later)
+            subst (λ l. AreInOrder (l ++ behind)) (sym (ap (λ l. l ++ areas_below page areas) (area_below_some page a some part)
+            ∙ ap (λ l. run a.first page a.perm ∷ l) (below_none page (a.first + a.pages) areas part from.2)))
+            (order_from (run a.first page a.perm) behind (omega arith) (apart_behind (run a.first page a.perm) page behind (omega arith) beyond) later)
       ]
       | inr none ↦ subst (λ l. AreInOrder (l ++ behind)) (sym (below_none page a.first (a ∷ areas) none (omega arith, from.1, from.2))) later
     ]

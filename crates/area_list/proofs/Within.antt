@@ -17,8 +17,8 @@ front_end : (limit : ℕ) (a : Area) (areas : List Area) → a.first + a.pages �
 front_end limit a [] le ends = (le, tt)
 front_end limit a (b ∷ areas) le ends = elim (cases_Bool (joins a b)) [
   | inl one ↦
-    let touches : a.first + a.pages ≡ b.first = joins_touches a b one in
-    subst (EndBy limit) (sym (front_joins a b areas one)) (omega (arith, ends.0), ends.1)
+      let touches : a.first + a.pages ≡ b.first = joins_touches a b one in
+      subst (EndBy limit) (sym (front_joins a b areas one)) (omega (arith, ends.0), ends.1)
   | inr two ↦ subst (EndBy limit) (sym (front_apart a b areas two)) (le, ends)
 ]
 

@@ -86,7 +86,8 @@ impl Areas {
         if let Some(page) = lowest_taken(self.list(), first, first + pages) {
             return Err(AreaFault::Overlap(page));
         }
-        self.replace(first, pages, Some(Area { first, pages, perm }))
+        let mapped = Area { first, pages, perm };
+        self.replace(first, pages, Some(mapped))
     }
 
     /// Unmaps pages. Those that no area holds are skipped.
@@ -110,7 +111,8 @@ impl Areas {
         if let Some(page) = lowest_outside(self.list(), first, first + pages) {
             return Err(AreaFault::NoArea(page));
         }
-        self.replace(first, pages, Some(Area { first, pages, perm }))
+        let protected = Area { first, pages, perm };
+        self.replace(first, pages, Some(protected))
     }
 
     /// Takes pages out of the areas that hold them, and puts an area of just these pages, or none,

@@ -13,7 +13,7 @@ returns-in_err-push_below c =
     let some = area_or_none c.args.between in
     let told = c.in_err-push_below.ensures [] c.new-list.ensures in
     rw (exit.1, exit.2)
-      (told.0, omega (arith, told.1, length-joined below some, length-joined (below ++ some) (areas_from c.args.end c.args.areas.now)))
+    (told.0, omega (arith, told.1, length-joined below some, length-joined (below ++ some) (areas_from c.args.end c.args.areas.now)))
 
 pub returns-in_err-push_if_some : goal.returns-in_err-push_if_some
 returns-in_err-push_if_some c =

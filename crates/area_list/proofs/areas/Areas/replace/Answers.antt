@@ -15,10 +15,10 @@ invariant_of-self c =
     let old = c.args.self.now in
     let parts = pieces c.args.first (c.args.first + c.args.pages) c.args.area old in
     let made : c.in-Ok.list.items ≡ joined parts =
-      c.in-Ok.ensures.0 ∙ ap (λ l. joined (pieces c.args.first (c.args.first + c.args.pages) c.args.area l)) c.list.ensures.areas in
+    c.in-Ok.ensures.0 ∙ ap (λ l. joined (pieces c.args.first (c.args.first + c.args.pages) c.args.area l)) c.list.ensures.areas in
     record {
       in_order = subst AreInOrder (sym made)
-        (joined_in_order 0 parts (pieces_from c.args.first c.args.pages c.args.area old c.requires.some c.requires.over (IsFrom-in_order old c.list.ensures.form.in_order)));
+          (joined_in_order 0 parts (pieces_from c.args.first c.args.pages c.args.area old c.requires.some c.requires.over (IsFrom-in_order old c.list.ensures.form.in_order)));
       few = c.in-Ok.ensures.1;
       within = subst AreWithin (sym made) (pieces_end (2 ^ 36) c.args.first c.args.pages c.args.area old c.requires.over c.requires.within c.list.ensures.form.within);
     }
