@@ -3,3 +3,9 @@ pub mod FlatMemory
 pub mod FlatStep
 pub mod TwoSides
 pub mod Codes
+pub mod Counts
+pub mod Deals
+pub mod Frames
+pub mod FrameLending
+pub mod Entries
+pub mod Walk

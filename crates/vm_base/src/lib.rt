@@ -5,12 +5,24 @@
 //! The README beside this crate says what each part is for and how the allocator is passed.
 #![tactic(auto)]
 
+mod allotment;
 mod byte_list;
 mod fork_mode;
+mod frame_request;
 mod no_memory;
+mod page_frame;
 mod permission;
+mod refusals;
+mod table_entry;
+mod walk;
 
+pub use allotment::Allot;
 pub use byte_list::Bytes;
 pub use fork_mode::Mode;
+pub use frame_request::{Asker, Want};
 pub use no_memory::NoMemory;
+pub use page_frame::Frame;
 pub use permission::Perm;
+pub use refusals::{Lost, Refused};
+pub use table_entry::{Bits, entry_parts, entry_word};
+pub use walk::split_addr;
