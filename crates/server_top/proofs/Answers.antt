@@ -2,9 +2,7 @@
 use Rattle.std.proofs.Common.{◌≡◌, ℕ, ◌+◌, ◌-◌, ◌^◌, ◌≤◌, ◌<◌, Bool, true, false, cond, List, [], ◌∷◌, ◌++◌, length, drop, Option, Some, None, refl, sym, ◌∙◌, ap, subst, arith}
 use Rattle.std.specs.Prelude.{if◌then◌else◌, nat_le}
 use Rattle.std.specs.List.{AllByRecursion}
-use Rattle.std.specs.Ordering.{nat_cmp}
 use Rattle.std.specs.Cmp.Lexicographic.{nat_list_cmp_total}
-use Rattle.std.specs.declared.cmp.Ordering.{Ordering}
 use Rattle.std.specs.declared.cmp.Ordering.TheVariants.{Less, Equal, Greater}
 use Rattle.std.specs.FinMap.{entries, get, insert, len, put, entries-insert, len-insert, contains_key}
 use Rattle.std.specs.FinMap.Entries.{by_order}
@@ -12,11 +10,10 @@ use Rattle.std.proofs.lemmas.Bool.{ltb-false}
 use Rattle.std.proofs.lemmas.List.{append-nil}
 use Rattle.resp_text.specs.declared.reply.Reply.{Reply}
 use Rattle.resp_text.specs.declared.reply.Reply.TheVariants as reply
-use Rattle.resp_text.specs.declared.reply.ErrorKind.{ErrorKind}
 use Rattle.resp_text.specs.declared.reply.ErrorKind.TheVariants as kind
 use Rattle.image_text.specs.Image.{bytes_cmp, FitsImage}
 use Rattle.service_meaning.specs.Commands.{Command, SetPair, GetValue, StartSave, command_of, is_long}
-use Rattle.service_meaning.specs.MapMachine.{Pairs, Service, Answer, refused, value_reply, answer, command_answer, set_answer, get_answer, save_answer, with_snapshot}
+use Rattle.service_meaning.specs.MapMachine.{Service, Answer, refused, value_reply, answer, command_answer, set_answer, get_answer, save_answer, with_snapshot}
 use Rattle.service_meaning.specs.History.{Call, started, is_refusal}
 
 -- a request with a word behind BGSAVE

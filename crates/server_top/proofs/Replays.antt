@@ -1,25 +1,24 @@
 -- The history of a session: its calls, and then the taking and the end of the save that was started.
-use Rattle.std.proofs.Common.{◌≡◌, ℕ, ◌+◌, ◌-◌, ◌^◌, ◌≤◌, ◌<◌, min, Bool, true, false, cond, List, [], ◌∷◌, ◌++◌, length, map, Option, Some, None, refl, sym, ◌∙◌, ap, subst, arith, inl}
-use Rattle.std.specs.Prelude.{IfSome, option_to_list, if◌then◌else◌, not, ◌==◌, filter, Contains}
+use Rattle.std.proofs.Common.{◌≡◌, ℕ, ◌+◌, ◌-◌, ◌^◌, ◌≤◌, min, List, [], ◌∷◌, ◌++◌, length, Option, Some, None, refl, sym, ◌∙◌, ap, subst, arith, inl}
+use Rattle.std.specs.Prelude.{IfSome, option_to_list, if◌then◌else◌, Contains}
 use Rattle.std.specs.Option.{option_map, option_or}
-use Rattle.std.specs.List.{AllByRecursion, flat_map}
-use Rattle.std.specs.FinMap.{entries, empty, insert, len, len-entries, len-empty}
+use Rattle.std.specs.List.{AllByRecursion}
+use Rattle.std.specs.FinMap.{entries, empty, insert, len-entries, len-empty}
 use Rattle.std.proofs.lemmas.Bool.{eq-eqb}
 use Rattle.std.proofs.lemmas.List.{append_assoc, append-nil}
 use Rattle.std.proofs.lemmas.List.Concat.{flat_map-append}
-use Rattle.io_face.specs.Faults.{Rose}
 use Rattle.io_face.specs.Folder.{Files}
 use Rattle.io_face.specs.Told.{Adds, AddsPrefix}
 use Rattle.resp_text.specs.declared.reply.Reply.{Reply}
 use Rattle.resp_text.specs.declared.reply.Reply.TheVariants as reply
 use Rattle.resp_text.specs.Replies.{text_of}
-use Rattle.image_text.specs.Image.{bytes_cmp, image_text, pairs_text, FitsImage}
+use Rattle.image_text.specs.Image.{bytes_cmp, pairs_text, FitsImage}
 use Rattle.service_meaning.specs.declared.saved.Saved.{Saved}
 use Rattle.service_meaning.specs.declared.saved.Saved.TheVariants as saved
-use Rattle.service_meaning.specs.MapMachine.{Pairs, Service, answer}
-use Rattle.service_meaning.specs.History.{Entry, Call, Taken, Ended, Moment, opening, without, started, Leads, LeadAlong, IsLegal, IsForked, is_refusal, refusals, calls_in, calls_of, ends_in, ends_of}
+use Rattle.service_meaning.specs.MapMachine.{Pairs}
+use Rattle.service_meaning.specs.History.{Entry, Call, Taken, Ended, Moment, without, Leads, LeadAlong, IsForked, is_refusal, refusals, calls_in, calls_of, ends_in, ends_of}
 use Rattle.service_meaning.specs.SessionText.{requests_of, replies_text}
-use Rattle.service_meaning.specs.SaveEnd.{report_line, report_text, file_name, FileOf, FilesOf, faults_of}
+use Rattle.service_meaning.specs.SaveEnd.{report_line, report_text, file_name, FileOf, FilesOf, faults_of, refused_saves}
 use Rattle.server_top.specs.declared.replay.book.Book.{Book}
 use Rattle.server_top.specs.declared.replay.book.Snapshot.{Snapshot}
 use Rattle.server_top.specs.ReplayPromise.{Outside, HasEnded, IsHistoryOf, Published, Served, ServedAll, ServedSome, replay_opening, sent_text}
@@ -172,6 +171,7 @@ served_calls : (outside : Outside) (requests : List (List (List ℕ))) → AllBy
 served_calls outside requests servable leaves = record {
   is_history = history_of_calls requests servable;
   files = nothing_published (calls_from opening_kept requests) outside.files outside.files_after (ends_calls opening_kept requests) leaves.files;
+  unrefused = ap refused_saves (ends_calls opening_kept requests);
   faults = omega (arith, leaves.faults, ap faults_of (ends_calls opening_kept requests));
 }
 
@@ -319,6 +319,14 @@ faults_saved snapshot (saved.Refused at) outside so = omega (arith, so.faults)
 faults_saved snapshot saved.SinkFault outside so = so.cause refl
 faults_saved snapshot saved.NoMemory outside so = omega (arith, so.faults)
 
+-- no save of this store is refused a frame
+unrefused_saved : (snapshot : Snapshot) (end : Saved) (old new : Option Files) → Saves snapshot end old new → refused_saves ((snapshot.number, end) ∷ []) ≡ 0
+unrefused_saved snapshot (saved.Ok count) old new saves = refl
+unrefused_saved snapshot (saved.Lost at) old new saves = absurd saves
+unrefused_saved snapshot (saved.Refused at) old new saves = absurd saves
+unrefused_saved snapshot saved.SinkFault old new saves = refl
+unrefused_saved snapshot saved.NoMemory old new saves = refl
+
 -- a snapshot lives behind the requests
 pub record Lives (requests : List (List (List ℕ))) (snapshot : Snapshot) : Type 0 where
   pub servable : AllByRecursion IsServable requests
@@ -333,6 +341,7 @@ served_saved outside requests snapshot end lives so =
       is_history = history_saved requests (snapshot.number, end) lives.servable lives.live;
       files = published_saved (saved_history requests (snapshot.number, end)) snapshot end outside.files outside.files_after (ends_saved requests (snapshot.number, end))
           (fork_more (calls_from opening_kept requests) (saving_of (snapshot.number, end)) snapshot fork) so.saves;
+      unrefused = ap refused_saves (ends_saved requests (snapshot.number, end)) ∙ unrefused_saved snapshot end outside.files outside.files_after so.saves;
       faults = subst (λ ends. min (outside.faults + faults_of ends) (2 ^ 64 - 1) ≤ outside.faults_after) (sym (ends_saved requests (snapshot.number, end))) (faults_saved snapshot end outside so);
     }
 

@@ -1,7 +1,6 @@
 -- A run of `trace` from a run of its text.
-use Rattle.std.proofs.Common.{◌≡◌, ℕ, List, refl, sym, ◌∙◌, ap, inl, inr}
-use Rattle.std.specs.Prelude.{Option, Some, None}
-use Rattle.io_face.specs.Told.{TakesSome}
+use Rattle.std.proofs.Common.{◌≡◌, ℕ, List, refl, inl, inr}
+use Rattle.std.specs.Prelude.{Option, None}
 use Rattle.server_top.specs.declared.status.Status.{Status}
 use Rattle.server_top.specs.declared.status.Status.TheVariants.{Done, Usage, BadScript, ReadFault, WriteFault, Protocol, TooLong, NoMemory}
 use Rattle.server_top.specs.RunPromise.{Streams, WasRead, Ran, RanText, script_limit, usage_of}

@@ -1,5 +1,5 @@
 -- An ordered map of vectors as a finite map.
-use Rattle.std.proofs.Common.{◌≡◌, ℕ, ◌+◌, ◌≤◌, ◌<◌, ◌^◌, List, [], ◌∷◌, ◌++◌, length, map, cond, true, false, refl, sym, ◌∙◌, ap, subst, arith, length-append, Option, Some, None}
+use Rattle.std.proofs.Common.{◌≡◌, ℕ, ◌<◌, ◌^◌, List, [], ◌∷◌, ◌++◌, length, cond, true, false, refl, sym, ◌∙◌, ap, subst, arith, length-append, Some}
 use Rattle.std.specs.Option.{option_map}
 use Rattle.std.specs.List.{AllByRecursion}
 use Rattle.std.specs.List.Sorted.{IsStrictlySortedBy}
@@ -10,7 +10,7 @@ use Rattle.std.specs.Cmp.Lexicographic.{slice_cmp, nat_list_cmp_total}
 use Rattle.std.specs.declared.vec.Vec.{Vec}
 use Rattle.std.specs.BTreeMap.{insert_entry, is_at}
 use Rattle.std.specs.Map.{keys_of, lookup}
-use Rattle.std.specs.FinMap.{FinMap, find, put, entries, empty, from_entries, get, insert, len, get-from_entries, entries-insert, same_entries_map, len-entries, len-empty}
+use Rattle.std.specs.FinMap.{find, put, entries, empty, from_entries, get, insert, get-from_entries, entries-insert, same_entries_map, len-entries, len-empty}
 use Rattle.std.specs.FinMap.Entries.{by_order}
 use Rattle.image_text.specs.Image.{bytes_cmp, AreRising, FitsImage, HasImage, IsBehind}
 use Rattle.server_top.specs.ReplayRun.{pairs_in, stored, AreStorable}

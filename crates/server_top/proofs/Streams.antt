@@ -1,8 +1,8 @@
 -- Streams of requests: their requests can be served, are no more than their bytes, and each front of a stream begins one.
-use Rattle.std.proofs.Common.{◌≡◌, ℕ, ◌+◌, ◌≤◌, ◌<◌, List, [], ◌∷◌, ◌++◌, length, take, drop, Option, Some, None, refl, sym, ◌∙◌, ap, subst, arith, length-append}
+use Rattle.std.proofs.Common.{◌≡◌, ℕ, ◌+◌, ◌≤◌, ◌<◌, List, [], ◌∷◌, ◌++◌, length, drop, Option, Some, None, refl, sym, ◌∙◌, ap, subst, arith, length-append}
 use Rattle.std.specs.List.{AllByRecursion}
 use Rattle.std.proofs.lemmas.List.{append-nil, take-append-drop}
-use Rattle.resp_text.specs.Grammar.{IsItem, IsRequest, IsSkipped, IsStream, IsBegun, AreItems, AreWords, requests_of, total_bytes}
+use Rattle.resp_text.specs.Grammar.{IsRequest, IsStream, AreItems, AreWords, requests_of}
 use Rattle.resp_text.specs.Reading.{Reading, StandsFor, BreaksAt}
 use Rattle.server_top.specs.ReplayPromise.{IsNoStream}
 use Rattle.server_top.specs.ReplayRun.{IsServable}

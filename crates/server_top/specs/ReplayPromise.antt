@@ -1,12 +1,12 @@
 -- What a run of a top call read, wrote and published, by its words and its status.
-use Rattle.std.specs.Prelude.{◌≡◌, ◌⊎◌, ℕ, ◌+◌, ◌-◌, ◌^◌, ◌≤◌, List, [], ◌++◌, Option, Some, None, Result, Ok, Err, length, min}
+use Rattle.std.specs.Prelude.{◌≡◌, ◌⊎◌, ℕ, ◌+◌, ◌-◌, ◌^◌, ◌≤◌, List, [], ◌++◌, Option, Some, None, Result, Ok, Err, min}
 use Rattle.std.specs.FinMap.{empty}
 use Rattle.io_face.specs.Told.{TakesAtMost, TakesCount, TakesSome, Adds, AddsPrefix}
 use Rattle.io_face.specs.Folder.{Files}
 use Rattle.resp_text.specs.Grammar.{IsStream}
 use Rattle.service_meaning.specs.History.{Moment, Entry, opening, LeadAlong, IsLegal, refusals, calls_of, ends_of}
 use Rattle.service_meaning.specs.SessionText.{requests_of, replies_text}
-use Rattle.service_meaning.specs.SaveEnd.{report_text, FilesOf, faults_of}
+use Rattle.service_meaning.specs.SaveEnd.{report_text, FilesOf, faults_of, refused_saves}
 use Rattle.server_top.specs.declared.words.Plan.{Plan}
 use Rattle.server_top.specs.declared.words.Plan.TheVariants.{Trace, Replay}
 use Rattle.server_top.specs.declared.status.Status.{Status}
@@ -71,10 +71,11 @@ Published history None after = after ≡ None
 Published history (Some old) after =
     (new : Files) × ((after ≡ Some new) × FilesOf replay_opening history (ends_of history) old new)
 
--- these requests were served in this history, as far as the folder shows: its files are what the saves left, and its count rose for each save that ended by a fault
+-- these requests were served in this history, as far as the folder shows: its files are what the saves left, no save was refused a frame, and the folder's count rose for each that ended by a fault
 pub record Served (outside : Outside) (requests : List (List (List ℕ))) (history : List Entry) : Type 0 where
   pub is_history : IsHistoryOf requests history
   pub files : Published history outside.files outside.files_after
+  pub unrefused : refused_saves (ends_of history) ≡ 0
   pub faults : min (outside.faults + faults_of (ends_of history)) (2 ^ 64 - 1) ≤ outside.faults_after
 
 -- these requests were served, each save has ended, and all replies and report lines were written

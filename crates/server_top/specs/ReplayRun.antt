@@ -1,5 +1,5 @@
 -- The run of a session's requests, one after another, on a book that keeps a map and the pairs of one snapshot.
-use Rattle.std.specs.Prelude.{◌≡◌, ℕ, ◌+◌, ◌≤◌, ◌<◌, List, [], ◌∷◌, ◌++◌, length, map, Option, Some, None, option_to_list}
+use Rattle.std.specs.Prelude.{◌≡◌, ℕ, ◌≤◌, ◌<◌, List, [], ◌∷◌, ◌++◌, length, map, Option, Some, None, option_to_list}
 use Rattle.std.specs.Option.{option_or, option_map}
 use Rattle.std.specs.List.{AllByRecursion}
 use Rattle.std.specs.FinMap.{entries, from_entries, insert, len}
@@ -16,7 +16,7 @@ use Rattle.io_face.specs.Faults.{Rose}
 use Rattle.io_face.specs.Told.{Adds, AddsPrefix}
 use Rattle.server_top.specs.ReplayPromise.{Outside}
 use Rattle.service_meaning.specs.MapMachine.{Pairs, Service, Answer, answer}
-use Rattle.service_meaning.specs.History.{Entry, Call, started}
+use Rattle.service_meaning.specs.History.{Entry, Call}
 use Rattle.server_top.specs.declared.replay.book.Book.{Book}
 use Rattle.server_top.specs.declared.replay.book.Snapshot.{Snapshot}
 

@@ -1,11 +1,11 @@
 -- Small cases that the definitions compute to.
-use Rattle.std.proofs.Common.{◌≡◌, refl, List, [], ◌∷◌}
-use Rattle.std.specs.Prelude.{codes, Option, Some, None}
+use Rattle.std.proofs.Common.{◌≡◌, refl, [], ◌∷◌}
+use Rattle.std.specs.Prelude.{codes, Some, None}
 use Rattle.std.specs.Fmt.{digits}
 use Rattle.resp_text.specs.declared.reply.Reply.TheVariants as reply
 use Rattle.resp_text.specs.declared.reply.ErrorKind.TheVariants as kind
 use Rattle.service_meaning.specs.declared.saved.Saved.TheVariants as saved
-use Rattle.service_meaning.specs.Commands.{SetPair, StartSave, command_of}
+use Rattle.service_meaning.specs.Commands.{SetPair, command_of}
 use Rattle.service_meaning.specs.MapMachine.{Pairs, Service, refused, answer}
 use Rattle.service_meaning.specs.SaveEnd.{report_line, file_name, faults_of}
 

@@ -1,10 +1,8 @@
 -- Legal histories: one order of all calls, and of the takings and the ends of saves, in which each reply is the machine's at its place.
 use Rattle.std.specs.Prelude.{◌≡◌, ℕ, ◌+◌, if◌then◌else◌, Bool, true, false, not, ◌==◌, List, [], ◌∷◌, ◌++◌, Contains, filter}
 use Rattle.std.specs.List.{flat_map}
-use Rattle.std.specs.FinMap.{empty}
 use Rattle.resp_text.specs.declared.reply.Reply.{Reply}
 use Rattle.resp_text.specs.declared.reply.Reply.TheVariants as reply
-use Rattle.resp_text.specs.declared.reply.ErrorKind.{ErrorKind}
 use Rattle.resp_text.specs.declared.reply.ErrorKind.TheVariants as kind
 use Rattle.service_meaning.specs.declared.saved.Saved.{Saved}
 use Rattle.service_meaning.specs.MapMachine.{Pairs, Service, MayAnswer}

@@ -7,7 +7,7 @@ use Rattle.image_text.specs.Image.{image_text}
 use Rattle.service_meaning.specs.declared.saved.Saved.{Saved}
 use Rattle.service_meaning.specs.declared.saved.Saved.TheVariants as saved
 use Rattle.service_meaning.specs.MapMachine.{Pairs}
-use Rattle.service_meaning.specs.History.{Moment, Entry, IsForked, ends_of}
+use Rattle.service_meaning.specs.History.{Moment, Entry, IsForked}
 
 -- how an end is told, behind the number
 abbrev pub end_text : Saved → List ℕ
@@ -53,3 +53,12 @@ faults_of ((number, saved.Lost at) ∷ ends) = faults_of ends
 faults_of ((number, saved.Refused at) ∷ ends) = faults_of ends
 faults_of ((number, saved.SinkFault) ∷ ends) = 1 + faults_of ends
 faults_of ((number, saved.NoMemory) ∷ ends) = faults_of ends
+
+-- how many of some saves ended at a lost cell or by a refused copy
+abbrev pub refused_saves : List (ℕ × Saved) → ℕ
+refused_saves [] = 0
+refused_saves ((number, saved.Ok count) ∷ ends) = refused_saves ends
+refused_saves ((number, saved.Lost at) ∷ ends) = 1 + refused_saves ends
+refused_saves ((number, saved.Refused at) ∷ ends) = 1 + refused_saves ends
+refused_saves ((number, saved.SinkFault) ∷ ends) = refused_saves ends
+refused_saves ((number, saved.NoMemory) ∷ ends) = refused_saves ends

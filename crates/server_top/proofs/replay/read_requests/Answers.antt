@@ -1,9 +1,6 @@
 -- One feed reads the whole text: up to a break, or up to its end.
-use Rattle.std.proofs.Common.{◌≡◌, ◌≤◌, List, ℕ, [], refl, sym, ◌∙◌, ap, subst, arith}
-use Rattle.std.specs.Prelude.{None}
+use Rattle.std.proofs.Common.{[], sym, ◌∙◌, ap, arith}
 use Rattle.resp_text.specs.Grammar.{IsStream}
-use Rattle.resp_text.specs.Reading.{StandsFor, FeedsOn}
-use Rattle.server_top.specs.ReplayPromise.{IsNoStream}
 use Rattle.server_top.proofs.Streams.{broken_text, few_requests, servable_stream, whole_text}
 use Rattle.server_top.proofs.replay.read_requests.Goals as goal
 

@@ -1,5 +1,5 @@
 -- The history is that of the calls, with the save behind them where a snapshot was started.
-use Rattle.std.proofs.Common.{◌≡◌, ◌+◌, ◌≤◌, ◌^◌, length, refl, sym, ◌∙◌, ap, subst, arith, List, ℕ}
+use Rattle.std.proofs.Common.{◌^◌, refl, sym, ap, subst, arith, List, ℕ}
 use Rattle.std.specs.FinMap.{len, len-empty}
 use Rattle.io_face.specs.Told.{Adds, AddsPrefix}
 use Rattle.image_text.specs.Image.{bytes_cmp}

@@ -4,7 +4,6 @@ use Rattle.std.proofs.lemmas.List.{append-nil}
 use Rattle.image_text.specs.Image.{IsBehind}
 use Rattle.server_top.specs.ReplayRun.{pairs_in}
 use Rattle.server_top.proofs.StoredPairs.{ComesNext, comes_next, entries-stored, image-stored}
-use Rattle.server_top.proofs.replay.pairs.copy_pairs.Given as given
 use Rattle.server_top.proofs.replay.pairs.copy_pairs.Goals as goal
 
 pub loop-key-init : goal.loop-key-init

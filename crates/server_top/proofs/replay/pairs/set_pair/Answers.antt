@@ -1,5 +1,5 @@
 -- The pair is put into the finite map.
-use Rattle.std.proofs.Common.{◌≡◌, List, ℕ, ◌∙◌, ap}
+use Rattle.std.proofs.Common.{◌∙◌, ap}
 use Rattle.std.specs.FinMap.{insert}
 use Rattle.server_top.specs.ReplayRun.{stored}
 use Rattle.server_top.proofs.StoredPairs.{insert-stored}

@@ -1,9 +1,8 @@
 -- The replies so far, those that wait and those to come are all, at each step and at each end.
-use Rattle.std.proofs.Common.{◌≡◌, ◌+◌, ◌≤◌, List, ℕ, [], length, sym, ◌∙◌, ap, subst, arith}
-use Rattle.std.specs.Prelude.{Option}
+use Rattle.std.proofs.Common.{[], ◌∙◌, ap, arith}
 use Rattle.server_top.specs.ReplayRun.{kept_in, replies_from}
 use Rattle.server_top.proofs.Servings.{CanServe, kept_on, pushed_reply, serves_on}
-use Rattle.server_top.proofs.Written.{Writing, writing_front, writing_part, writing_renamed, writing_written, on_err, on_err_then}
+use Rattle.server_top.proofs.Written.{writing_front, writing_part, writing_renamed, writing_written, on_err, on_err_then}
 use Rattle.server_top.proofs.replay.serve.serve.Goals as goal
 use Rattle.server_top.proofs.replay.serve.serve.Goals.{then-as_slice-ge-PIECE+in_ok-write_lines, else-as_slice-ge-PIECE}
 
