@@ -17,8 +17,8 @@ use Rattle.service_meaning.specs.declared.saved.Saved.{Saved}
 use Rattle.service_meaning.specs.declared.saved.Saved.TheVariants as saved
 use Rattle.service_meaning.specs.MapMachine.{Pairs}
 use Rattle.service_meaning.specs.History.{Entry, Call, Taken, Ended, Moment, without, Leads, LeadAlong, IsForked, is_refusal, refusals, calls_in, calls_of, ends_in, ends_of}
-use Rattle.service_meaning.specs.SessionText.{requests_of, replies_text}
-use Rattle.service_meaning.specs.SaveEnd.{report_line, report_text, file_name, FileOf, FilesOf, faults_of, refused_saves}
+use Rattle.service_meaning.specs.SessionText.{requests_asked, replies_text}
+use Rattle.service_meaning.specs.SaveEnd.{report_line, report_text, file_name, AreCounted, FileOf, FilesOf, faults_of, refused_saves}
 use Rattle.server_top.specs.declared.replay.book.Book.{Book}
 use Rattle.server_top.specs.declared.replay.book.Snapshot.{Snapshot}
 use Rattle.server_top.specs.ReplayPromise.{Outside, HasEnded, IsHistoryOf, Published, Served, ServedAll, ServedSome, replay_opening, sent_text}
@@ -59,7 +59,7 @@ no_refusals kept (words ∷ requests) servable =
     ap (λ b. if b then 1 else 0) ((follows kept.service words servable.0.short).granted 0 words) in
     omega (arith, here, no_refusals (kept_after kept words) requests servable.1)
 
-requests_calls : (kept : Kept) (requests : List (List (List ℕ))) → requests_of (calls_of (calls_from kept requests)) ≡ requests
+requests_calls : (kept : Kept) (requests : List (List (List ℕ))) → requests_asked (calls_of (calls_from kept requests)) ≡ requests
 requests_calls kept [] = refl
 requests_calls kept (words ∷ requests) = ap (λ (rest : List (List (List ℕ))). words ∷ rest) (requests_calls (kept_after kept words) requests)
 
@@ -152,6 +152,13 @@ forks kept (words ∷ requests) before servable lead has =
 
 history_of_calls : (requests : List (List (List ℕ))) → AllByRecursion IsServable requests → IsHistoryOf requests (calls_from opening_kept requests)
 history_of_calls requests servable = record {
+  saved_last = record {
+    calls = calls_from opening_kept requests;
+    saves = [];
+    is = sym (append-nil (calls_from opening_kept requests));
+    no_end = ends_calls opening_kept requests;
+    no_call = refl;
+  };
   legal = (moment_of (kept_behind opening_kept requests), lead_calls opening_kept requests servable);
   granted = no_refusals opening_kept requests servable;
   asked = requests_calls opening_kept requests;
@@ -171,6 +178,7 @@ served_calls : (outside : Outside) (requests : List (List (List ℕ))) → AllBy
 served_calls outside requests servable leaves = record {
   is_history = history_of_calls requests servable;
   files = nothing_published (calls_from opening_kept requests) outside.files outside.files_after (ends_calls opening_kept requests) leaves.files;
+  counted = subst (AreCounted replay_opening (calls_from opening_kept requests)) (sym (ends_calls opening_kept requests)) tt;
   unrefused = ap refused_saves (ends_calls opening_kept requests);
   faults = omega (arith, leaves.faults, ap faults_of (ends_calls opening_kept requests));
 }
@@ -268,9 +276,16 @@ lead_saved requests end servable lives =
 
 history_saved : (requests : List (List (List ℕ))) (end : ℕ × Saved) → AllByRecursion IsServable requests → (kept_behind opening_kept requests).service.live ≡ end.0 ∷ [] → IsHistoryOf requests (saved_history requests end)
 history_saved requests end servable lives = record {
+  saved_last = record {
+    calls = calls_from opening_kept requests;
+    saves = saving_of end;
+    is = refl;
+    no_end = ends_calls opening_kept requests;
+    no_call = refl;
+  };
   legal = (_, lead_saved requests end servable lives);
   granted = omega (arith, refusals_append (calls_from opening_kept requests) (saving_of end), no_refusals opening_kept requests servable);
-  asked = ap requests_of (calls_saved requests end) ∙ requests_calls opening_kept requests;
+  asked = ap requests_asked (calls_saved requests end) ∙ requests_calls opening_kept requests;
 }
 
 ended_saved : (requests : List (List (List ℕ))) (end : ℕ × Saved) → AllByRecursion IsServable requests → (kept_behind opening_kept requests).service.live ≡ end.0 ∷ [] → HasEnded (saved_history requests end)
@@ -319,6 +334,18 @@ faults_saved snapshot (saved.Refused at) outside so = omega (arith, so.faults)
 faults_saved snapshot saved.SinkFault outside so = so.cause refl
 faults_saved snapshot saved.NoMemory outside so = omega (arith, so.faults)
 
+-- a save that ended well tells the pairs at its fork, whether or not the files are told
+count_saved : (snapshot : Snapshot) (count : ℕ) (old new : Option Files) → Saves snapshot (saved.Ok count) old new → count ≡ length snapshot.pairs
+count_saved snapshot count old new saves = saves.0
+
+counted_saved : (history : List Entry) (snapshot : Snapshot) (end : Saved) (old new : Option Files) → HasFork history snapshot → Saves snapshot end old new → AreCounted replay_opening history ((snapshot.number, end) ∷ [])
+counted_saved history snapshot (saved.Ok count) old new has saves =
+    ((has.pairs, (has.forked, count_saved snapshot count old new saves ∙ ap length has.same ∙ sym (len-entries has.pairs))), tt)
+counted_saved history snapshot (saved.Lost at) old new has saves = absurd saves
+counted_saved history snapshot (saved.Refused at) old new has saves = absurd saves
+counted_saved history snapshot saved.SinkFault old new has saves = tt
+counted_saved history snapshot saved.NoMemory old new has saves = tt
+
 -- no save of this store is refused a frame
 unrefused_saved : (snapshot : Snapshot) (end : Saved) (old new : Option Files) → Saves snapshot end old new → refused_saves ((snapshot.number, end) ∷ []) ≡ 0
 unrefused_saved snapshot (saved.Ok count) old new saves = refl
@@ -337,10 +364,13 @@ served_saved : (outside : Outside) (requests : List (List (List ℕ))) (snapshot
 served_saved outside requests snapshot end lives so =
     let fork : HasFork (calls_from opening_kept requests) snapshot =
     subst (λ s. IfSome s (HasFork (calls_from opening_kept requests))) lives.kept (forks opening_kept requests [] lives.servable refl tt) in
+    let fork_saved : HasFork (saved_history requests (snapshot.number, end)) snapshot =
+    fork_more (calls_from opening_kept requests) (saving_of (snapshot.number, end)) snapshot fork in
     record {
       is_history = history_saved requests (snapshot.number, end) lives.servable lives.live;
-      files = published_saved (saved_history requests (snapshot.number, end)) snapshot end outside.files outside.files_after (ends_saved requests (snapshot.number, end))
-          (fork_more (calls_from opening_kept requests) (saving_of (snapshot.number, end)) snapshot fork) so.saves;
+      files = published_saved (saved_history requests (snapshot.number, end)) snapshot end outside.files outside.files_after (ends_saved requests (snapshot.number, end)) fork_saved so.saves;
+      counted = subst (AreCounted replay_opening (saved_history requests (snapshot.number, end))) (sym (ends_saved requests (snapshot.number, end)))
+          (counted_saved (saved_history requests (snapshot.number, end)) snapshot end outside.files outside.files_after fork_saved so.saves);
       unrefused = ap refused_saves (ends_saved requests (snapshot.number, end)) ∙ unrefused_saved snapshot end outside.files outside.files_after so.saves;
       faults = subst (λ ends. min (outside.faults + faults_of ends) (2 ^ 64 - 1) ≤ outside.faults_after) (sym (ends_saved requests (snapshot.number, end))) (faults_saved snapshot end outside so);
     }

@@ -55,3 +55,7 @@ whole_text reader text stands none =
     let same : stands.whole ≡ text =
     sym (append-nil stands.whole) ∙ ap (λ rest. stands.whole ++ rest) (sym (no_bytes reader.rest none)) ∙ sym stands.is in
     subst (λ whole. IsStream whole reader.waiting) same stands.stream
+
+-- the same of a text that was read as a slice
+pub read_stream : (reader : Reading) (slice text : List ℕ) → slice ≡ text → StandsFor reader slice [] → length reader.rest ≡ 0 → IsStream text reader.waiting
+read_stream reader slice text same stands none = subst (λ t. IsStream t reader.waiting) same (whole_text reader slice stands none)

@@ -5,8 +5,8 @@ use Rattle.io_face.specs.Told.{TakesAtMost, TakesCount, TakesSome, Adds, AddsPre
 use Rattle.io_face.specs.Folder.{Files}
 use Rattle.resp_text.specs.Grammar.{IsStream}
 use Rattle.service_meaning.specs.History.{Moment, Entry, opening, LeadAlong, IsLegal, refusals, calls_of, ends_of}
-use Rattle.service_meaning.specs.SessionText.{requests_of, replies_text}
-use Rattle.service_meaning.specs.SaveEnd.{report_text, FilesOf, faults_of, refused_saves}
+use Rattle.service_meaning.specs.SessionText.{requests_asked, replies_text}
+use Rattle.service_meaning.specs.SaveEnd.{report_text, AreCounted, FilesOf, faults_of, refused_saves}
 use Rattle.server_top.specs.declared.words.Plan.{Plan}
 use Rattle.server_top.specs.declared.words.Plan.TheVariants.{Trace, Replay}
 use Rattle.server_top.specs.declared.status.Status.{Status}
@@ -50,11 +50,20 @@ IsUntouched outside =
 abbrev pub replay_opening : Moment
 replay_opening = opening empty 0 1
 
--- a history of these requests: it is legal, and no request was refused a frame
+-- all saves are taken and ended behind the last request
+pub record IsSavedLast (history : List Entry) : Type 0 where
+  pub calls : List Entry
+  pub saves : List Entry
+  pub is : history ≡ calls ++ saves
+  pub no_end : ends_of calls ≡ []
+  pub no_call : calls_of saves ≡ []
+
+-- a history of these requests: it is legal, its saves come last, and no request was refused a frame
 pub record IsHistoryOf (requests : List (List (List ℕ))) (history : List Entry) : Type 0 where
+  pub saved_last : IsSavedLast history
   pub legal : IsLegal replay_opening history
   pub granted : refusals history ≡ 0
-  pub asked : requests_of (calls_of history) ≡ requests
+  pub asked : requests_asked (calls_of history) ≡ requests
 
 -- each snapshot that was started has ended
 abbrev pub HasEnded : List Entry → Type 0
@@ -71,10 +80,11 @@ Published history None after = after ≡ None
 Published history (Some old) after =
     (new : Files) × ((after ≡ Some new) × FilesOf replay_opening history (ends_of history) old new)
 
--- these requests were served in this history, as far as the folder shows: its files are what the saves left, no save was refused a frame, and the folder's count rose for each that ended by a fault
+-- these requests were served in this history, as far as the folder shows: its files are what the saves left, each that ended well tells the pairs at its fork, none was refused a frame, and the folder's count rose for each that ended by a fault
 pub record Served (outside : Outside) (requests : List (List (List ℕ))) (history : List Entry) : Type 0 where
   pub is_history : IsHistoryOf requests history
   pub files : Published history outside.files outside.files_after
+  pub counted : AreCounted replay_opening history (ends_of history)
   pub unrefused : refused_saves (ends_of history) ≡ 0
   pub faults : min (outside.faults + faults_of (ends_of history)) (2 ^ 64 - 1) ≤ outside.faults_after
 

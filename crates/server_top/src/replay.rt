@@ -63,23 +63,23 @@ pub(crate) fn replay<I: Source, O: Sink, F: Folder>(
     ensures folder_faults { F.faults files.old ≤ F.faults files.new }
 {
     match read_all(alloc, input, REPLAY_LIMIT) {
-        Ok(text) => replay_text(alloc, &text, output, files),
+        Ok(text) => replay_text(alloc, text, output, files),
         Err(ReadAllError::TooLong) => Status::TooLong,
         Err(ReadAllError::ReadFault) => Status::ReadFault,
         Err(ReadAllError::NoMemory) => Status::NoMemory,
     }
 }
 
-/// The requests of a whole stream, which wait in the order of the bytes.
-fn read_requests(alloc: Global, text: &[u8]) -> Result<Requests, ReadError>
-    requires { length text.now ≤ 2 ^ 28 }
-    ensures stream { IfOk result (λ requests. IsStream text.now requests.waiting) }
+/// The requests of a whole stream, which wait in the order of the bytes. The text is let go.
+fn read_requests(alloc: Global, text: Bytes) -> Result<Requests, ReadError>
+    requires { length text ≤ 2 ^ 28 }
+    ensures stream { IfOk result (λ requests. IsStream text requests.waiting) }
     ensures servable { IfOk result (λ requests. AllByRecursion IsServable requests.waiting) }
     ensures few { IfOk result (λ requests. length requests.waiting ≤ 2 ^ 28) }
-    ensures broken { IsErrOf result ReadError.Broken → IsNoStream text.now }
+    ensures broken { IsErrOf result ReadError.Broken → IsNoStream text }
 {
     let mut requests = Requests::new(alloc);
-    match requests.feed(text) {
+    match requests.feed(text.as_slice()) {
         Ok(()) => {}
         Err(FeedFault::Protocol { .. }) => return Err(ReadError::Broken),
         Err(FeedFault::NoMemory) => return Err(ReadError::NoMemory),
@@ -94,12 +94,12 @@ fn read_requests(alloc: Global, text: &[u8]) -> Result<Requests, ReadError>
 /// Answers the requests of a text, and saves the snapshot that was started.
 fn replay_text<O: Sink, F: Folder>(
     alloc: Global,
-    text: &Bytes,
+    text: Bytes,
     output: &mut O,
     files: &mut F,
 ) -> Status
-    requires { length text.now ≤ 2 ^ 28 }
-    ensures ran { RanStream text.now (record {
+    requires { length text ≤ 2 ^ 28 }
+    ensures ran { RanStream text (record {
       written = O.written output.old;
       written_after = O.written output.new;
       files = F.files files.old;
@@ -111,7 +111,7 @@ fn replay_text<O: Sink, F: Folder>(
     ensures output_faults { O.faults output.old ≤ O.faults output.new }
     ensures folder_faults { F.faults files.old ≤ F.faults files.new }
 {
-    let mut requests = match read_requests(alloc, text.as_slice()) {
+    let mut requests = match read_requests(alloc, text) {
         Ok(requests) => requests,
         Err(ReadError::Broken) => return Status::Protocol { place: 0 },
         Err(ReadError::NoMemory) => return Status::NoMemory,

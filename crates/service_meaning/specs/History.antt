@@ -7,7 +7,7 @@ use Rattle.resp_text.specs.declared.reply.ErrorKind.TheVariants as kind
 use Rattle.service_meaning.specs.declared.saved.Saved.{Saved}
 use Rattle.service_meaning.specs.MapMachine.{Pairs, Service, MayAnswer}
 
--- a caller's request with its reply; a caller takes a started save; it ends that save; a caller leaves
+-- a caller's request with its reply; a caller takes a started save; it ends that save; a caller leaves, which bars nothing
 pub data Entry : Type 0 where
   Call : ℕ → List (List ℕ) → Reply → Entry
   Taken : ℕ → ℕ → Entry

@@ -80,19 +80,30 @@ abbrev pub answer : Service → List (List ℕ) → Answer
 answer service [] = refused service kind.Unknown
 answer service (name ∷ operands) = command_answer service (command_of name) operands
 
--- the error that may come in place of a reply where a frame was refused: a pair wants frames, and so does a fork
-abbrev pub frame_error : Reply → Option ErrorKind
-frame_error reply.Ok = Some kind.NoFrame
-frame_error reply.Pong = None
-frame_error (reply.Started number) = Some kind.ForkRefused
-frame_error reply.Empty = None
-frame_error reply.Null = None
-frame_error (reply.Number value) = None
-frame_error (reply.Bulk bytes) = None
-frame_error (reply.Error kind) = None
+-- the command of a request, if its first word is the name of one
+abbrev pub command_in : List (List ℕ) → Option Command
+command_in [] = None
+command_in (name ∷ operands) = command_of name
+
+-- the error that may come in place of a SET where a frame was refused
+abbrev pub set_frame_error : Reply → Option ErrorKind
+set_frame_error reply.Ok = Some kind.NoFrame
+set_frame_error other = None
+
+-- the error that may come in place of a BGSAVE where a frame was refused
+abbrev pub save_frame_error : Reply → Option ErrorKind
+save_frame_error (reply.Started number) = Some kind.ForkRefused
+save_frame_error other = None
+
+-- the error that may come in place of a command's reply where a frame was refused: a pair wants frames, and so does a fork
+abbrev pub frame_error : Option Command → Reply → Option ErrorKind
+frame_error None given = None
+frame_error (Some SetPair) given = set_frame_error given
+frame_error (Some GetValue) given = None
+frame_error (Some StartSave) given = save_frame_error given
 
 -- a request may be answered so, and then leaves this state
 abbrev pub MayAnswer : Service → List (List ℕ) → Answer → Type 0
 MayAnswer service words given =
     (given ≡ answer service words)
-    ⊎ ((Some given.0 ≡ option_map reply.Error (frame_error (answer service words).0)) × (given.1 ≡ service))
+    ⊎ ((Some given.0 ≡ option_map reply.Error (frame_error (command_in words) (answer service words).0)) × (given.1 ≡ service))

@@ -5,8 +5,8 @@ use Rattle.resp_text.specs.declared.reply.Reply.{Reply}
 use Rattle.resp_text.specs.Replies.{text_of}
 
 -- the requests of some calls
-abbrev pub requests_of : List (List (List ℕ) × Reply) → List (List (List ℕ))
-requests_of calls = map (λ call. call.0) calls
+abbrev pub requests_asked : List (List (List ℕ) × Reply) → List (List (List ℕ))
+requests_asked calls = map (λ call. call.0) calls
 
 -- the texts of the replies, one behind another
 abbrev pub replies_text : List (List (List ℕ) × Reply) → List ℕ
