@@ -1,10 +1,11 @@
 //! The folder that the program runs in. A file is written under its name with `.part` added, and
 //! renamed where it is published. The folder tells no bytes, and counts its faults.
-ghost use Rattle.std.specs.Prelude.{◌≡◌, ◌↔◌, ◌<◌, ◌≤◌, None, Some, Ok, IfOk, IfSome, OnOk, OnErr, IsErrAnd, IsErrOf};
+ghost use Rattle.std.specs.Prelude.{◌≡◌, ◌↔◌, ◌<◌, ◌≤◌, None, Some, Ok, Err, IfOk, IfErr, IfSome, OnOk, OnErr, IsErrAnd};
 ghost use Rattle.std.specs.Result.{result_ok};
 ghost use Rattle.std.specs.IoError.{error_kind};
 ghost use Rattle.io_face.specs.Faults.{Rose};
-ghost use Rattle.server_main.specs.Counts.{count_after};
+ghost use Rattle.std.specs.String.{string_bytes};
+ghost use Rattle.server_main.specs.Folder.{count_after, part_name};
 
 use crate::streams::{InputStream, OutputStream};
 use io_face::{Failed, Folder, Sink};
@@ -94,6 +95,7 @@ impl<R: Files + Drop> CurrentFolder<R> {
 
     fn begin(&self, name: &str) -> io::Result<PartFile<R>>
         ensures fresh { IfOk result (λ out. out.stream.faults ≡ 0) }
+        ensures path { IfOk result (λ out. string_bytes out.path ≡ part_name name.now) }
     {
         let path = part_path(self.alloc, name)?;
         let file = fs::create(&self.rt, path.as_str())?;
@@ -122,6 +124,7 @@ impl<R: Files + Drop> CurrentFolder<R> {
 fn if_there<T: Drop>(opened: io::Result<T>) -> io::Result<Option<T>>
     ensures there { IfOk opened (λ file. result ≡ Ok (Some file)) }
     ensures missing { IsErrAnd opened (λ e. error_kind e ≡ ErrorKind.NotFound) ↔ (result ≡ Ok None) }
+    ensures other { IfErr result (λ e. opened ≡ Err e) }
 {
     match opened {
         Ok(file) => Ok(Some(file)),
@@ -135,7 +138,9 @@ fn if_there<T: Drop>(opened: io::Result<T>) -> io::Result<Option<T>>
     }
 }
 
-fn part_path(alloc: Global, name: &str) -> Result<String, AllocError> {
+fn part_path(alloc: Global, name: &str) -> Result<String, AllocError>
+    ensures { IfOk result (λ path. string_bytes path ≡ part_name name.now) }
+{
     let mut path = String::from_str(alloc, name)?;
     path.push_str(PART)?;
     Ok(path)
@@ -163,6 +168,7 @@ impl<R: Files + Drop> Folder for CurrentFolder<R> {
     #[tactic(auto, using(crate::proofs::Outcomes::value_kept))]
     fn create(&mut self, name: &str) -> Result<PartFile<R>, Failed>
         ensures fresh { IfOk result (λ out. out.stream.faults ≡ 0) }
+        ensures path { IfOk result (λ out. string_bytes out.path ≡ part_name name.now) }
         ensures ok { OnOk result (self.new.faults ≡ self.old.faults) }
         ensures err { OnErr result (self.new.faults ≡ count_after self.old.faults 1) }
         ensures faults { self.old.faults ≤ self.new.faults }
