@@ -80,7 +80,8 @@ Published history None after = after ≡ None
 Published history (Some old) after =
     (new : Files) × ((after ≡ Some new) × FilesOf replay_opening history (ends_of history) old new)
 
--- these requests were served in this history, as far as the folder shows: its files are what the saves left, each that ended well tells the pairs at its fork, none was refused a frame, and the folder's count rose for each that ended by a fault
+-- these requests were served in this history, as far as the folder shows: its files are what the saves left
+-- each save that ended well tells the pairs at its fork, none was refused a frame, and the folder's count rose for each that ended by a fault
 pub record Served (outside : Outside) (requests : List (List (List ℕ))) (history : List Entry) : Type 0 where
   pub is_history : IsHistoryOf requests history
   pub files : Published history outside.files outside.files_after
