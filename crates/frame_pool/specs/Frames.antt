@@ -19,6 +19,11 @@ pub record PoolView : Type 0 where
   pub asks : ℕ
   pub policies : List PolicyView
 
+-- the same frames are in the pool
+pub record KeepsFrames (old new : PoolView) : Type 0 where
+  pub made : new.made ≡ old.made
+  pub free : new.free ≡ old.free
+
 -- a frame left the pool, and each policy granted it
 pub record TakesOut (frame : FrameView) (old new : PoolView) : Type 0 where
   pub made : new.made ≡ old.made

@@ -12,6 +12,7 @@ mod deny_nth;
 mod frame_stack;
 mod one_pool;
 mod policy;
+mod snap_quota;
 #[cfg(test)]
 mod tests;
 mod turns;
@@ -20,3 +21,4 @@ pub use ask::Ask;
 pub use deny_nth::DenyNth;
 pub use one_pool::{Pool, Seen, Why};
 pub use policy::FramePolicy;
+pub use snap_quota::SnapQuota;

@@ -1,8 +1,8 @@
 //! The pool.
-ghost use Rattle.std.specs.Prelude.{◌≡◌, ◌↔◌, ◌+◌, ◌<◌, ◌≤◌, ◌^◌, [], ◌∷◌, ◌++◌, ℕ, length, map, IfOk, IsErrOf};
+ghost use Rattle.std.specs.Prelude.{◌≡◌, ◌↔◌, ◌+◌, ◌<◌, ◌≤◌, ◌^◌, [], ◌∷◌, ◌++◌, ℕ, length, map, IfOk, OnErr, IsErrOf};
 ghost use Rattle.std.specs.List.{range_with_len};
 ghost use Rattle.vm_base.specs.FlatMemory.{zero_page};
-ghost use Rattle.frame_pool.specs.Frames.{PoolView, TakesOut, IsDenied};
+ghost use Rattle.frame_pool.specs.Frames.{PoolView, KeepsFrames, TakesOut, IsDenied};
 ghost use Rattle.frame_pool.specs.Policies.{standing};
 
 use crate::ask::Ask;
@@ -27,6 +27,8 @@ pub struct Pool {
     stack: FrameStack,
     asks: u64,
     policies: Vec<Box<dyn FramePolicy + Send>>,
+    /// No more frames are in the pool than were made.
+    pub ghost within: { length stack.free ≤ stack.made },
     ghost few: { length policies.items < 2 ^ 32 },
 }
 
@@ -72,6 +74,8 @@ impl Pool {
     pub fn take(&mut self, asker: Asker, want: Want) -> Result<Frame, Why>
         ensures taken { IfOk result (λ frame. TakesOut frame (⟦<Pool as Seen>⟧.seen self.old) (⟦<Pool as Seen>⟧.seen self.new)) }
         ensures zeros { IfOk result (λ frame. frame.bytes ≡ zero_page) }
+        // No frame moved, whatever the reason.
+        ensures kept { OnErr result (KeepsFrames (⟦<Pool as Seen>⟧.seen self.old) (⟦<Pool as Seen>⟧.seen self.new)) }
         ensures empty { IsErrOf result Why.Empty ↔ ((⟦<Pool as Seen>⟧.seen self.old).free ≡ []) }
         ensures unasked { IsErrOf result Why.Empty → ⟦<Pool as Seen>⟧.seen self.new ≡ ⟦<Pool as Seen>⟧.seen self.old }
         ensures denied { (place : ℕ) → IsErrOf result (Why.Denied place) → IsDenied asker place (⟦<Pool as Seen>⟧.seen self.old) (⟦<Pool as Seen>⟧.seen self.new) }

@@ -1,7 +1,7 @@
 //! The pool and its policies at concrete values.
 ghost use Rattle.std.specs.Prelude.{false, None};
 
-use crate::{Ask, DenyNth, FramePolicy, Pool, Why};
+use crate::{Ask, DenyNth, FramePolicy, Pool, SnapQuota, Why};
 use std::test::Fail;
 use vm_base::{Asker, Frame, Want};
 
@@ -31,6 +31,24 @@ fn the_first_policy_that_denies_is_named(rt: HostRuntime) -> Result<(), Fail> {
         assert_eq!(rt; refusal(pool.take(Asker::Parent, Want::Page)), answer);
     }
     assert_eq!(rt; pool.free(), 6);
+    Ok(())
+}
+
+#[test]
+fn a_quota_counts_the_asks_of_all_snapshots(rt: HostRuntime) -> Result<(), Fail> {
+    let mut policies: Vec<Box<dyn FramePolicy + Send>> = Vec::new(rt.alloc());
+    policies.push(Box::new(rt.alloc(), SnapQuota::new(2))?)?;
+    let mut pool = Pool::new(rt.alloc(), 8, policies)?;
+    let asks = [
+        (Asker::Snapshot(1), None),
+        (Asker::Parent, None),
+        (Asker::Snapshot(2), None),
+        (Asker::Snapshot(1), Some(Why::Denied(0))),
+        (Asker::Parent, None),
+    ];
+    for (asker, answer) in asks {
+        assert_eq!(rt; refusal(pool.take(asker, Want::Leaf)), answer);
+    }
     Ok(())
 }
 
