@@ -83,8 +83,8 @@ abbrev pub TouchFails : MemoryState → MemoryState → ℕ → ℕ → Fault �
 TouchFails old new address n (NoFrame at page) = LacksFrame old new address n at page
 TouchFails old new address n (NoArea page) = Refuses old new (touch_answer old address n) (NoArea page)
 TouchFails old new address n (NoWrite page) = Refuses old new (touch_answer old address n) (NoWrite page)
-TouchFails old new address n (Overlap page) = Refuses old new (touch_answer old address n) (Overlap page)
-TouchFails old new address n AreasFull = Refuses old new (touch_answer old address n) AreasFull
+TouchFails old new address n (Overlap page) = ⊥
+TouchFails old new address n AreasFull = ⊥
 TouchFails old new address n CellsFull = Refuses old new (touch_answer old address n) CellsFull
 
 -- each page of the range may be stored to

@@ -1,5 +1,5 @@
 //! A memory that forks: a child has the whole of it as it was at its fork.
-ghost use Rattle.std.specs.Prelude.{◌≡◌, ℕ, ◌+◌, ◌≤◌, ◌≢◌, [], length, IfOk, OnOk, IfErr, OnErr, IfSome};
+ghost use Rattle.std.specs.Prelude.{◌≡◌, ℕ, ◌+◌, ◌≤◌, ◌^◌, [], length, IfOk, OnOk, IfErr, OnErr, IfSome};
 ghost use Rattle.vm_base.specs.FlatMemory.{FlatMemory};
 ghost use Rattle.vm_base.specs.MemoryState.{MemoryState, IsKept, IsListed, KeepsReady};
 ghost use Rattle.vm_base.specs.ProcessState.{Children, Remains, AreChildren, MayFork, ForkFails, LeavesMemory, LeavesAtReap, Reaps, HadRefusal, after_fork};
