@@ -1,5 +1,5 @@
 -- What the calls on a memory answer and leave.
-use Rattle.std.specs.Prelude.{◌≡◌, ℕ, ◌+◌, ◌-◌, ◌≤◌, ◌<◌, max, nat_lt, Bool, true, false, not, List, length, filter, Result, Ok, Err, IsOk, IsNone, if◌then◌else◌}
+use Rattle.std.specs.Prelude.{◌≡◌, ℕ, ◌+◌, ◌-◌, ◌≤◌, ◌<◌, max, nat_lt, Bool, not, List, length, filter, Result, Ok, Err, IsOk, IsNone, if◌then◌else◌}
 use Rattle.std.specs.FinMap.{get}
 use Rattle.std.specs.FinSet as set
 use Rattle.vm_base.specs.declared.permission.Perm.{Perm}
@@ -96,13 +96,15 @@ abbrev pub after_store : MemoryState → ℕ → List ℕ → MemoryState
 after_store state address bytes =
     record state { mem = record state.mem { present = with_bytes state.mem.present address bytes } }
 
--- the answers of the three calls on areas
+-- the memory that mapping pages leaves, or the fault
 abbrev pub map_answer : MemoryState → ℕ → ℕ → Perm → Result FlatMemory Fault
 map_answer state first n perm = faulted (map_of state.mem first n perm)
 
+-- the memory that unmapping pages leaves, or the fault
 abbrev pub unmap_answer : MemoryState → ℕ → ℕ → Result FlatMemory Fault
 unmap_answer state first n = faulted (unmap_of state.mem first n)
 
+-- the memory that another permission leaves, or the fault
 abbrev pub protect_answer : MemoryState → ℕ → ℕ → Perm → Result FlatMemory Fault
 protect_answer state first n perm = faulted (protect_of state.mem first n perm)
 

@@ -1,5 +1,5 @@
 //! A process whose children lie in the same value.
-ghost use Rattle.std.specs.Prelude.{◌≡◌, ◌+◌, ◌≤◌, ◌^◌, ◌↔◌, IsTrue, length, OnOk, Ok};
+ghost use Rattle.std.specs.Prelude.{◌≡◌, ◌+◌, ◌≤◌, ◌^◌, ◌↔◌, IsTrue, length, OnOk, Ok, Some};
 ghost use Rattle.vm_base.specs.MemoryState.{IsListed};
 ghost use Rattle.vm_base.specs.SnapshotState.{snapshot_answer};
 
@@ -20,6 +20,9 @@ pub trait Housing: Process + Nest<Child = <Self as Process>::Child> {
     /// The count that bounds those of lost cells is that of the process.
     ghost refused_beside: { (p : Self) (c : Self.Child)
         → Self.Nest.refused (Self.Nest.beside p c) ≡ (Self.Memory.state p).refused };
+
+    ghost born_beside: { (p : Self) (c : Self.Child)
+        → Self.Process.born (Self.Process.beside p) c ≡ Some (Self.Nest.born (Self.Nest.beside p c)) };
 
     /// A child reads as the memory that was kept for it.
     ghost kept_nested: { (p : Self) (c : Self.Child)

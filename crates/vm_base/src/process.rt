@@ -1,5 +1,5 @@
 //! A memory that forks: a child has the whole of it as it was at its fork.
-ghost use Rattle.std.specs.Prelude.{◌≡◌, ℕ, ◌+◌, ◌≤◌, ◌^◌, [], length, IfOk, OnOk, IfErr, OnErr, IfSome};
+ghost use Rattle.std.specs.Prelude.{◌≡◌, ℕ, Option, ◌+◌, ◌≤◌, ◌^◌, [], length, IfOk, OnOk, IfErr, OnErr, IfSome};
 ghost use Rattle.vm_base.specs.FlatMemory.{FlatMemory};
 ghost use Rattle.vm_base.specs.MemoryState.{MemoryState, IsKept, IsListed, KeepsReady};
 ghost use Rattle.vm_base.specs.ProcessState.{Children, Remains, AreChildren, MayFork, ForkFails, LeavesMemory, LeavesAtReap, Reaps, HadRefusal, after_fork};
@@ -35,6 +35,9 @@ pub trait Process: Memory {
     /// The memory of a child.
     ghost kept: { Beside → Self.Child → FlatMemory };
 
+    /// The refused requests of the process as the fork of the child returned, where it tells them.
+    ghost born: { Beside → Self.Child → Option ℕ };
+
     ghost child_number: { Self.Child → ℕ };
 
     ghost child_home: { Self.Child → Home };
@@ -49,6 +52,8 @@ pub trait Process: Memory {
         ensures copy { IfOk result (λ child. kept (beside self.new) child ≡ (Self.state self.old).mem) }
         ensures child { IfOk result (λ child.
             (child_number child ≡ (children (beside self.old)).last + 1) × (child_home child ≡ home (beside self.old))) }
+        ensures born { IfOk result (λ child.
+            IfSome (born (beside self.new) child) (λ count. count ≡ (Self.state self.new).refused)) }
         ensures forked { OnOk result (MayFork (children (beside self.old))
             × (children (beside self.new) ≡ after_fork (children (beside self.old)))
             × ((Self.state self.new).refused ≡ (Self.state self.old).refused)) }
@@ -62,7 +67,8 @@ pub trait Process: Memory {
         // The memory and the other children are as they were.
         ensures memory { LeavesMemory (Self.state self.old) (Self.state self.new) × IsKept (Self.state self.old) (Self.state self.new) [] }
         ensures others { (child : Self.Child) → IsListed (child_number child) (children (beside self.old)).numbers
-            → child_home child ≡ home (beside self.old) → kept (beside self.new) child ≡ kept (beside self.old) child }
+            → child_home child ≡ home (beside self.old) → (kept (beside self.new) child ≡ kept (beside self.old) child)
+            × (born (beside self.new) child ≡ born (beside self.old) child) }
         ensures home { (home (beside self.new) ≡ home (beside self.old)) × AreChildren (children (beside self.old)) };
 
     /// Gives back what was kept for a child that has ended.
@@ -74,7 +80,8 @@ pub trait Process: Memory {
         ensures enough { HadRefusal (remains gone)
             → IfSome (Self.state self.new).enough (λ enough. enough ≤ (Self.state self.new).most) }
         ensures others { (child : Self.Child) → IsListed (child_number child) (children (beside self.new)).numbers
-            → child_home child ≡ home (beside self.old) → kept (beside self.new) child ≡ kept (beside self.old) child }
+            → child_home child ≡ home (beside self.old) → (kept (beside self.new) child ≡ kept (beside self.old) child)
+            × (born (beside self.new) child ≡ born (beside self.old) child) }
         ensures home { (home (beside self.new) ≡ home (beside self.old)) × AreChildren (children (beside self.old)) };
 
     /// The number of a child.
