@@ -32,7 +32,7 @@ pub trait Housing: Process + Nest<Child = <Self as Process>::Child> {
     ghost lives_numbered: { (p : Self) (c : Self.Child)
         → (IsTrue (Self.Nest.lives (Self.Nest.beside p c)))
         ↔ (IsListed (Self.Process.child_number c) (Self.Process.children (Self.Process.beside p)).numbers
-            × (Self.Process.child_home c ≡ Self.Process.home (Self.Process.beside p))) };
+        × (Self.Process.child_home c ≡ Self.Process.home (Self.Process.beside p))) };
 }
 
 /// Reads a child of a process. The process is as it was.
