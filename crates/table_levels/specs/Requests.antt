@@ -1,0 +1,54 @@
+-- The frame requests of a directory, in their order, and what they leave of an allot.
+use Rattle.std.specs.Prelude.{◌≡◌, ℕ, ◌+◌, ◌/◌, ◌^◌, ◌==◌, Bool, List, [], ◌∷◌, ◌++◌, map, length, replicate, Result, Ok, Err, if◌then◌else◌}
+use Rattle.std.specs.List.{list_any}
+use Rattle.vm_base.specs.declared.frame_request.Want.{Want}
+use Rattle.vm_base.specs.declared.frame_request.Want.TheVariants.{Top, Upper, Middle}
+use Rattle.vm_base.specs.declared.refusals.Refused.{Refused}
+use Rattle.vm_base.specs.Counts.{next_count}
+use Rattle.vm_base.specs.Deals.{Deal, Granted, Denied, Returned, LeadsAlong}
+use Rattle.vm_base.specs.Places.{distinct}
+
+-- one of the cells lies with this cell under one table that spans so many cells
+abbrev pub shares : ℕ → List ℕ → ℕ → Bool
+shares span cells cell = list_any (λ c. c / span == cell / span) cells
+
+-- one table is asked for, unless it is there
+abbrev pub unless : Bool → Want → List Want
+unless there want = if there then [] else want ∷ []
+
+-- the tables that a cell needs beside those of the cells that are there, top first
+abbrev pub missing_tables : List ℕ → ℕ → List Want
+missing_tables cells cell = unless (shares (2 ^ 27) cells cell) Top ++ unless (shares (2 ^ 18) cells cell) Upper ++ unless (shares (2 ^ 9) cells cell) Middle
+
+-- all tables of the directory of these cells: the top table, the upper tables and the middle tables
+abbrev pub all_tables : List ℕ → List Want
+all_tables [] = []
+all_tables (cell ∷ cells) =
+    Top ∷ replicate (length (distinct (map (λ c. c / 2 ^ 18) (cell ∷ cells)))) Upper
+    ++ replicate (length (distinct (map (λ c. c / 2 ^ 9) (cell ∷ cells)))) Middle
+
+-- each want was granted
+abbrev pub granted : List Want → List Deal
+granted wants = map Granted wants
+
+-- so many frames were given back
+abbrev pub returned : ℕ → List Deal
+returned n = replicate n Returned
+
+-- the wants in front were granted, the next was refused, and what was granted was given back
+pub record RefusesOne {State : Type 0} (goes : State → Deal → State → Type 0) (old : State) (wants : List Want) (at : ℕ) (new : State) : Type 0 where
+  pub front : List Want
+  pub want : Want
+  pub rest : List Want
+  pub order : wants ≡ front ++ want ∷ rest
+  pub deals : LeadsAlong goes old (granted front ++ Denied want at ∷ returned (length front)) new
+
+-- the wants were asked for in their order: all were granted, or one was refused
+abbrev pub Asks : {State : Type 0} → (State → Deal → State → Type 0) → State → List Want → Result (Unit {0}) Refused → State → Type 0
+Asks goes old wants (Ok done) new = LeadsAlong goes old (granted wants) new
+Asks goes old wants (Err e) new = RefusesOne goes old wants e.at new
+
+-- the count of refused requests rose by one exactly where the call was refused, and the answer carries it
+abbrev pub Counts : {State : Type 0} → (State → ℕ) → State → Result (Unit {0}) Refused → State → Type 0
+Counts refused old (Ok done) new = refused new ≡ refused old
+Counts refused old (Err e) new = (refused new ≡ next_count (refused old)) × (e.at ≡ refused new)

@@ -1,0 +1,414 @@
+//! The tables above the leaf tables, seen as a finite map from cells to slots.
+ghost use Rattle.std.specs.Prelude.{◌≡◌, ◌+◌, ◌-◌, ◌<◌, ◌≤◌, ◌^◌, None, Some, IfOk, OnOk, OnErr, replicate};
+ghost use Rattle.std.specs.FinMap as map;
+ghost use Rattle.vm_base.specs.Deals.{LeadsAlong};
+ghost use Rattle.table_levels.specs.Cells.{tables_of, first_from};
+ghost use Rattle.table_levels.specs.Requests.{missing_tables, all_tables, returned, Asks, Counts};
+
+use crate::table::{ENTRIES, entry, first_entry, set_entry};
+use std::alloc::Global;
+use std::marker::Model;
+use vm_base::{Allot, Frame, NoMemory, Refused, Want};
+
+/// How many cells a directory may have.
+const MOST_CELLS: usize = 512;
+
+/// A directory, seen as a finite map from cells to slots. An upper table lies at the place of its
+/// index in the top table, a middle table at a place that was free.
+#[derive(Debug, Drop)]
+pub struct Directory {
+    top: Option<Frame>,
+    uppers: Vec<Option<Frame>>,
+    middles: Vec<Option<Frame>>,
+    tables: u32,
+}
+
+impl Model for Directory {
+    ghost use Rattle.std.specs.Prelude.{◌^◌, ℕ};
+    ghost use Rattle.std.specs.Ordering.{nat_cmp};
+    ghost use Rattle.std.specs.Coded.{coded_ℕ};
+    ghost use Rattle.std.specs.FinMap.{FinMap, code};
+    ghost use Rattle.table_levels.specs.Cells.{cells_below};
+    ghost use Rattle.table_levels.specs.Walks.{slot_of};
+
+    ghost Value = { FinMap nat_cmp ℕ };
+
+    ghost coded = { code coded_ℕ coded_ℕ };
+
+    ghost view = { λ d. cells_below (2 ^ 27) (slot_of (record { top = d.top; uppers = d.uppers.items; middles = d.middles.items })) };
+}
+
+impl Directory {
+    /// A directory without cells, with the room that it may need.
+    pub fn new(alloc: Global) -> Result<Directory, NoMemory>
+        ensures { IfOk result (λ directory. directory ≡ map.empty) }
+    {
+        Ok(Directory {
+            top: None,
+            uppers: empty_places(alloc)?,
+            middles: empty_places(alloc)?,
+            tables: 0,
+        })
+    }
+
+    /// How many frames the tables take.
+    pub fn tables(&self) -> u32
+        ensures { result ≡ tables_of self.now }
+    {
+        self.tables
+    }
+
+    /// The slot of a cell.
+    pub fn find(&self, cell: u32) -> Option<u32>
+        requires { cell < 2 ^ 27 }
+        ensures { result ≡ map.get self.now cell }
+    {
+        let place = Place::of(cell);
+        let upper = named_by(&self.top, place.top)?;
+        let middle = named_by(&self.uppers[upper as usize], place.upper)?;
+        named_by(&self.middles[middle as usize], place.middle)
+    }
+
+    /// The least cell that is there and not below this one, with its slot.
+    pub fn at_or_after(&self, cell: u32) -> Option<(u32, u32)>
+        requires { cell < 2 ^ 27 }
+        ensures { result ≡ first_from self.now cell }
+    {
+        let place = Place::of(cell);
+        let top = self.top.as_ref()?;
+        for i in place.top..ENTRIES {
+            if let Some(upper) = entry(top, i) {
+                let from = if i == place.top {
+                    cell % UPPER_CELLS
+                } else {
+                    0
+                };
+                let found = first_in_upper(&self.uppers, &self.middles, upper, from);
+                if let Some((behind, slot)) = found {
+                    return Some((i as u32 * UPPER_CELLS + behind, slot));
+                }
+            }
+        }
+        None
+    }
+
+    /// Adds a cell with its slot. It asks for the missing top, upper and middle table in this
+    /// order. After `Refused` what was granted has been given back, and the directory is as it was.
+    pub fn insert<A: Allot>(&mut self, cell: u32, slot: u32, allot: &mut A) -> Result<(), Refused>
+        requires cell { cell < 2 ^ 27 }
+        requires absent { map.get self.old cell ≡ None }
+        requires fewer { map.len self.old < 512 }
+        requires lent { tables_of self.old ≤ A.out (A.state allot.old) }
+        requires untold { A.grants allot.old ≡ None }
+        ensures added { OnOk result (self.new ≡ map.insert self.old cell slot) }
+        ensures kept { OnErr result (self.new ≡ self.old) }
+
+        // What the allot was asked for, and what it has afterwards.
+        ensures requests { Asks A.goes (A.state allot.old) (missing_tables (map.keys self.old) cell) result (A.state allot.new) }
+        ensures counts { Counts A.refused (A.state allot.old) result (A.state allot.new) }
+        ensures out { A.out (A.state allot.new) + tables_of self.old ≡ A.out (A.state allot.old) + tables_of self.new }
+        ensures untold { A.grants allot.new ≡ A.grants allot.old }
+    {
+        let place = Place::of(cell);
+        let upper = named_by(&self.top, place.top);
+        let middle = self.middle_of(place);
+        let wanted = Wanted {
+            top: self.top.is_none(),
+            upper: upper.is_none(),
+            middle: middle.is_none(),
+        };
+        let fresh = take_fresh(wanted, allot)?;
+        self.link(fresh, place, slot);
+        Ok(())
+    }
+
+    /// Takes a cell out, if it is there. Each table that is left without an entry is given back.
+    pub fn remove<A: Allot>(&mut self, cell: u32, allot: &mut A)
+        requires cell { cell < 2 ^ 27 }
+        requires lent { tables_of self.old ≤ A.out (A.state allot.old) }
+        ensures removed { self.new ≡ map.remove self.old cell }
+
+        // What the allot got back, and what it has afterwards.
+        ensures given { LeadsAlong A.goes (A.state allot.old) (returned (tables_of self.old - tables_of self.new)) (A.state allot.new) }
+        ensures out { A.out (A.state allot.new) + tables_of self.old ≡ A.out (A.state allot.old) + tables_of self.new }
+        ensures unrefused { A.refused (A.state allot.new) ≡ A.refused (A.state allot.old) }
+        ensures untold { A.grants allot.new ≡ A.grants allot.old }
+    {
+        let place = Place::of(cell);
+        let Some(upper) = named_by(&self.top, place.top) else {
+            return;
+        };
+        let Some(middle) = named_by(&self.uppers[upper as usize], place.upper) else {
+            return;
+        };
+        if !clear_entry(&mut self.middles[middle as usize], place.middle, allot) {
+            return;
+        }
+        if !clear_entry(&mut self.uppers[upper as usize], place.upper, allot) {
+            self.tables -= 1;
+            return;
+        }
+        self.tables -= if clear_entry(&mut self.top, place.top, allot) {
+            3
+        } else {
+            2
+        };
+    }
+
+    /// Takes over all cells of another directory. It asks for the top table, the upper tables and
+    /// the middle tables, each level in rising order. After `Refused` what was granted has been
+    /// given back, and the directory is empty as before.
+    pub fn copy_from<A: Allot>(&mut self, other: &Directory, allot: &mut A) -> Result<(), Refused>
+        requires empty { self.old ≡ map.empty }
+        requires untold { A.grants allot.old ≡ None }
+        ensures copied { OnOk result (self.new ≡ other.now) }
+        ensures kept { OnErr result (self.new ≡ map.empty) }
+
+        // What the allot was asked for, and what it has afterwards.
+        ensures requests { Asks A.goes (A.state allot.old) (all_tables (map.keys other.now)) result (A.state allot.new) }
+        ensures counts { Counts A.refused (A.state allot.old) result (A.state allot.new) }
+        ensures out { A.out (A.state allot.new) ≡ A.out (A.state allot.old) + tables_of self.new }
+        ensures untold { A.grants allot.new ≡ A.grants allot.old }
+    {
+        let copied = self.copy_levels(other, allot);
+        if copied.is_err() {
+            self.release(allot);
+        }
+        copied
+    }
+
+    /// Gives all tables back. The directory is empty then.
+    pub fn release<A: Allot>(&mut self, allot: &mut A)
+        requires lent { tables_of self.old ≤ A.out (A.state allot.old) }
+        ensures empty { self.new ≡ map.empty }
+
+        // What the allot got back, and what it has afterwards.
+        ensures given { LeadsAlong A.goes (A.state allot.old) (returned (tables_of self.old)) (A.state allot.new) }
+        ensures out { A.out (A.state allot.new) + tables_of self.old ≡ A.out (A.state allot.old) }
+        ensures unrefused { A.refused (A.state allot.new) ≡ A.refused (A.state allot.old) }
+        ensures untold { A.grants allot.new ≡ A.grants allot.old }
+    {
+        give_all(&mut self.middles, allot);
+        give_all(&mut self.uppers, allot);
+        give_back(&mut self.top, allot);
+        self.tables = 0;
+    }
+
+    /// The place of the middle table of a cell.
+    fn middle_of(&self, place: Place) -> Option<u32> {
+        let upper = named_by(&self.top, place.top)?;
+        named_by(&self.uppers[upper as usize], place.upper)
+    }
+
+    /// Puts fresh tables on the way to a cell, and the slot at its end.
+    fn link(&mut self, fresh: Fresh, place: Place, slot: u32) {
+        if let Some(table) = fresh.top {
+            self.top = Some(table);
+            self.tables += 1;
+        }
+        if let Some(table) = fresh.upper {
+            self.uppers[place.top] = Some(table);
+            self.tables += 1;
+            name_in(&mut self.top, place.top, place.top as u32);
+        }
+        if let Some(table) = fresh.middle {
+            let free = free_place(&self.middles);
+            self.middles[free] = Some(table);
+            self.tables += 1;
+            name_in(&mut self.uppers[place.top], place.upper, free as u32);
+        }
+        if let Some(middle) = named_by(&self.uppers[place.top], place.upper) {
+            name_in(&mut self.middles[middle as usize], place.middle, slot);
+        }
+    }
+
+    /// Copies the tables level by level, as far as frames are granted.
+    fn copy_levels<A: Allot>(&mut self, other: &Directory, allot: &mut A) -> Result<(), Refused> {
+        self.tables += copy_table(&mut self.top, &other.top, Want::Top, allot)?;
+        for i in 0..ENTRIES {
+            self.tables += copy_table(&mut self.uppers[i], &other.uppers[i], Want::Upper, allot)?;
+        }
+        for i in 0..MOST_CELLS {
+            self.tables += copy_table(
+                &mut self.middles[i],
+                &other.middles[i],
+                Want::Middle,
+                allot,
+            )?;
+        }
+        Ok(())
+    }
+}
+
+/// How many cells lie under one upper table.
+const UPPER_CELLS: u32 = 1 << 18;
+
+/// Which tables are missing on the way to a cell.
+#[derive(Clone, Copy)]
+struct Wanted {
+    top: bool,
+    upper: bool,
+    middle: bool,
+}
+
+/// The frames for them.
+#[derive(Drop)]
+struct Fresh {
+    top: Option<Frame>,
+    upper: Option<Frame>,
+    middle: Option<Frame>,
+}
+
+/// Takes the frames that are wanted, or none of them.
+fn take_fresh<A: Allot>(wanted: Wanted, allot: &mut A) -> Result<Fresh, Refused> {
+    let mut fresh = Fresh {
+        top: None,
+        upper: None,
+        middle: None,
+    };
+    match take_wanted(wanted, &mut fresh, allot) {
+        Ok(()) => Ok(fresh),
+        Err(refused) => {
+            give_back(&mut fresh.upper, allot);
+            give_back(&mut fresh.top, allot);
+            Err(refused)
+        }
+    }
+}
+
+fn take_wanted<A: Allot>(wanted: Wanted, fresh: &mut Fresh, allot: &mut A) -> Result<(), Refused> {
+    fresh.top = take_if(wanted.top, Want::Top, allot)?;
+    fresh.upper = take_if(wanted.upper, Want::Upper, allot)?;
+    fresh.middle = take_if(wanted.middle, Want::Middle, allot)?;
+    Ok(())
+}
+
+fn take_if<A: Allot>(is_wanted: bool, want: Want, allot: &mut A) -> Result<Option<Frame>, Refused> {
+    if is_wanted {
+        Ok(Some(allot.take(want)?))
+    } else {
+        Ok(None)
+    }
+}
+
+/// Gives a table back, if it is there.
+fn give_back<A: Allot>(table: &mut Option<Frame>, allot: &mut A) {
+    if let Some(frame) = table.take() {
+        allot.give(frame);
+    }
+}
+
+fn give_all<A: Allot>(tables: &mut [Option<Frame>], allot: &mut A) {
+    for i in 0..tables.len() {
+        give_back(&mut tables[i], allot);
+    }
+}
+
+/// Takes an entry out of a table. Where none is left, the table is given back, and it answers so.
+fn clear_entry<A: Allot>(table: &mut Option<Frame>, i: usize, allot: &mut A) -> bool {
+    name_or_clear(table, i, None);
+    let is_left = match &*table {
+        Some(frame) => first_entry(frame, 0).is_some(),
+        None => true,
+    };
+    if is_left {
+        return false;
+    }
+    give_back(table, allot);
+    true
+}
+
+fn name_in(table: &mut Option<Frame>, i: usize, number: u32) {
+    name_or_clear(table, i, Some(number));
+}
+
+fn name_or_clear(table: &mut Option<Frame>, i: usize, number: Option<u32>) {
+    if let Some(frame) = table {
+        set_entry(frame, i, number);
+    }
+}
+
+/// Copies a table into a frame of its own, if there is one. It answers how many were copied.
+fn copy_table<A: Allot>(
+    table: &mut Option<Frame>,
+    other: &Option<Frame>,
+    want: Want,
+    allot: &mut A,
+) -> Result<u32, Refused> {
+    let Some(other) = other else {
+        return Ok(0);
+    };
+    let mut frame = allot.take(want)?;
+    frame.bytes_mut().copy_from_slice(other.bytes());
+    *table = Some(frame);
+    Ok(1)
+}
+
+/// The entry at a place of a table, if the table is there.
+fn named_by(table: &Option<Frame>, i: usize) -> Option<u32> {
+    entry(table.as_ref()?, i)
+}
+
+/// A place without a table.
+fn free_place(places: &[Option<Frame>]) -> usize {
+    for (i, table) in places.iter().enumerate() {
+        if table.is_none() {
+            return i;
+        }
+    }
+    0
+}
+
+/// The first cell under an upper table from a cell on, counted from the table's first, with its
+/// slot.
+fn first_in_upper(
+    uppers: &[Option<Frame>],
+    middles: &[Option<Frame>],
+    upper: u32,
+    from: u32,
+) -> Option<(u32, u32)> {
+    let table = uppers[upper as usize].as_ref()?;
+    let first = from as usize / ENTRIES;
+    for i in first..ENTRIES {
+        if let Some(middle) = entry(table, i) {
+            let low = if i == first {
+                from as usize % ENTRIES
+            } else {
+                0
+            };
+            if let Some((k, slot)) = first_entry(middles[middle as usize].as_ref()?, low) {
+                return Some(((i * ENTRIES + k) as u32, slot));
+            }
+        }
+    }
+    None
+}
+
+/// The indices of a cell in its top, upper and middle table.
+#[derive(Clone, Copy)]
+struct Place {
+    top: usize,
+    upper: usize,
+    middle: usize,
+}
+
+impl Place {
+    fn of(cell: u32) -> Place {
+        Place {
+            top: (cell / (1 << 18)) as usize,
+            upper: (cell / ENTRIES as u32) as usize % ENTRIES,
+            middle: cell as usize % ENTRIES,
+        }
+    }
+}
+
+/// Places for as many tables as a directory may have on a level.
+fn empty_places(alloc: Global) -> Result<Vec<Option<Frame>>, NoMemory>
+    ensures { IfOk result (λ places. places.items ≡ replicate 512 None) }
+{
+    let mut places = Vec::with_capacity(alloc, MOST_CELLS)?;
+    for _ in 0..MOST_CELLS {
+        places.push_reserved(None);
+    }
+    Ok(places)
+}
