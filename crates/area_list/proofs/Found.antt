@@ -1,13 +1,12 @@
 -- The area at a page, and the lowest page of a range that areas hold or do not.
-use Rattle.std.proofs.Common.{◌≡◌, ℕ, ◌+◌, ◌-◌, ◌<◌, ◌≤◌, zero, suc, max, Bool, List, [], ◌∷◌, ◌++◌, length, drop, drop-cons, get_or, cond, ltb, leb, not, Some, None, Option, refl, sym, ◌∙◌, ap, subst, arith, inl, inr, true, false}
+use Rattle.std.proofs.Common.{◌≡◌, ℕ, ◌+◌, ◌-◌, ◌<◌, ◌≤◌, zero, suc, max, Bool, List, [], ◌∷◌, length, drop, drop-cons, get_or, cond, ltb, leb, not, Some, None, Option, refl, sym, ◌∙◌, ap, subst, arith, inl, inr, true, false}
 use Rattle.std.specs.Prelude.{◌&&◌, is_some}
-use Rattle.std.specs.List.{find, range_with_len}
 use Rattle.std.specs.List.Sorted.{IsPartitionedBy, IsPartitionPoint}
-use Rattle.std.proofs.lemmas.Bool.{cases_lt, cases_eq, cases_Bool, cond-true, cond-false, lt-ltb, le-ltb, le-leb, leb-true, leb-false, and_from, and_left, and_right, true≢false, false≢true}
+use Rattle.std.proofs.lemmas.Bool.{cases_lt, cases_eq, cases_Bool, cond-true, cond-false, lt-ltb, le-ltb, le-leb, leb-true, leb-false, and_from, and_left, and_right}
 use Rattle.vm_base.specs.FlatMemory.{Area, holds, area_of}
 use Rattle.vm_base.specs.FlatStep.{lowest, taken, outside}
 use Rattle.area_list.proofs.Order.{IsFrom}
-use Rattle.area_list.proofs.Permissions.{holds_inside, holds_before, holds_behind, holds_parts}
+use Rattle.area_list.proofs.Permissions.{holds_inside, holds_before, holds_behind}
 
 -- ---- the lowest number of a range that passes a test
 pub lowest_found : (n : ℕ) (test : ℕ → Bool) (first page : ℕ) → first ≤ page → page < first + n → test page ≡ true → ((q : ℕ) → first ≤ q → q < page → test q ≡ false) → lowest test first n ≡ Some page

@@ -1,10 +1,10 @@
 -- What the calls make of the pieces is what the definitions say.
-use Rattle.std.proofs.Common.{◌≡◌, ℕ, ◌+◌, ◌-◌, ◌<◌, ◌≤◌, max, Bool, List, [], ◌∷◌, ◌++◌, Some, None, Option, refl, sym, ◌∙◌, ap, arith, inl, inr, append_assoc, append-nil, true, false}
+use Rattle.std.proofs.Common.{◌≡◌, ℕ, ◌+◌, ◌<◌, ◌≤◌, max, List, [], ◌∷◌, ◌++◌, Some, None, refl, sym, ◌∙◌, ap, arith, inl, inr, append_assoc, append-nil, false}
 use Rattle.std.specs.Prelude.{is_some}
 use Rattle.std.proofs.lemmas.Bool.{cases_lt, cases_Bool, both_ways}
 use Rattle.vm_base.specs.declared.permission.Perm.{Perm}
 use Rattle.vm_base.specs.FlatMemory.{Area, AreInOrder, holds, area_of}
-use Rattle.vm_base.specs.FlatStep.{Taken, OutsideAreas, or_refused, taken, outside, joined, with_area, area_without, areas_without}
+use Rattle.vm_base.specs.FlatStep.{Taken, OutsideAreas, or_refused, taken, outside, joined, with_area, areas_without}
 use Rattle.area_list.specs.Calls.{area_at, if_few, areas_mapped, areas_unmapped, areas_protected}
 use Rattle.area_list.specs.Pieces.{pieces, areas_below, areas_from}
 use Rattle.area_list.proofs.Order.{IsFrom, IsFrom-in_order, joined_same}

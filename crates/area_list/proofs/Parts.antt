@@ -1,12 +1,11 @@
 -- What lies below a page of some areas, and what lies from a page on.
-use Rattle.std.proofs.Common.{◌≡◌, ℕ, ◌+◌, ◌-◌, ◌<◌, ◌≤◌, ◌≢◌, min, max, List, [], ◌∷◌, ◌++◌, length, cond, ltb, leb, refl, sym, ◌∙◌, ap, subst, arith, inl, inr, append_assoc, append-nil, true, false, Option, Some, None}
-use Rattle.std.proofs.lemmas.Bool.{cases_lt, cond-true, cond-false, lt-ltb, le-ltb, le-leb, lt-leb}
-use Rattle.std.specs.List.{flat_map}
+use Rattle.std.proofs.Common.{◌≡◌, ℕ, ◌+◌, ◌-◌, ◌<◌, ◌≤◌, min, max, List, [], ◌∷◌, ◌++◌, ltb, refl, sym, ◌∙◌, ap, subst, arith, inl, inr, append_assoc, Option, Some, None}
+use Rattle.std.proofs.lemmas.Bool.{cases_lt, cond-true, cond-false, lt-ltb, le-ltb}
 use Rattle.vm_base.specs.declared.permission.Perm.{Perm}
-use Rattle.vm_base.specs.FlatMemory.{Area, AreInOrder}
-use Rattle.vm_base.specs.FlatStep.{joined, area_between, area_without, areas_without, with_area}
+use Rattle.vm_base.specs.FlatMemory.{Area}
+use Rattle.vm_base.specs.FlatStep.{area_between}
 use Rattle.area_list.specs.Pieces.{area_below, area_from, areas_below, areas_from, area_or_none, pieces, IsOver}
-use Rattle.area_list.proofs.Order.{IsFrom, IsBetween, IsApart, order_parts, order_from, IsFrom-weaker, IsFrom-in_order, between_le, IsFrom-append}
+use Rattle.area_list.proofs.Order.{IsFrom, IsBetween, IsFrom-weaker, IsFrom-append}
 
 -- the pages from first to below end
 abbrev pub run : ℕ → ℕ → Perm → Area

@@ -1,6 +1,5 @@
 -- The permission that lists of areas give a page.
-use Rattle.std.proofs.Common.{◌≡◌, ◌⊎◌, ℕ, ◌+◌, ◌-◌, ◌<◌, ◌≤◌, ◌≢◌, min, max, Bool, List, [], ◌∷◌, ◌++◌, length, cond, ltb, leb, Some, None, Option, refl, sym, ◌∙◌, ap, subst, arith, inl, inr, append_assoc, true, false}
-use Rattle.std.specs.Prelude.{◌&&◌, is_some}
+use Rattle.std.proofs.Common.{◌≡◌, ◌⊎◌, ℕ, ◌+◌, ◌<◌, ◌≤◌, min, max, List, [], ◌∷◌, ◌++◌, ltb, leb, Some, None, Option, refl, sym, ◌∙◌, ap, arith, inl, inr, true, false}
 use Rattle.std.specs.Option.{option_map, option_or}
 use Rattle.std.proofs.lemmas.Bool.{cases_lt, cases_Bool, cond-true, cond-false, lt-ltb, le-ltb, le-leb, lt-leb, and_from, and_left, and_right, and_parts, leb-true, ltb-true}
 use Rattle.vm_base.specs.declared.permission.Perm.{Perm}

@@ -1,10 +1,9 @@
 -- Areas in order are fixed by the permission of each page.
-use Rattle.std.proofs.Common.{◌≡◌, ℕ, ◌+◌, ◌-◌, ◌<◌, ◌≤◌, ◌≢◌, Bool, List, [], ◌∷◌, ◌++◌, Some, None, Option, refl, sym, ◌∙◌, ap, subst, arith, inl, inr, true, false}
+use Rattle.std.proofs.Common.{◌≡◌, ℕ, ◌+◌, ◌<◌, List, [], ◌∷◌, Some, None, refl, sym, ◌∙◌, ap, subst, arith, inl, inr}
 use Rattle.std.proofs.lemmas.Bool.{cases_lt, cases_order}
-use Rattle.vm_base.specs.declared.permission.Perm.{Perm}
-use Rattle.vm_base.specs.FlatMemory.{Area, AreInOrder, holds}
+use Rattle.vm_base.specs.FlatMemory.{Area, AreInOrder}
 use Rattle.area_list.specs.AreaList.{permission_at}
-use Rattle.area_list.proofs.Order.{IsFrom, IsApart, order_parts, order_from, IsFrom-in_order, IsFrom-order}
+use Rattle.area_list.proofs.Order.{IsFrom, IsApart, order_parts}
 use Rattle.area_list.proofs.Permissions.{holds_inside, holds_before, holds_behind, permission_held, permission_passed}
 
 -- below the first area no page has a permission

@@ -1,13 +1,11 @@
 -- The areas without some pages, from what lies below those and what lies behind them, and an area in their place.
-use Rattle.std.proofs.Common.{◌≡◌, ℕ, ◌+◌, ◌-◌, ◌<◌, ◌≤◌, ◌≢◌, min, max, List, [], ◌∷◌, ◌++◌, length, cond, ltb, leb, refl, sym, ◌∙◌, ap, subst, arith, inl, inr, append_assoc, append-nil, true, false}
-use Rattle.std.proofs.lemmas.Bool.{cases_lt, cond-true, cond-false, lt-ltb, le-ltb, le-leb, lt-leb}
-use Rattle.std.specs.List.{flat_map}
-use Rattle.vm_base.specs.declared.permission.Perm.{Perm}
+use Rattle.std.proofs.Common.{◌≡◌, ℕ, ◌+◌, ◌-◌, ◌<◌, ◌≤◌, min, max, List, [], ◌∷◌, ◌++◌, leb, refl, sym, ◌∙◌, ap, subst, arith, inl, inr, append_assoc, append-nil}
+use Rattle.std.proofs.lemmas.Bool.{cases_lt, cond-true, cond-false, le-leb, lt-leb}
 use Rattle.vm_base.specs.FlatMemory.{Area, AreInOrder}
-use Rattle.vm_base.specs.FlatStep.{joined, area_between, area_without, areas_without, with_area}
-use Rattle.area_list.specs.Pieces.{area_below, area_from, areas_below, areas_from, pieces}
-use Rattle.area_list.proofs.Order.{IsFrom, IsBetween, IsApart, order_parts, order_from, IsFrom-weaker, IsFrom-in_order, between_le, IsFrom-append, joined_same}
-use Rattle.area_list.proofs.Parts.{run, area_below_all, area_below_none, area_below_some, area_from_all, area_from_none, area_from_some, area_between_none, below_none, from_all, below_between, from_from}
+use Rattle.vm_base.specs.FlatStep.{area_between, area_without, areas_without, with_area}
+use Rattle.area_list.specs.Pieces.{area_below, area_from, areas_below, areas_from}
+use Rattle.area_list.proofs.Order.{IsFrom, IsBetween, IsApart, order_parts, order_from, IsFrom-weaker, IsFrom-in_order, between_le}
+use Rattle.area_list.proofs.Parts.{run, area_below_all, area_below_none, area_below_some, area_from_all, area_from_none, area_from_some, below_none, from_all, below_between, from_from}
 
 -- ---- one area without n pages
 pub without_below : (first n : ℕ) (a : Area) → a.first + a.pages ≤ first → area_without first n a ≡ a ∷ []

@@ -1,5 +1,5 @@
 -- Areas that do not go beyond a page.
-use Rattle.std.proofs.Common.{◌≡◌, ℕ, ◌+◌, ◌-◌, ◌<◌, ◌≤◌, min, max, List, [], ◌∷◌, ◌++◌, Some, None, Option, sym, subst, arith, inl, inr}
+use Rattle.std.proofs.Common.{◌≡◌, ℕ, ◌+◌, ◌≤◌, min, max, List, [], ◌∷◌, ◌++◌, Some, None, Option, sym, subst, arith, inl, inr}
 use Rattle.std.specs.List.{All, AllByRecursion}
 use Rattle.std.proofs.lemmas.List.Elements.{All-from_recursion, recursion_from_All}
 use Rattle.std.proofs.lemmas.Bool.{cases_lt, cases_Bool}
@@ -7,8 +7,8 @@ use Rattle.vm_base.specs.declared.permission.Perm.{Perm}
 use Rattle.vm_base.specs.FlatMemory.{Area}
 use Rattle.vm_base.specs.FlatStep.{joined, joined_front, area_between}
 use Rattle.area_list.specs.Pieces.{area_below, area_from, areas_below, areas_from, area_or_none, pieces, IsOver}
-use Rattle.area_list.proofs.Joining.{joins, both, joins_touches, front_joins, front_apart}
-use Rattle.area_list.proofs.Parts.{run, area_between_some, area_between_none}
+use Rattle.area_list.proofs.Joining.{joins, joins_touches, front_joins, front_apart}
+use Rattle.area_list.proofs.Parts.{area_between_some, area_between_none}
 
 abbrev pub EndBy : ℕ → List Area → Type 0
 EndBy limit areas = AllByRecursion (λ area. area.first + area.pages ≤ limit) areas

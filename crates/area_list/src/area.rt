@@ -2,6 +2,7 @@
 ghost use Rattle.std.specs.Prelude.{◌≡◌, ◌+◌, ◌==◌, ◌&&◌};
 ghost use Rattle.vm_base.specs.FlatMemory.{holds};
 ghost use Rattle.vm_base.specs.FlatStep.{is_same_perm};
+ghost use Rattle.vm_base.specs.declared.permission.Perm.TheVariants.{Read};
 
 use std::marker::Model;
 use vm_base::Perm;
@@ -29,7 +30,9 @@ impl Model for Area {
 
 /// What fills the unused places of a list: an area without pages.
 impl Default for Area {
-    fn default() -> Area {
+    fn default() -> Area
+        ensures { result ≡ record { first = 0; pages = 0; perm = Read } }
+    {
         Area {
             first: 0,
             pages: 0,

@@ -1,8 +1,8 @@
 -- The area before the partition point is the only one that may hold the page.
-use Rattle.std.proofs.Common.{rules, of_calls, ◌≡◌, ◌-◌, leb, get_or, cond, Some, None, sym, ◌∙◌, ap, arith}
+use Rattle.std.proofs.Common.{rules, of_calls, leb, get_or, cond, Some, None, sym, ◌∙◌, ap, arith}
 use Rattle.std.proofs.lemmas.Fn.{always_returns_same}
 use Rattle.std.proofs.lemmas.Bool.{cond-true, cond-false, leb-false}
-use Rattle.vm_base.specs.FlatMemory.{Area, holds, area_of}
+use Rattle.vm_base.specs.FlatMemory.{Area, holds}
 use Rattle.area_list.proofs.Order.{IsFrom-in_order}
 use Rattle.area_list.proofs.Found.{begun_partitioned, no_area_behind, found_before}
 use Rattle.area_list.proofs.lookup.area_at.Goals as goal

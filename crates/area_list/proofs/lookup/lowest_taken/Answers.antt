@@ -1,5 +1,5 @@
 -- The first area that meets the range has its lowest page there.
-use Rattle.std.proofs.Common.{◌≡◌, ◌+◌, ◌-◌, ◌<◌, max, Some, None, get_or, sym, ◌∙◌, ap, subst, drop_of_length-le}
+use Rattle.std.proofs.Common.{◌≡◌, ◌+◌, ◌<◌, max, Some, None, get_or, sym, ◌∙◌, ap, subst, drop_of_length-le}
 use Rattle.vm_base.specs.FlatMemory.{Area}
 use Rattle.area_list.specs.contracts.area.Area.{the_view}
 use Rattle.area_list.proofs.Order.{IsFrom-in_order}

@@ -1,7 +1,6 @@
 -- Too many after one area more are too many after all.
-use Rattle.std.proofs.Common.{◌≡◌, ◌+◌, ◌<◌, ◌++◌, length, get_or, take, ap, ◌∙◌, arith, subst}
+use Rattle.std.proofs.Common.{◌≡◌, ◌<◌, ◌++◌, length, get_or, take, ap, ◌∙◌, subst}
 use Rattle.std.proofs.lemmas.Result.{err_from_is_err_and}
-use Rattle.vm_base.specs.FlatMemory.{Area}
 use Rattle.vm_base.specs.FlatStep.{area_between, joined}
 use Rattle.area_list.specs.Pieces.{area_below, areas_below}
 use Rattle.area_list.proofs.Pushing.{too_many}

@@ -1,10 +1,9 @@
 -- A pushed area is one more piece.
-use Rattle.std.proofs.Common.{◌≡◌, ◌+◌, ◌<◌, ◌∷◌, [], ◌++◌, length, sym, ◌∙◌, ap, arith, length-append, refl, lit<, inl, inr, true, false}
-use Rattle.std.proofs.lemmas.Bool.{cases_lt, false≢true, eqb-true, eqb-false}
+use Rattle.std.proofs.Common.{◌≡◌, ◌<◌, ◌∷◌, [], ◌++◌, length, sym, ◌∙◌, ap, arith, length-append, refl, lit<, inl, inr}
+use Rattle.std.proofs.lemmas.Bool.{cases_lt, false≢true, eqb-true}
 use Rattle.vm_base.specs.FlatMemory.{Area}
-use Rattle.vm_base.specs.FlatStep.{joined}
 use Rattle.area_list.specs.contracts.area.Area.{the_view}
-use Rattle.area_list.proofs.Joining.{push_first, push_joins, push_apart, both, joins}
+use Rattle.area_list.proofs.Joining.{push_first, push_joins, push_apart, both}
 use Rattle.area_list.proofs.pieces.push_joined.Goals as goal
 
 pub returns-in_default : goal.returns-in_default

@@ -1,7 +1,6 @@
 -- The pieces are those below, the one between and those from the end on.
-use Rattle.std.proofs.Common.{◌≡◌, ◌+◌, ◌<◌, ◌≤◌, [], ◌++◌, length, ap, ◌∙◌, arith}
+use Rattle.std.proofs.Common.{[], ◌++◌, arith}
 use Rattle.std.proofs.lemmas.Result.{err_from_is_err_and}
-use Rattle.vm_base.specs.FlatStep.{joined}
 use Rattle.area_list.specs.Pieces.{areas_below, areas_from, area_or_none}
 use Rattle.area_list.proofs.Joining.{length-joined}
 use Rattle.area_list.proofs.pieces.replaced.Goals as goal
