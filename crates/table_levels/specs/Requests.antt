@@ -10,15 +10,16 @@ use Rattle.vm_base.specs.Places.{distinct}
 
 -- one of the cells lies with this cell under one table that spans so many cells
 abbrev pub shares : ℕ → List ℕ → ℕ → Bool
-shares span cells cell = list_any (λ c. c / span == cell / span) cells
+shares span cells cell = list_any (λ part. cell / span == part) (map (λ c. c / span) cells)
 
 -- one table is asked for, unless it is there
 abbrev pub unless : Bool → Want → List Want
 unless there want = if there then [] else want ∷ []
 
--- the tables that a cell needs beside those of the cells that are there, top first
+-- the tables that a cell needs beside those of the cells that are there: one of each level for the first cell
 abbrev pub missing_tables : List ℕ → ℕ → List Want
-missing_tables cells cell = unless (shares (2 ^ 27) cells cell) Top ++ unless (shares (2 ^ 18) cells cell) Upper ++ unless (shares (2 ^ 9) cells cell) Middle
+missing_tables [] cell = Top ∷ Upper ∷ Middle ∷ []
+missing_tables (other ∷ cells) cell = unless (shares (2 ^ 18) (other ∷ cells) cell) Upper ++ unless (shares (2 ^ 9) (other ∷ cells) cell) Middle
 
 -- all tables of the directory of these cells: the top table, the upper tables and the middle tables
 abbrev pub all_tables : List ℕ → List Want
