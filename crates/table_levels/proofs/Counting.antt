@@ -6,7 +6,7 @@ use Rattle.std.specs.Ordering.{nat_cmp, eq_by_cmp, is_eq}
 use Rattle.std.specs.declared.cmp.Ordering.{Ordering}
 use Rattle.std.specs.declared.cmp.Ordering.TheVariants.{Less, Equal, Greater}
 use Rattle.std.specs.Cmp.{nat_cmp_total}
-use Rattle.std.specs.FinMap.{FinMap, get, insert, entries, keys, put, find, get-entries, entries-insert}
+use Rattle.std.specs.FinMap.{FinMap, get, insert, entries, keys, put, find, get-entries, entries-insert, empty, len-entries, len-empty}
 use Rattle.std.specs.FinMap.Entries.{by_order}
 use Rattle.std.proofs.lemmas.Bool.{cases_Bool, cases_eq, cond-true, cond-false, eq-eqb, ne_eqb}
 use Rattle.vm_base.specs.declared.frame_request.Want.{Want}
@@ -68,8 +68,8 @@ member-put span x k v (e ∷ es) absent =
       | Less ↦ λ at. ap (λ l. member x (parts span l)) (put_less k v e es at)
       | Equal ↦ λ at. absurd (not_equal k e es absent at)
       | Greater ↦ λ at. ap (λ l. member x (parts span l)) (put_greater k v e es at)
-        ∙ ap (λ b. (x == e.0 / span) || b) (member-put span x k v es (absent_later k e es absent at))
-        ∙ or_turned (x == e.0 / span) (x == k / span) (member x (parts span es))
+          ∙ ap (λ b. (x == e.0 / span) || b) (member-put span x k v es (absent_later k e es absent at))
+          ∙ or_turned (x == e.0 / span) (x == k / span) (member x (parts span es))
     ] refl
 
 -- a part more or less, in either order
@@ -93,11 +93,11 @@ count_later : (span k v : ℕ) (e : ℕ × ℕ) (es : List (ℕ × ℕ)) → nat
 count_later span k v e es at later rest =
     let a = e.0 / span in
     let whole : length (distinct (parts span (put nat_cmp k v (e ∷ es)))) ≡ length (distinct (parts span (put nat_cmp k v es))) + unless_one (member a (parts span (put nat_cmp k v es))) =
-      ap (λ l. length (distinct (parts span l))) (put_greater k v e es at) ∙ length-distinct a (parts span (put nat_cmp k v es)) in
+    ap (λ l. length (distinct (parts span l))) (put_greater k v e es at) ∙ length-distinct a (parts span (put nat_cmp k v es)) in
     let known : unless_one (member a (parts span (put nat_cmp k v es))) ≡ unless_one ((a == k / span) || member a (parts span es)) = ap unless_one (member-put span a k v es later) in
     let old : length (distinct (parts span (e ∷ es))) ≡ length (distinct (parts span es)) + unless_one (member a (parts span es)) = length-distinct a (parts span es) in
     let turned : unless_one (member (k / span) (parts span es)) + unless_one ((a == k / span) || member a (parts span es))
-      ≡ unless_one (member a (parts span es)) + unless_one ((k / span == a) || member (k / span) (parts span es)) = unless-turned a (k / span) (parts span es) in
+    ≡ unless_one (member a (parts span es)) + unless_one ((k / span == a) || member (k / span) (parts span es)) = unless-turned a (k / span) (parts span es) in
     omega arith
 
 -- how many parts there are after a new key was put in
@@ -106,11 +106,11 @@ count-put : (span k v : ℕ) (es : List (ℕ × ℕ)) → find nat_cmp k es ≡ 
 count-put span k v [] absent = refl
 count-put span k v (e ∷ es) absent =
     elim (nat_cmp k e.0) as (λ r. nat_cmp k e.0 ≡ r
-        → length (distinct (parts span (put nat_cmp k v (e ∷ es)))) ≡ length (distinct (parts span (e ∷ es))) + unless_one (member (k / span) (parts span (e ∷ es)))) [
+    → length (distinct (parts span (put nat_cmp k v (e ∷ es)))) ≡ length (distinct (parts span (e ∷ es))) + unless_one (member (k / span) (parts span (e ∷ es)))) [
       | Less ↦ λ at. ap (λ l. length (distinct (parts span l))) (put_less k v e es at) ∙ length-distinct (k / span) (parts span (e ∷ es))
       | Equal ↦ λ at. absurd (not_equal k e es absent at)
       | Greater ↦ λ at.
-        count_later span k v e es at (absent_later k e es absent at) (count-put span k v es (absent_later k e es absent at))
+          count_later span k v e es at (absent_later k e es absent at) (count-put span k v es (absent_later k e es absent at))
     ] refl
 
 -- the tables of some cells
@@ -123,7 +123,7 @@ put_tables : (k v : ℕ) (es : List (ℕ × ℕ)) → directory_frames (map (λ 
 put_tables k v [] = refl
 put_tables k v (e ∷ es) =
     elim (nat_cmp k e.0) as (λ r. nat_cmp k e.0 ≡ r
-        → directory_frames (map (λ e. e.0) (put nat_cmp k v (e ∷ es))) ≡ 1 + length (distinct (parts (2 ^ 18) (put nat_cmp k v (e ∷ es)))) + length (distinct (parts (2 ^ 9) (put nat_cmp k v (e ∷ es))))) [
+    → directory_frames (map (λ e. e.0) (put nat_cmp k v (e ∷ es))) ≡ 1 + length (distinct (parts (2 ^ 18) (put nat_cmp k v (e ∷ es)))) + length (distinct (parts (2 ^ 9) (put nat_cmp k v (e ∷ es))))) [
       | Less ↦ λ at. frames_of_some (put nat_cmp k v (e ∷ es)) (k, v) (e ∷ es) (put_less k v e es at)
       | Equal ↦ λ at. frames_of_some (put nat_cmp k v (e ∷ es)) (e.0, v) es (ap (λ r. by_order r ((k, v) ∷ e ∷ es) ((e.0, v) ∷ es) (e ∷ put nat_cmp k v es)) at)
       | Greater ↦ λ at. frames_of_some (put nat_cmp k v (e ∷ es)) e (put nat_cmp k v es) (put_greater k v e es at)
@@ -148,3 +148,11 @@ pub tables_of-insert : (m : CellMap) (cell slot : ℕ) → get m cell ≡ None �
 tables_of-insert m cell slot absent =
     ap (λ es. directory_frames (map (λ e. e.0) es)) (entries-insert nat_cmp_total m cell slot)
     ∙ entry_tables cell slot (entries m) (sym (get-entries m cell) ∙ absent)
+
+-- no cell takes no table
+pub tables_of-empty : tables_of empty ≡ 0
+tables_of-empty = ap (λ es. directory_frames (map (λ (e : ℕ × ℕ). e.0) es)) (no_entries (entries empty) (sym (len-entries empty) ∙ len-empty nat_cmp ℕ))
+  where
+    no_entries : (es : List (ℕ × ℕ)) → length es ≡ 0 → es ≡ []
+    no_entries [] none = refl
+    no_entries (e ∷ es) none = absurd (omega arith)

@@ -1,3 +1,4 @@
 pub mod CellLemmas
 pub mod Counting
 pub mod TableLemmas
+pub mod Walking

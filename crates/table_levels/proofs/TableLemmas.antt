@@ -99,8 +99,8 @@ word_sets old lent buf i word number inside size same written fits value =
     let whole : take (length lent - 8 * i) (drop (8 * i) lent) ≡ drop (8 * i) lent = take_all (length lent - 8 * i) (drop (8 * i) lent) (omega (arith, length-drop (8 * i) lent)) in
     let none : drop (length lent - 8 * i) (drop (8 * i) lent) ≡ [] = drop_of_length-le (drop (8 * i) lent) (omega (arith, length-drop (8 * i) lent)) in
     let made : put_mid (8 * i) (length lent - 8 * i) lent buf ≡ take (8 * i) old ++ (little_bytes 8 word ++ drop 8 (drop (8 * i) old)) =
-      ap (λ p. take (8 * i) lent ++ (buf ++ p)) none ∙ ap (λ l. take (8 * i) lent ++ l) (append-nil buf)
-      ∙ ap (λ l. take (8 * i) lent ++ l) (written ∙ ap (λ l. little_bytes 8 word ++ drop 8 l) whole)
-      ∙ ap (λ l. take (8 * i) l ++ (little_bytes 8 word ++ drop 8 (drop (8 * i) l))) same in
+    ap (λ p. take (8 * i) lent ++ (buf ++ p)) none ∙ ap (λ l. take (8 * i) lent ++ l) (append-nil buf)
+    ∙ ap (λ l. take (8 * i) lent ++ l) (written ∙ ap (λ l. little_bytes 8 word ++ drop 8 l) whole)
+    ∙ ap (λ l. take (8 * i) l ++ (little_bytes 8 word ++ drop 8 (drop (8 * i) l))) same in
     subst (λ new. SetsEntry old new i number) (sym made)
     (written_sets old (little_bytes 8 word) i word number inside size refl refl fits value)

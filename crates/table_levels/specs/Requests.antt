@@ -45,11 +45,16 @@ pub record RefusesOne {State : Type 0} (goes : State → Deal → State → Type
   pub deals : LeadsAlong goes old (granted front ++ Denied want at ∷ returned (length front)) new
 
 -- the wants were asked for in their order: all were granted, or one was refused
-abbrev pub Asks : {State : Type 0} → (State → Deal → State → Type 0) → State → List Want → Result (Unit {0}) Refused → State → Type 0
+abbrev pub Asks : {State X : Type 0} → (State → Deal → State → Type 0) → State → List Want → Result X Refused → State → Type 0
 Asks goes old wants (Ok done) new = LeadsAlong goes old (granted wants) new
 Asks goes old wants (Err e) new = RefusesOne goes old wants e.at new
 
 -- the count of refused requests rose by one exactly where the call was refused, and the answer carries it
-abbrev pub Counts : {State : Type 0} → (State → ℕ) → State → Result (Unit {0}) Refused → State → Type 0
+abbrev pub Counts : {State X : Type 0} → (State → ℕ) → State → Result X Refused → State → Type 0
 Counts refused old (Ok done) new = refused new ≡ refused old
 Counts refused old (Err e) new = (refused new ≡ next_count (refused old)) × (e.at ≡ refused new)
+
+-- the frames of this user are more by so many where the call was granted, and as many as before where it was refused
+abbrev pub Adds : {State X : Type 0} → (State → ℕ) → State → ℕ → Result X Refused → State → Type 0
+Adds out old n (Ok done) new = out new ≡ out old + n
+Adds out old n (Err e) new = out new ≡ out old

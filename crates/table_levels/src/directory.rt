@@ -1,5 +1,6 @@
 //! The tables above the leaf tables, seen as a finite map from cells to slots.
-ghost use Rattle.std.specs.Prelude.{◌≡◌, ◌+◌, ◌-◌, ◌<◌, ◌≤◌, ◌^◌, None, Some, IfOk, OnOk, OnErr, replicate};
+ghost use Rattle.std.specs.Prelude.{◌≡◌, ◌+◌, ◌-◌, ◌<◌, ◌≤◌, ◌^◌, None, Some, IfOk, OnOk, OnErr, replicate, length};
+ghost use Rattle.table_levels.specs.Walks.{entry_in, middle_at, NamesUppers};
 ghost use Rattle.std.specs.FinMap as map;
 ghost use Rattle.vm_base.specs.Deals.{LeadsAlong};
 ghost use Rattle.table_levels.specs.Cells.{tables_of, first_from};
@@ -24,18 +25,19 @@ pub struct Directory {
 }
 
 impl Model for Directory {
-    ghost use Rattle.std.specs.Prelude.{◌^◌, ℕ};
+    ghost use Rattle.std.specs.Prelude.{ℕ};
     ghost use Rattle.std.specs.Ordering.{nat_cmp};
     ghost use Rattle.std.specs.Coded.{coded_ℕ};
     ghost use Rattle.std.specs.FinMap.{FinMap, code};
-    ghost use Rattle.table_levels.specs.Cells.{cells_below};
-    ghost use Rattle.table_levels.specs.Walks.{slot_of};
+    ghost use Rattle.table_levels.specs.Walks.{cells_of, IsDirectory};
 
     ghost Value = { FinMap nat_cmp ℕ };
 
     ghost coded = { code coded_ℕ coded_ℕ };
 
-    ghost view = { λ d. cells_below (2 ^ 27) (slot_of (record { top = d.top; uppers = d.uppers.items; middles = d.middles.items })) };
+    ghost view = { λ d. cells_of (record { top = d.top; uppers = d.uppers.items; middles = d.middles.items }) };
+
+    ghost invariant = { λ d. IsDirectory (record { top = d.top; uppers = d.uppers.items; middles = d.middles.items }) d.tables };
 }
 
 impl Directory {
@@ -63,10 +65,10 @@ impl Directory {
         requires { cell < 2 ^ 27 }
         ensures { result ≡ map.get self.now cell }
     {
-        let place = Place::of(cell);
-        let upper = named_by(&self.top, place.top)?;
-        let middle = named_by(&self.uppers[upper as usize], place.upper)?;
-        named_by(&self.middles[middle as usize], place.middle)
+        match place_of(&self.top, &self.uppers, cell / ENTRIES as u32) {
+            Some(middle) => named_by(&self.middles[middle as usize], cell as usize % ENTRIES),
+            None => None,
+        }
     }
 
     /// The least cell that is there and not below this one, with its slot.
@@ -344,9 +346,29 @@ fn copy_table<A: Allot>(
     Ok(1)
 }
 
-/// The entry at a place of a table, if the table is there.
-fn named_by(table: &Option<Frame>, i: usize) -> Option<u32> {
-    entry(table.as_ref()?, i)
+/// The entry of a table, if the table is there.
+fn named_by(table: &Option<Frame>, i: usize) -> Option<u32>
+    requires { i < 512 }
+    ensures { result ≡ entry_in table.now i }
+{
+    match table {
+        Some(frame) => entry(frame, i),
+        None => None,
+    }
+}
+
+/// The place of the middle table of 512 cells, by its index in all.
+fn place_of(top: &Option<Frame>, uppers: &[Option<Frame>], index: u32) -> Option<u32>
+    requires index { index < 2 ^ 18 }
+    requires places { length uppers.now ≡ 512 }
+    requires there { NamesUppers top.now uppers.now }
+    ensures { result ≡ middle_at top.now uppers.now index }
+{
+    let upper = index as usize / ENTRIES;
+    match named_by(top, upper) {
+        Some(_) => named_by(&uppers[upper], index as usize % ENTRIES),
+        None => None,
+    }
 }
 
 /// A place without a table.
@@ -407,7 +429,7 @@ fn empty_places(alloc: Global) -> Result<Vec<Option<Frame>>, NoMemory>
     ensures { IfOk result (λ places. places.items ≡ replicate 512 None) }
 {
     let mut places = Vec::with_capacity(alloc, MOST_CELLS)?;
-    for _ in 0..MOST_CELLS {
+    for _made in 0..MOST_CELLS {
         places.push_reserved(None);
     }
     Ok(places)

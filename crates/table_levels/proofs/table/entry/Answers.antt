@@ -12,11 +12,11 @@ returns-then-eq c =
     let present : eqb (bits_of word) 1 ≡ true = ap (λ bits. eqb bits 1) (sym c.entry_parts-number.ensures.bits) ∙ sym c.eq.ensures ∙ c.if-eq.true in
     ap Some c.entry_parts-number.ensures.number
     ∙ sym (entry_read c.args.table.now.bytes c.bytes.result.now c.args.i word c.bytes.ensures.bytes c.read_u64.ensures
-      ∙ cond-true (eqb (bits_of word) 1) (Some (number_of word)) None present)
+    ∙ cond-true (eqb (bits_of word) 1) (Some (number_of word)) None present)
 
 pub returns-else-eq : goal.returns-else-eq
 returns-else-eq c =
     let word = c.read_u64.result in
     let absent : eqb (bits_of word) 1 ≡ false = ap (λ bits. eqb bits 1) (sym c.entry_parts-number.ensures.bits) ∙ sym c.eq.ensures ∙ c.if-eq.false in
     sym (entry_read c.args.table.now.bytes c.bytes.result.now c.args.i word c.bytes.ensures.bytes c.read_u64.ensures
-      ∙ cond-false (eqb (bits_of word) 1) (Some (number_of word)) None absent)
+    ∙ cond-false (eqb (bits_of word) 1) (Some (number_of word)) None absent)

@@ -12,10 +12,10 @@ returns-clause-set c =
     let word = c.match-number.word in
     let value : entry_value word ≡ c.args.number = elim c.match-number.branch [
       | in-Some w ↦
-        let made = w.entry_word-word.result in
-        ap entry_value w.word-is
-        ∙ cond-true (eqb (bits_of made) 1) (Some (number_of made)) None (ap (λ bits. eqb bits 1) w.entry_word-word.ensures.bits)
-        ∙ ap Some w.entry_word-word.ensures.number ∙ sym w.in-Some.is
+          let made = w.entry_word-word.result in
+          ap entry_value w.word-is
+          ∙ cond-true (eqb (bits_of made) 1) (Some (number_of made)) None (ap (λ bits. eqb bits 1) w.entry_word-word.ensures.bits)
+          ∙ ap Some w.entry_word-word.ensures.number ∙ sym w.in-Some.is
       | in-None w ↦ ap entry_value w.word-is ∙ sym w.in-None.is
     ] in
     let fits : word < 256 ^ 8 = elim c.match-number.branch [
@@ -23,4 +23,4 @@ returns-clause-set c =
       | in-None w ↦ omega (arith, w.word-is)
     ] in
     word_sets c.args.table.now.bytes c.bytes_mut.result.now c.write_u64.new.buf c.args.i word c.args.number c.requires c.bytes_mut.ensures.length c.bytes_mut.ensures.bytes
-      c.write_u64.ensures fits value
+    c.write_u64.ensures fits value
