@@ -2,3 +2,4 @@ pub mod CellLemmas
 pub mod Counting
 pub mod TableLemmas
 pub mod Walking
+pub mod Asking

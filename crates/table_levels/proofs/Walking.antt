@@ -61,7 +61,7 @@ bare_directory uppers middles free_uppers free_middles =
       upper_used = λ i there. absurd (none_at i uppers free_uppers there);
       middle_used = λ index below there. absurd (false≢true there);
       counted = sym (ap (λ l. tables_at l + tables_at middles) free_uppers ∙ ap (λ l. tables_at (replicate 512 free) + tables_at l) free_middles
-        ∙ ap (λ n. n + tables_at (replicate 512 free)) (tables_at-free 512) ∙ tables_at-free 512);
+          ∙ ap (λ n. n + tables_at (replicate 512 free)) (tables_at-free 512) ∙ tables_at-free 512);
       taken = sym (ap tables_of (no_levels uppers middles) ∙ tables_of-empty);
     }
   where

@@ -3,3 +3,4 @@ pub mod Tables
 pub mod Cells
 pub mod Walks
 pub mod Requests
+pub mod Fresh

@@ -3,6 +3,7 @@ use Rattle.std.specs.Prelude.{◌≡◌, ℕ, ◌+◌, ◌/◌, ◌^◌, ◌==�
 use Rattle.std.specs.List.{list_any}
 use Rattle.vm_base.specs.declared.frame_request.Want.{Want}
 use Rattle.vm_base.specs.declared.frame_request.Want.TheVariants.{Top, Upper, Middle}
+use Rattle.table_levels.specs.declared.frames.Wanted.{Wanted}
 use Rattle.vm_base.specs.declared.refusals.Refused.{Refused}
 use Rattle.vm_base.specs.Counts.{next_count}
 use Rattle.vm_base.specs.Deals.{Deal, Granted, Denied, Returned, LeadsAlong}
@@ -20,6 +21,18 @@ unless there want = if there then [] else want ∷ []
 abbrev pub missing_tables : List ℕ → ℕ → List Want
 missing_tables [] cell = Top ∷ Upper ∷ Middle ∷ []
 missing_tables (other ∷ cells) cell = unless (shares (2 ^ 18) (other ∷ cells) cell) Upper ++ unless (shares (2 ^ 9) (other ∷ cells) cell) Middle
+
+-- one table is asked for where it is wanted
+abbrev pub wanted_if : Bool → Want → List Want
+wanted_if is_wanted want = if is_wanted then want ∷ [] else []
+
+-- the upper and the middle table, as far as they are wanted
+abbrev pub wanted_lower : Wanted → List Want
+wanted_lower wanted = wanted_if wanted.upper Upper ++ wanted_if wanted.middle Middle
+
+-- the tables that are wanted, top first
+abbrev pub wanted_tables : Wanted → List Want
+wanted_tables wanted = wanted_if wanted.top Top ++ wanted_lower wanted
 
 -- all tables of the directory of these cells: the top table, the upper tables and the middle tables
 abbrev pub all_tables : List ℕ → List Want

@@ -6,6 +6,7 @@ ghost use Rattle.vm_base.specs.Deals.{LeadsAlong};
 ghost use Rattle.table_levels.specs.Cells.{tables_of, first_from};
 ghost use Rattle.table_levels.specs.Requests.{missing_tables, all_tables, returned, Asks, Counts};
 
+use crate::frames::{Fresh, Wanted, give_back, take_fresh};
 use crate::table::{ENTRIES, entry, first_entry, set_entry};
 use std::alloc::Global;
 use std::marker::Model;
@@ -192,7 +193,7 @@ impl Directory {
     {
         give_all(&mut self.middles, allot);
         give_all(&mut self.uppers, allot);
-        give_back(&mut self.top, allot);
+        give_back(self.top.take(), allot);
         self.tables = 0;
     }
 
@@ -204,20 +205,19 @@ impl Directory {
 
     /// Puts fresh tables on the way to a cell, and the slot at its end.
     fn link(&mut self, fresh: Fresh, place: Place, slot: u32) {
-        if let Some(table) = fresh.top {
-            self.top = Some(table);
-            self.tables += 1;
-        }
-        if let Some(table) = fresh.upper {
-            self.uppers[place.top] = Some(table);
-            self.tables += 1;
+        let Fresh { top, upper, middle } = fresh;
+        self.tables += u32::from(top.is_some());
+        put_if_some(&mut self.top, top);
+        if upper.is_some() {
             name_in(&mut self.top, place.top, place.top as u32);
-        }
-        if let Some(table) = fresh.middle {
-            let free = free_place(&self.middles);
-            self.middles[free] = Some(table);
             self.tables += 1;
+        }
+        put_if_some(&mut self.uppers[place.top], upper);
+        if middle.is_some() {
+            let free = free_place(&self.middles);
+            put_if_some(&mut self.middles[free], middle);
             name_in(&mut self.uppers[place.top], place.upper, free as u32);
+            self.tables += 1;
         }
         if let Some(middle) = named_by(&self.uppers[place.top], place.upper) {
             name_in(&mut self.middles[middle as usize], place.middle, slot);
@@ -245,64 +245,9 @@ impl Directory {
 /// How many cells lie under one upper table.
 const UPPER_CELLS: u32 = 1 << 18;
 
-/// Which tables are missing on the way to a cell.
-#[derive(Clone, Copy)]
-struct Wanted {
-    top: bool,
-    upper: bool,
-    middle: bool,
-}
-
-/// The frames for them.
-#[derive(Drop)]
-struct Fresh {
-    top: Option<Frame>,
-    upper: Option<Frame>,
-    middle: Option<Frame>,
-}
-
-/// Takes the frames that are wanted, or none of them.
-fn take_fresh<A: Allot>(wanted: Wanted, allot: &mut A) -> Result<Fresh, Refused> {
-    let mut fresh = Fresh {
-        top: None,
-        upper: None,
-        middle: None,
-    };
-    match take_wanted(wanted, &mut fresh, allot) {
-        Ok(()) => Ok(fresh),
-        Err(refused) => {
-            give_back(&mut fresh.upper, allot);
-            give_back(&mut fresh.top, allot);
-            Err(refused)
-        }
-    }
-}
-
-fn take_wanted<A: Allot>(wanted: Wanted, fresh: &mut Fresh, allot: &mut A) -> Result<(), Refused> {
-    fresh.top = take_if(wanted.top, Want::Top, allot)?;
-    fresh.upper = take_if(wanted.upper, Want::Upper, allot)?;
-    fresh.middle = take_if(wanted.middle, Want::Middle, allot)?;
-    Ok(())
-}
-
-fn take_if<A: Allot>(is_wanted: bool, want: Want, allot: &mut A) -> Result<Option<Frame>, Refused> {
-    if is_wanted {
-        Ok(Some(allot.take(want)?))
-    } else {
-        Ok(None)
-    }
-}
-
-/// Gives a table back, if it is there.
-fn give_back<A: Allot>(table: &mut Option<Frame>, allot: &mut A) {
-    if let Some(frame) = table.take() {
-        allot.give(frame);
-    }
-}
-
 fn give_all<A: Allot>(tables: &mut [Option<Frame>], allot: &mut A) {
     for i in 0..tables.len() {
-        give_back(&mut tables[i], allot);
+        give_back(tables[i].take(), allot);
     }
 }
 
@@ -316,8 +261,16 @@ fn clear_entry<A: Allot>(table: &mut Option<Frame>, i: usize, allot: &mut A) -> 
     if is_left {
         return false;
     }
-    give_back(table, allot);
+    give_back(table.take(), allot);
     true
+}
+
+/// Puts a fresh table at a place.
+fn put_if_some(place: &mut Option<Frame>, fresh: Option<Frame>) {
+    match fresh {
+        Some(frame) => *place = Some(frame),
+        None => {}
+    }
 }
 
 fn name_in(table: &mut Option<Frame>, i: usize, number: u32) {

@@ -7,6 +7,7 @@
 #![tactic(auto)]
 
 mod directory;
+mod frames;
 mod table;
 #[cfg(test)]
 mod tests;
