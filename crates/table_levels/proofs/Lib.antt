@@ -3,3 +3,4 @@ pub mod Counting
 pub mod TableLemmas
 pub mod Walking
 pub mod Asking
+pub mod Links

@@ -4,3 +4,4 @@ pub mod Cells
 pub mod Walks
 pub mod Requests
 pub mod Fresh
+pub mod Links

@@ -35,6 +35,10 @@ middle_of levels index = middle_at levels.top levels.uppers index
 abbrev pub NamesUppers : Place → List Place → Type 0
 NamesUppers top uppers = (i upper : ℕ) → i < 512 → entry_in top i ≡ Some upper → (upper ≡ i) × IsSome (table_at uppers i)
 
+-- each upper table that is there is named in the top table, at its own place
+abbrev pub AreNamed : Place → List Place → Type 0
+AreNamed top uppers = (i : ℕ) → IsSome (table_at uppers i) → entry_in top i ≡ Some i
+
 -- the slot of a cell
 abbrev pub slot_of : Levels → ℕ → Option ℕ
 slot_of levels cell = option_and_then (λ middle. entry_in (table_at levels.middles middle) (cell % 512)) (middle_of levels (cell / 512))
@@ -61,7 +65,7 @@ pub record IsDirectory (levels : Levels) (tables : ℕ) : Type 0 where
   -- each entry of the top table names an upper table that is there
   pub upper_there : NamesUppers levels.top levels.uppers
   -- an upper table is named
-  pub upper_named : (i : ℕ) → IsSome (table_at levels.uppers i) → entry_in levels.top i ≡ Some i
+  pub upper_named : AreNamed levels.top levels.uppers
   -- an entry of an upper table names a middle table that is there, and no other entry names it
   pub middle_there : (index middle : ℕ) → index < 2 ^ 18 → middle_of levels index ≡ Some middle → (middle < 512) × IsSome (table_at levels.middles middle)
   pub middle_once : (index other middle : ℕ) → index < 2 ^ 18 → other < 2 ^ 18 → middle_of levels index ≡ Some middle → middle_of levels other ≡ Some middle → index ≡ other

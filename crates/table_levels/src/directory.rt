@@ -7,6 +7,7 @@ ghost use Rattle.table_levels.specs.Cells.{tables_of, first_from};
 ghost use Rattle.table_levels.specs.Requests.{missing_tables, all_tables, returned, Asks, Counts};
 
 use crate::frames::{Fresh, Wanted, give_back, take_fresh};
+use crate::linking::{link_middle, link_upper};
 use crate::table::{ENTRIES, entry, first_entry, set_entry};
 use std::alloc::Global;
 use std::marker::Model;
@@ -112,17 +113,34 @@ impl Directory {
         ensures out { A.out (A.state allot.new) + tables_of self.old ≡ A.out (A.state allot.old) + tables_of self.new }
         ensures untold { A.grants allot.new ≡ A.grants allot.old }
     {
-        let place = Place::of(cell);
-        let upper = named_by(&self.top, place.top);
-        let middle = self.middle_of(place);
+        let index = cell / ENTRIES as u32;
+        let below = cell as usize % ENTRIES;
+        if let Some(middle) = place_of(&self.top, &self.uppers, index) {
+            link_middle(&mut self.middles, middle as usize, None, below, slot);
+            return Ok(());
+        }
         let wanted = Wanted {
             top: self.top.is_none(),
-            upper: upper.is_none(),
-            middle: middle.is_none(),
+            upper: named_by(&self.top, index as usize / ENTRIES).is_none(),
+            middle: true,
         };
-        let fresh = take_fresh(wanted, allot)?;
-        self.link(fresh, place, slot);
-        Ok(())
+        match take_fresh(wanted, allot) {
+            Ok(Fresh { top, upper, middle }) => {
+                let free = free_place(&self.middles);
+                self.tables += wanted.count();
+                link_upper(
+                    &mut self.top,
+                    &mut self.uppers,
+                    index,
+                    top,
+                    upper,
+                    free as u32,
+                );
+                link_middle(&mut self.middles, free, middle, below, slot);
+                Ok(())
+            }
+            Err(refused) => Err(refused),
+        }
     }
 
     /// Takes a cell out, if it is there. Each table that is left without an entry is given back.
@@ -197,33 +215,6 @@ impl Directory {
         self.tables = 0;
     }
 
-    /// The place of the middle table of a cell.
-    fn middle_of(&self, place: Place) -> Option<u32> {
-        let upper = named_by(&self.top, place.top)?;
-        named_by(&self.uppers[upper as usize], place.upper)
-    }
-
-    /// Puts fresh tables on the way to a cell, and the slot at its end.
-    fn link(&mut self, fresh: Fresh, place: Place, slot: u32) {
-        let Fresh { top, upper, middle } = fresh;
-        self.tables += u32::from(top.is_some());
-        put_if_some(&mut self.top, top);
-        if upper.is_some() {
-            name_in(&mut self.top, place.top, place.top as u32);
-            self.tables += 1;
-        }
-        put_if_some(&mut self.uppers[place.top], upper);
-        if middle.is_some() {
-            let free = free_place(&self.middles);
-            put_if_some(&mut self.middles[free], middle);
-            name_in(&mut self.uppers[place.top], place.upper, free as u32);
-            self.tables += 1;
-        }
-        if let Some(middle) = named_by(&self.uppers[place.top], place.upper) {
-            name_in(&mut self.middles[middle as usize], place.middle, slot);
-        }
-    }
-
     /// Copies the tables level by level, as far as frames are granted.
     fn copy_levels<A: Allot>(&mut self, other: &Directory, allot: &mut A) -> Result<(), Refused> {
         self.tables += copy_table(&mut self.top, &other.top, Want::Top, allot)?;
@@ -263,18 +254,6 @@ fn clear_entry<A: Allot>(table: &mut Option<Frame>, i: usize, allot: &mut A) -> 
     }
     give_back(table.take(), allot);
     true
-}
-
-/// Puts a fresh table at a place.
-fn put_if_some(place: &mut Option<Frame>, fresh: Option<Frame>) {
-    match fresh {
-        Some(frame) => *place = Some(frame),
-        None => {}
-    }
-}
-
-fn name_in(table: &mut Option<Frame>, i: usize, number: u32) {
-    name_or_clear(table, i, Some(number));
 }
 
 fn name_or_clear(table: &mut Option<Frame>, i: usize, number: Option<u32>) {

@@ -16,6 +16,15 @@ pub(crate) struct Wanted {
     pub middle: bool,
 }
 
+impl Wanted {
+    /// How many they are.
+    pub(crate) fn count(&self) -> u32
+        ensures { result ≡ length (wanted_tables self.now) }
+    {
+        u32::from(self.top) + u32::from(self.upper) + u32::from(self.middle)
+    }
+}
+
 /// The frames for them.
 #[derive(Drop)]
 pub(crate) struct Fresh {

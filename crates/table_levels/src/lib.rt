@@ -8,6 +8,7 @@
 
 mod directory;
 mod frames;
+mod linking;
 mod table;
 #[cfg(test)]
 mod tests;
