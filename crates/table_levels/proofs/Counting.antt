@@ -1,18 +1,21 @@
 -- How many tables one cell more takes.
-use Rattle.std.proofs.Common.{◌≡◌, ℕ, zero, suc, ◌+◌, ◌/◌, ◌^◌, ◌<◌, ◌≤◌, Bool, true, false, cond, eqb, List, [], ◌∷◌, ◌++◌, map, length, Some, None, Option, refl, sym, ◌∙◌, ap, arith, inl, inr, length-append}
+use Rattle.std.proofs.Common.{◌≡◌, ℕ, zero, suc, ◌+◌, ◌/◌, ◌^◌, ◌<◌, ◌≤◌, Bool, true, false, cond, eqb, List, [], ◌∷◌, ◌++◌, map, length, Some, None, Option, refl, sym, ◌∙◌, ap, arith, inl, inr, subst, length-append}
 use Rattle.std.specs.Prelude.{◌==◌, ◌||◌}
 use Rattle.std.specs.List.{list_any}
 use Rattle.std.specs.Ordering.{nat_cmp, eq_by_cmp, is_eq}
 use Rattle.std.specs.declared.cmp.Ordering.{Ordering}
 use Rattle.std.specs.declared.cmp.Ordering.TheVariants.{Less, Equal, Greater}
 use Rattle.std.specs.Cmp.{nat_cmp_total}
-use Rattle.std.specs.FinMap.{FinMap, get, insert, entries, keys, put, find, get-entries, entries-insert, empty, len-entries, len-empty}
+use Rattle.std.specs.FinMap.{FinMap, get, insert, entries, keys, put, find, get-entries, entries-insert, empty, len, len-entries, len-empty, nat_cmp-IsAntisymmetric}
 use Rattle.std.specs.FinMap.Entries.{by_order}
-use Rattle.std.proofs.lemmas.Bool.{cases_Bool, cases_eq, cond-true, cond-false, eq-eqb, ne_eqb}
+use Rattle.std.proofs.lemmas.Bool.{cases_Bool, cases_eq, cond-true, cond-false, eq-eqb, ne_eqb, eqb-true, or_cases, or_left, or_right, false≢true}
+use Rattle.std.proofs.lemmas.Bool.Decides.{nat_tests}
+use Rattle.std.specs.Prelude.{IsSome}
+use Rattle.std.proofs.lemmas.List.{length-map}
 use Rattle.vm_base.specs.declared.frame_request.Want.{Want}
 use Rattle.vm_base.specs.declared.frame_request.Want.TheVariants.{Top, Upper, Middle}
 use Rattle.vm_base.specs.Places.{distinct, directory_frames}
-use Rattle.table_levels.specs.Cells.{CellMap, tables_of}
+use Rattle.table_levels.specs.Cells.{CellMap, tables_of, middle_tables_of}
 use Rattle.table_levels.specs.Requests.{shares, unless, missing_tables}
 
 abbrev member : ℕ → List ℕ → Bool
@@ -150,9 +153,75 @@ tables_of-insert m cell slot absent =
     ∙ entry_tables cell slot (entries m) (sym (get-entries m cell) ∙ absent)
 
 -- no cell takes no table
+no_entries : (es : List (ℕ × ℕ)) → length es ≡ 0 → es ≡ []
+no_entries [] none = refl
+no_entries (e ∷ es) none = absurd (omega arith)
+
+abbrev nothing : CellMap
+nothing = empty
+
+entries-empty : entries nothing ≡ []
+entries-empty = no_entries (entries nothing) (sym (len-entries nothing) ∙ len-empty nat_cmp ℕ)
+
 pub tables_of-empty : tables_of empty ≡ 0
-tables_of-empty = ap (λ es. directory_frames (map (λ (e : ℕ × ℕ). e.0) es)) (no_entries (entries empty) (sym (len-entries empty) ∙ len-empty nat_cmp ℕ))
+tables_of-empty = ap (λ es. directory_frames (map (λ (e : ℕ × ℕ). e.0) es)) entries-empty
+
+pub middle_tables_of-empty : middle_tables_of empty ≡ 0
+middle_tables_of-empty = ap (λ es. length (distinct (parts (2 ^ 9) es))) entries-empty
+
+-- a new cell takes a middle table unless it shares one
+pub middle_tables_of-insert : (m : CellMap) (cell slot : ℕ) → get m cell ≡ None → middle_tables_of (insert m cell slot) ≡ middle_tables_of m + unless_one (shares (2 ^ 9) (keys m) cell)
+middle_tables_of-insert m cell slot absent =
+    ap (λ es. length (distinct (parts (2 ^ 9) es))) (entries-insert nat_cmp_total m cell slot)
+    ∙ count-put (2 ^ 9) cell slot (entries m) (sym (get-entries m cell) ∙ absent)
+
+-- there are no more middle tables than cells
+few_distinct : (xs : List ℕ) → length (distinct xs) ≤ length xs
+few_distinct [] = omega arith
+few_distinct (x ∷ xs) = elim (cases_Bool (member x xs)) [
+  | inl there ↦ omega (arith, few_distinct xs, ap length (cond-true (member x xs) (distinct xs) (x ∷ distinct xs) there))
+  | inr new ↦ omega (arith, few_distinct xs, ap length (cond-false (member x xs) (distinct xs) (x ∷ distinct xs) new))
+]
+
+pub middle_tables_of-le : (m : CellMap) → middle_tables_of m ≤ len m
+middle_tables_of-le m =
+    omega (arith, few_distinct (parts (2 ^ 9) (entries m)), length-map (map (λ (e : ℕ × ℕ). e.0) (entries m)) (λ c. c / 2 ^ 9), length-map (entries m) (λ (e : ℕ × ℕ). e.0), len-entries m)
+
+-- ---- which cells share a table
+-- the key that ties is the key
+same_key : (c : ℕ) (e : ℕ × ℕ) → nat_cmp c e.0 ≡ Equal → c ≡ e.0
+same_key c e ties = nat_cmp-IsAntisymmetric c e.0 ties
+
+any_from : (part span c : ℕ) (es : List (ℕ × ℕ)) → IsSome (find nat_cmp c es) → c / span ≡ part → member part (parts span es) ≡ true
+any_from part span c [] there at = absurd (false≢true there)
+any_from part span c (e ∷ es) there at =
+    elim (nat_cmp c e.0) as (λ r. nat_cmp c e.0 ≡ r → member part (parts span (e ∷ es)) ≡ true) [
+      | Less ↦ λ is. or_right (part == e.0 / span) (member part (parts span es)) (any_from part span c es (later Less is refl) at)
+      | Equal ↦ λ is. or_left (part == e.0 / span) (member part (parts span es)) (eq-eqb part (e.0 / span) (sym at ∙ ap (λ k. k / span) (same_key c e is)))
+      | Greater ↦ λ is. or_right (part == e.0 / span) (member part (parts span es)) (any_from part span c es (later Greater is refl) at)
+    ] refl
   where
-    no_entries : (es : List (ℕ × ℕ)) → length es ≡ 0 → es ≡ []
-    no_entries [] none = refl
-    no_entries (e ∷ es) none = absurd (omega arith)
+    later : (r : Ordering) → nat_cmp c e.0 ≡ r → is_eq r ≡ false → IsSome (find nat_cmp c es)
+    later r is apart = subst IsSome (ap (λ b. cond b (Some e.1) (find nat_cmp c es)) (ap is_eq is ∙ apart)) there
+
+pub shares_from : (m : CellMap) (span cell c : ℕ) → IsSome (get m c) → c / span ≡ cell / span → shares span (keys m) cell ≡ true
+shares_from m span cell c there at = any_from (cell / span) span c (entries m) (subst IsSome (get-entries m c) there) at
+
+found_more : (c : ℕ) (e : ℕ × ℕ) (es : List (ℕ × ℕ)) → IsSome (find nat_cmp c es) → IsSome (find nat_cmp c (e ∷ es))
+found_more c e es there = elim (cases_Bool (eq_by_cmp nat_cmp c e.0)) [
+  | inl same ↦ subst IsSome (sym (cond-true (eq_by_cmp nat_cmp c e.0) (Some e.1) (find nat_cmp c es) same)) refl
+  | inr apart ↦ subst IsSome (sym (cond-false (eq_by_cmp nat_cmp c e.0) (Some e.1) (find nat_cmp c es) apart)) there
+]
+
+found_first : (e : ℕ × ℕ) (es : List (ℕ × ℕ)) → IsSome (find nat_cmp e.0 (e ∷ es))
+found_first e es = subst IsSome (sym (cond-true (eq_by_cmp nat_cmp e.0 e.0) (Some e.1) (find nat_cmp e.0 es) (grind (arith, nat_tests)))) refl
+
+any_to : (part span : ℕ) (es : List (ℕ × ℕ)) → member part (parts span es) ≡ true → (c : ℕ) × IsSome (find nat_cmp c es) × (c / span ≡ part)
+any_to part span [] there = absurd (false≢true there)
+any_to part span (e ∷ es) there = elim (or_cases (part == e.0 / span) (member part (parts span es)) there) [
+  | inl here ↦ (e.0, found_first e es, sym (eqb-true part (e.0 / span) here))
+  | inr later ↦ let rest = any_to part span es later in (rest.0, found_more rest.0 e es rest.1, rest.2)
+]
+
+pub shares_to : (m : CellMap) (span cell : ℕ) → shares span (keys m) cell ≡ true → (c : ℕ) × IsSome (get m c) × (c / span ≡ cell / span)
+shares_to m span cell there = let found = any_to (cell / span) span (entries m) there in (found.0, subst IsSome (sym (get-entries m found.0)) found.1, found.2)

@@ -4,3 +4,4 @@ pub mod TableLemmas
 pub mod Walking
 pub mod Asking
 pub mod Links
+pub mod Sharing

@@ -5,8 +5,8 @@ use Rattle.std.specs.FinMap.{get, empty}
 use Rattle.std.specs.Prelude.{IsSome}
 use Rattle.std.proofs.lemmas.List.{length-replicate}
 use Rattle.std.proofs.lemmas.Bool.{false≢true}
-use Rattle.table_levels.specs.Cells.{tables_of}
-use Rattle.table_levels.proofs.Counting.{tables_of-empty}
+use Rattle.table_levels.specs.Cells.{tables_of, middle_tables_of}
+use Rattle.table_levels.proofs.Counting.{tables_of-empty, middle_tables_of-empty}
 use Rattle.table_levels.specs.Walks.{Place, Levels, table_at, entry_in, middle_of, slot_of, cells_of, tables_at, IsDirectory}
 use Rattle.table_levels.proofs.CellLemmas.{get_below, no_cells}
 
@@ -63,6 +63,7 @@ bare_directory uppers middles free_uppers free_middles =
       counted = sym (ap (λ l. tables_at l + tables_at middles) free_uppers ∙ ap (λ l. tables_at (replicate 512 free) + tables_at l) free_middles
           ∙ ap (λ n. n + tables_at (replicate 512 free)) (tables_at-free 512) ∙ tables_at-free 512);
       taken = sym (ap tables_of (no_levels uppers middles) ∙ tables_of-empty);
+      middles_taken = ap tables_at free_middles ∙ tables_at-free 512 ∙ sym (ap middle_tables_of (no_levels uppers middles) ∙ middle_tables_of-empty);
     }
   where
     none_at : (i : ℕ) (places : List Place) → places ≡ replicate 512 free → IsSome (table_at places i) → ⊥

@@ -1,9 +1,9 @@
 -- A finite map from cells to slots.
-use Rattle.std.specs.Prelude.{ℕ, zero, suc, nat_le, Option, Some, None}
+use Rattle.std.specs.Prelude.{ℕ, zero, suc, ◌/◌, ◌^◌, nat_le, map, length, Option, Some, None}
 use Rattle.std.specs.Ordering.{nat_cmp}
 use Rattle.std.specs.FinMap.{FinMap, empty, insert, entries, keys}
 use Rattle.std.specs.List.{find}
-use Rattle.vm_base.specs.Places.{directory_frames}
+use Rattle.vm_base.specs.Places.{directory_frames, distinct}
 
 -- each cell that is there, with its slot
 abbrev pub CellMap : Type 0
@@ -26,3 +26,7 @@ first_from map cell = find (λ e. nat_le cell e.0) (entries map)
 -- the tables of the directory of a map's cells
 abbrev pub tables_of : CellMap → ℕ
 tables_of map = directory_frames (keys map)
+
+-- the middle tables among them
+abbrev pub middle_tables_of : CellMap → ℕ
+middle_tables_of cells = length (distinct (map (λ c. c / 2 ^ 9) (keys cells)))

@@ -3,7 +3,7 @@ use Rattle.std.specs.Prelude.{◌≡◌, ℕ, ◌+◌, ◌*◌, ◌/◌, ◌%◌
 use Rattle.std.specs.Option.{option_and_then}
 use Rattle.vm_base.specs.Frames.{FrameView}
 use Rattle.table_levels.specs.Tables.{entry_at}
-use Rattle.table_levels.specs.Cells.{CellMap, cells_below, tables_of}
+use Rattle.table_levels.specs.Cells.{CellMap, cells_below, tables_of, middle_tables_of}
 
 -- a place for a table, with the table or without
 abbrev pub Place : Type 0
@@ -76,3 +76,4 @@ pub record IsDirectory (levels : Levels) (tables : ℕ) : Type 0 where
   -- the count is that of the tables, and what the cells take
   pub counted : tables ≡ tables_in levels
   pub taken : tables ≡ tables_of (cells_of levels)
+  pub middles_taken : tables_at levels.middles ≡ middle_tables_of (cells_of levels)
