@@ -5,3 +5,4 @@ pub mod Walking
 pub mod Asking
 pub mod Links
 pub mod Sharing
+pub mod Inserted

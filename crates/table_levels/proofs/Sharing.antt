@@ -36,10 +36,10 @@ cell_of_key levels c there = elim (cases_lt c (2 ^ 27)) [
 pub key_of_cell : (levels : Levels) (c : ℕ) → c < 2 ^ 27 → IsSome (slot_of levels c) → IsSome (get (cells_of levels) c)
 key_of_cell levels c lt there = subst IsSome (sym (get_below (2 ^ 27) (slot_of levels) c lt)) there
 
-middle_of_slot : (levels : Levels) (c : ℕ) → IsSome (slot_of levels c) → IsSome (middle_of levels (c / 512))
+pub middle_of_slot : (levels : Levels) (c : ℕ) → IsSome (slot_of levels c) → IsSome (middle_of levels (c / 512))
 middle_of_slot levels c there = and_then_some (λ m. entry_in (table_at levels.middles m) (c % 512)) (middle_of levels (c / 512)) there
 
-upper_of_middle : (levels : Levels) (index : ℕ) → IsSome (middle_of levels index) → IsSome (entry_in levels.top (index / 512))
+pub upper_of_middle : (levels : Levels) (index : ℕ) → IsSome (middle_of levels index) → IsSome (entry_in levels.top (index / 512))
 upper_of_middle levels index there = and_then_some (λ u. entry_in (table_at levels.uppers u) (index % 512)) (entry_in levels.top (index / 512)) there
 
 table_of_entry : (p : Place) (i : ℕ) → IsSome (entry_in p i) → is_some p ≡ true
