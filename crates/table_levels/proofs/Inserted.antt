@@ -40,14 +40,14 @@ module _ (old new : Levels) (cell slot place n : ℕ) (directory : IsDirectory o
   pub slot_kept : (c : ℕ) → c < 2 ^ 27 → c ≢ cell → slot_of new c ≡ slot_of old c
   slot_kept c lt apart = elim (cases_eq (c / 512) (cell / 512)) [
     | inl same ↦
-      let place_apart : c % 512 ≢ cell % 512 = λ same_place. apart (omega arith) in
-      ap (λ index. option_and_then (λ m. entry_in (table_at new.middles m) (c % 512)) (middle_of new index)) same
-      ∙ ap (option_and_then (λ m. entry_in (table_at new.middles m) (c % 512))) inserts.here
-      ∙ inserts.slot_rest (c % 512) (omega arith) place_apart
-      ∙ sym (ap (λ index. option_and_then (λ m. entry_in (table_at old.middles m) (c % 512)) (middle_of old index)) same)
+        let place_apart : c % 512 ≢ cell % 512 = λ same_place. apart (omega arith) in
+        ap (λ index. option_and_then (λ m. entry_in (table_at new.middles m) (c % 512)) (middle_of new index)) same
+        ∙ ap (option_and_then (λ m. entry_in (table_at new.middles m) (c % 512))) inserts.here
+        ∙ inserts.slot_rest (c % 512) (omega arith) place_apart
+        ∙ sym (ap (λ index. option_and_then (λ m. entry_in (table_at old.middles m) (c % 512)) (middle_of old index)) same)
     | inr other ↦
-      ap (option_and_then (λ m. entry_in (table_at new.middles m) (c % 512))) (inserts.others (c / 512) (omega arith) other)
-      ∙ elsewhere (c / 512) (c % 512) (omega arith) other (middle_of old (c / 512)) refl
+        ap (option_and_then (λ m. entry_in (table_at new.middles m) (c % 512))) (inserts.others (c / 512) (omega arith) other)
+        ∙ elsewhere (c / 512) (c % 512) (omega arith) other (middle_of old (c / 512)) refl
   ]
 
   pub cells_inserted : cells_of new ≡ insert (cells_of old) cell slot
@@ -65,47 +65,47 @@ module _ (old new : Levels) (cell slot place n : ℕ) (directory : IsDirectory o
         upper_named = inserts.named;
         middle_there = λ o m lt at. elim (cases_eq o index) [
           | inl same ↦
-            let found : Some m ≡ Some place = sym at ∙ ap (middle_of new) same ∙ inserts.here in
-            let is : m ≡ place = cc in
-            (omega (arith, inserts.place_below), subst (λ p. IsSome (table_at new.middles p)) (sym is) inserts.there)
+              let found : Some m ≡ Some place = sym at ∙ ap (middle_of new) same ∙ inserts.here in
+              let is : m ≡ place = cc in
+              (omega (arith, inserts.place_below), subst (λ p. IsSome (table_at new.middles p)) (sym is) inserts.there)
           | inr apart ↦
-            let before = sym (inserts.others o lt apart) ∙ at in
-            let known = directory.middle_there o m lt before in
-            (known.0, subst IsSome (sym (inserts.tables m (λ same. inserts.unused o lt apart (before ∙ ap Some same)))) known.1)
+              let before = sym (inserts.others o lt apart) ∙ at in
+              let known = directory.middle_there o m lt before in
+              (known.0, subst IsSome (sym (inserts.tables m (λ same. inserts.unused o lt apart (before ∙ ap Some same)))) known.1)
         ];
         middle_once = λ o other m lt lt_other at at_other. elim (cases_eq o index) [
           | inl same ↦ elim (cases_eq other index) [
             | inl same_other ↦ same ∙ sym same_other
             | inr apart_other ↦
-              let found : Some m ≡ Some place = sym at ∙ ap (middle_of new) same ∙ inserts.here in
-              absurd (inserts.unused other lt_other apart_other (sym (inserts.others other lt_other apart_other) ∙ at_other ∙ found))
+                let found : Some m ≡ Some place = sym at ∙ ap (middle_of new) same ∙ inserts.here in
+                absurd (inserts.unused other lt_other apart_other (sym (inserts.others other lt_other apart_other) ∙ at_other ∙ found))
           ]
           | inr apart ↦ elim (cases_eq other index) [
             | inl same_other ↦
-              let found : Some m ≡ Some place = sym at_other ∙ ap (middle_of new) same_other ∙ inserts.here in
-              absurd (inserts.unused o lt apart (sym (inserts.others o lt apart) ∙ at ∙ found))
+                let found : Some m ≡ Some place = sym at_other ∙ ap (middle_of new) same_other ∙ inserts.here in
+                absurd (inserts.unused o lt apart (sym (inserts.others o lt apart) ∙ at ∙ found))
             | inr apart_other ↦
-              directory.middle_once o other m lt lt_other (sym (inserts.others o lt apart) ∙ at) (sym (inserts.others other lt_other apart_other) ∙ at_other)
+                directory.middle_once o other m lt lt_other (sym (inserts.others o lt apart) ∙ at) (sym (inserts.others other lt_other apart_other) ∙ at_other)
           ]
         ];
         top_used = λ there. (index / 512, omega arith, upper_of_middle new index (subst IsSome (sym inserts.here) refl));
         upper_used = λ i there. elim (cases_eq i (index / 512)) [
           | inl same ↦ (index, index_below, sym same, subst IsSome (sym inserts.here) refl)
           | inr apart ↦
-            let under = directory.upper_used i (subst IsSome (inserts.kept i apart) there) in
-            let other : under.0 ≢ index = λ same. apart (sym under.2 ∙ ap (λ k. k / 512) same) in
-            (under.0, under.1, under.2, subst IsSome (sym (inserts.others under.0 under.1 other)) under.3)
+              let under = directory.upper_used i (subst IsSome (inserts.kept i apart) there) in
+              let other : under.0 ≢ index = λ same. apart (sym under.2 ∙ ap (λ k. k / 512) same) in
+              (under.0, under.1, under.2, subst IsSome (sym (inserts.others under.0 under.1 other)) under.3)
         ];
         middle_used = λ o lt there. elim (cases_eq o index) [
           | inl same ↦ (cell, below, sym same, subst IsSome (sym slot_inserted) refl)
           | inr apart ↦
-            let under = directory.middle_used o lt (subst IsSome (inserts.others o lt apart) there) in
-            let other : under.0 ≢ cell = λ same. apart (sym under.2 ∙ ap (λ c. c / 512) same) in
-            (under.0, under.1, under.2, subst IsSome (sym (slot_kept under.0 under.1 other)) under.3)
+              let under = directory.middle_used o lt (subst IsSome (inserts.others o lt apart) there) in
+              let other : under.0 ≢ cell = λ same. apart (sym under.2 ∙ ap (λ c. c / 512) same) in
+              (under.0, under.1, under.2, subst IsSome (sym (slot_kept under.0 under.1 other)) under.3)
         ];
         counted = sym counted;
         taken = ap (λ k. k + extra) directory.taken ∙ ap (λ k. tables_of (cells_of old) + k) missing
-          ∙ sym (ap tables_of cells_inserted ∙ tables_of-insert (cells_of old) cell slot absent);
+            ∙ sym (ap tables_of cells_inserted ∙ tables_of-insert (cells_of old) cell slot absent);
         middles_taken = middles_counted ∙ ap (λ k. k + cond (shares (2 ^ 9) (keys (cells_of old)) cell) 0 1) directory.middles_taken
-          ∙ sym (ap middle_tables_of cells_inserted ∙ middle_tables_of-insert (cells_of old) cell slot absent);
+            ∙ sym (ap middle_tables_of cells_inserted ∙ middle_tables_of-insert (cells_of old) cell slot absent);
       }

@@ -105,9 +105,9 @@ top_there levels c cs some =
 top_absent : (levels : Levels) (n : ℕ) → IsDirectory levels n → keys (cells_of levels) ≡ [] → is_some levels.top ≡ false
 top_absent levels n directory none = elim (cases_Bool (is_some levels.top)) [
   | inl there ↦
-    let used = directory.top_used there in
-    let other = slot_under levels n directory used.0 used.1 (entry_in levels.top used.0) refl used.2 in
-    absurd (no_key (cells_of levels) other.0 none (key_of_cell levels other.0 other.1 other.3))
+      let used = directory.top_used there in
+      let other = slot_under levels n directory used.0 used.1 (entry_in levels.top used.0) refl used.2 in
+      absurd (no_key (cells_of levels) other.0 none (key_of_cell levels other.0 other.1 other.3))
   | inr absent ↦ absent
 ]
 

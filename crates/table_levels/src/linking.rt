@@ -34,20 +34,20 @@ fn put_if_some(place: &mut Option<Frame>, fresh: Option<Frame>)
 /// Names the middle table of 512 cells, by the fresh tables above it.
 pub(crate) fn link_upper(
     top: &mut Option<Frame>,
-    uppers: &mut [Option<Frame>],
+    uppers: &mut Vec<Option<Frame>>,
     index: u32,
     fresh_top: Option<Frame>,
     fresh_upper: Option<Frame>,
     middle: u32,
 )
     requires index { index < 2 ^ 18 }
-    requires places { length uppers.old ≡ 512 }
-    requires names { NamesUppers top.old uppers.old }
-    requires named { AreNamed top.old uppers.old }
+    requires places { length uppers.old.items ≡ 512 }
+    requires names { NamesUppers top.old uppers.old.items }
+    requires named { AreNamed top.old uppers.old.items }
     requires top_fresh { IsFresh (not (is_some top.old)) fresh_top }
     requires upper_fresh { IsFresh (not (is_some (entry_in top.old (index / 512)))) fresh_upper }
-    ensures added { AddsMiddle top.old uppers.old top.new uppers.new index middle }
-    ensures counted { tables_at (top.new ∷ uppers.new) ≡ tables_at (top.old ∷ uppers.old) + tables_at (fresh_top ∷ fresh_upper ∷ []) }
+    ensures added { AddsMiddle top.old uppers.old.items top.new uppers.new.items index middle }
+    ensures counted { tables_at (top.new ∷ uppers.new.items) ≡ tables_at (top.old ∷ uppers.old.items) + tables_at (fresh_top ∷ fresh_upper ∷ []) }
 {
     let upper = index as usize / ENTRIES;
     put_if_some(top, fresh_top);
@@ -58,18 +58,18 @@ pub(crate) fn link_upper(
 
 /// Names the slot of a cell in its middle table, which may be fresh.
 pub(crate) fn link_middle(
-    middles: &mut [Option<Frame>],
+    middles: &mut Vec<Option<Frame>>,
     place: usize,
     fresh: Option<Frame>,
     i: usize,
     slot: u32,
 )
-    requires place { place < length middles.old }
+    requires place { place < length middles.old.items }
     requires inside { i < 512 }
-    requires there { IsSome (option_or fresh (table_at middles.old place)) }
-    requires free { IsSome fresh → table_at middles.old place ≡ None }
-    ensures put { PutsMiddle middles.old middles.new place fresh i slot }
-    ensures counted { tables_at middles.new ≡ tables_at middles.old + tables_at (fresh ∷ []) }
+    requires there { IsSome (option_or fresh (table_at middles.old.items place)) }
+    requires free { IsSome fresh → table_at middles.old.items place ≡ None }
+    ensures put { PutsMiddle middles.old.items middles.new.items place fresh i slot }
+    ensures counted { tables_at middles.new.items ≡ tables_at middles.old.items + tables_at (fresh ∷ []) }
 {
     put_if_some(&mut middles[place], fresh);
     set_in(&mut middles[place], i, Some(slot));

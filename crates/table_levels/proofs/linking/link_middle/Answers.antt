@@ -9,8 +9,8 @@ use Rattle.table_levels.proofs.linking.link_middle.Goals as goal
 
 pub returns-clause-counted : goal.returns-clause-counted
 returns-clause-counted c =
-    let middles = c.args.middles.now in
+    let middles = c.args.middles.now.items in
     let put : c.put_if_some.new.place ≡ option_or c.args.fresh (table_at middles c.args.place) =
-    c.put_if_some.ensures ∙ ap (option_or c.args.fresh) (sym (table_at-get middles c.args.place c.index-middles-place.result c.requires.place)) in
+    c.put_if_some.ensures ∙ ap (option_or c.args.fresh) (c.index_mut.ensures.value ∙ sym (table_at-get middles c.args.place c.index_mut.result.now c.requires.place)) in
     put_counted middles c.args.place c.args.fresh c.put_if_some.new.place c.set_in.new.place c.requires.place put
     (subst IsSome (sym put) c.requires.there) c.set_in.ensures.there c.requires.free
