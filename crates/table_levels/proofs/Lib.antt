@@ -6,3 +6,4 @@ pub mod Asking
 pub mod Links
 pub mod Sharing
 pub mod Inserted
+pub mod Linked

@@ -165,3 +165,9 @@ top_counted None new_top (Some table) fresh_upper uppers later there is_fresh co
 top_counted (Some old) new_top None fresh_upper uppers later there is_fresh counted =
     omega (arith, tables_at-cons new_top later, some_counts new_top there, counted)
 top_counted (Some old) new_top (Some table) fresh_upper uppers later there is_fresh counted = absurd is_fresh
+
+-- where every place has a table, there are as many as places
+pub all_full : (places : List Place) → ((k : ℕ) → k < length places → IsSome (table_at places k)) → length places ≤ tables_at places
+all_full [] full = omega arith
+all_full (None ∷ places) full = absurd (false≢true (full 0 (omega arith)))
+all_full (Some table ∷ places) full = let rest : length places ≤ tables_at places = all_full places (λ k lt. full (suc k) (omega arith)) in omega arith

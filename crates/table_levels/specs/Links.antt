@@ -1,7 +1,10 @@
 -- What a table that is put on the way to a cell changes.
-use Rattle.std.specs.Prelude.{◌≡◌, ◌≢◌, ℕ, ◌/◌, ◌<◌, ◌^◌, List, Option, Some, IsSome}
+use Rattle.std.specs.Prelude.{◌≡◌, ◌≢◌, ℕ, ◌+◌, ◌/◌, ◌<◌, ◌^◌, true, not, List, length, Option, Some, IsSome, is_some}
+use Rattle.std.specs.FinMap.{insert, keys}
+use Rattle.table_levels.specs.declared.frames.Wanted.{Wanted}
+use Rattle.table_levels.specs.Requests.{missing_tables}
 use Rattle.std.specs.Option.{option_or}
-use Rattle.table_levels.specs.Walks.{Place, entry_in, table_at, middle_at, NamesUppers, AreNamed}
+use Rattle.table_levels.specs.Walks.{Place, Levels, entry_in, table_at, middle_at, cells_of, tables_in, NamesUppers, AreNamed, AreDirectory}
 
 -- one entry of a table was set, and the others stay
 pub record SetsIn (old new : Place) (i : ℕ) (number : Option ℕ) : Type 0 where
@@ -22,3 +25,13 @@ pub record PutsMiddle (old new : List Place) (place : ℕ) (fresh : Place) (i sl
   pub here : entry_in (table_at new place) i ≡ Some slot
   pub rest : (j : ℕ) → j < 512 → j ≢ i → entry_in (table_at new place) j ≡ entry_in (option_or fresh (table_at old place)) j
   pub others : (other : ℕ) → other ≢ place → table_at new other ≡ table_at old other
+
+-- which tables are missing above a middle table that is missing
+abbrev pub wanted_at : Place → ℕ → Wanted
+wanted_at top upper = record { top = not (is_some top); upper = not (is_some (entry_in top upper)); middle = true }
+
+-- a cell more, with the tables that were missing
+pub record LinksCell (old new : Levels) (cell slot : ℕ) : Type 0 where
+  pub cells : cells_of new ≡ insert (cells_of old) cell slot
+  pub directory : AreDirectory new
+  pub counted : tables_in new ≡ tables_in old + length (missing_tables (keys (cells_of old)) cell)

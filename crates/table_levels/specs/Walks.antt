@@ -24,6 +24,9 @@ pub record Levels : Type 0 where
   pub uppers : List Place
   pub middles : List Place
 
+abbrev pub levels_of : Place → List Place → List Place → Levels
+levels_of top uppers middles = record { top = top; uppers = uppers; middles = middles }
+
 -- the place of the middle table of 512 cells, by its index in all
 abbrev pub middle_at : Place → List Place → ℕ → Option ℕ
 middle_at top uppers index = option_and_then (λ upper. entry_in (table_at uppers upper) (index % 512)) (entry_in top (index / 512))
@@ -77,3 +80,7 @@ pub record IsDirectory (levels : Levels) (tables : ℕ) : Type 0 where
   pub counted : tables ≡ tables_in levels
   pub taken : tables ≡ tables_of (cells_of levels)
   pub middles_taken : tables_at levels.middles ≡ middle_tables_of (cells_of levels)
+
+-- the tables are those of a directory
+abbrev pub AreDirectory : Levels → Type 0
+AreDirectory levels = IsDirectory levels (tables_in levels)

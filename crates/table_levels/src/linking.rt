@@ -1,10 +1,11 @@
 //! Tables put on the way to a cell.
 ghost use Rattle.std.specs.Prelude.{◌≡◌, ◌≢◌, ◌+◌, ◌/◌, ◌<◌, ◌^◌, ◌∷◌, [], ℕ, None, Some, IsSome, is_some, not, length};
 ghost use Rattle.std.specs.Option.{option_or};
-ghost use Rattle.table_levels.specs.Walks.{entry_in, table_at, middle_at, tables_at, NamesUppers, AreNamed};
-ghost use Rattle.table_levels.specs.Fresh.{IsFresh};
-ghost use Rattle.table_levels.specs.Links.{SetsIn, PutsMiddle, AddsMiddle};
+ghost use Rattle.table_levels.specs.Walks.{entry_in, table_at, middle_at, middle_of, tables_at, levels_of, NamesUppers, AreNamed, AreDirectory};
+ghost use Rattle.table_levels.specs.Fresh.{IsFresh, HasFresh};
+ghost use Rattle.table_levels.specs.Links.{SetsIn, PutsMiddle, AddsMiddle, LinksCell, wanted_at};
 
+use crate::frames::Fresh;
 use crate::table::{ENTRIES, set_entry};
 use vm_base::Frame;
 
@@ -47,6 +48,7 @@ pub(crate) fn link_upper(
     requires top_fresh { IsFresh (not (is_some top.old)) fresh_top }
     requires upper_fresh { IsFresh (not (is_some (entry_in top.old (index / 512)))) fresh_upper }
     ensures added { AddsMiddle top.old uppers.old.items top.new uppers.new.items index middle }
+    ensures places { length uppers.new.items ≡ 512 }
     ensures counted { tables_at (top.new ∷ uppers.new.items) ≡ tables_at (top.old ∷ uppers.old.items) + tables_at (fresh_top ∷ fresh_upper ∷ []) }
 {
     let upper = index as usize / ENTRIES;
@@ -69,8 +71,56 @@ pub(crate) fn link_middle(
     requires there { IsSome (option_or fresh (table_at middles.old.items place)) }
     requires free { IsSome fresh → table_at middles.old.items place ≡ None }
     ensures put { PutsMiddle middles.old.items middles.new.items place fresh i slot }
+    ensures places { length middles.new.items ≡ length middles.old.items }
     ensures counted { tables_at middles.new.items ≡ tables_at middles.old.items + tables_at (fresh ∷ []) }
 {
     put_if_some(&mut middles[place], fresh);
     set_in(&mut middles[place], i, Some(slot));
+}
+
+/// A place without a table.
+fn free_place(places: &[Option<Frame>]) -> usize
+    requires { tables_at places.now < length places.now }
+    ensures inside { result < length places.now }
+    ensures free { table_at places.now result ≡ None }
+{
+    for i in 0..places.len() {
+        if places[i].is_none() {
+            return i;
+        }
+    }
+    0
+}
+
+/// Puts fresh tables on the way to a cell that has no middle table, and the slot at its end.
+pub(crate) fn link_cell(
+    top: &mut Option<Frame>,
+    uppers: &mut Vec<Option<Frame>>,
+    middles: &mut Vec<Option<Frame>>,
+    cell: u32,
+    slot: u32,
+    fresh: Fresh,
+)
+    requires cell { cell < 2 ^ 27 }
+    requires directory { AreDirectory (levels_of top.old uppers.old.items middles.old.items) }
+    requires absent { middle_of (levels_of top.old uppers.old.items middles.old.items) (cell / 512) ≡ None }
+    requires fewer { tables_at middles.old.items < 512 }
+    requires fresh { HasFresh (wanted_at top.old (cell / 512 / 512)) fresh }
+    ensures linked { LinksCell (levels_of top.old uppers.old.items middles.old.items) (levels_of top.new uppers.new.items middles.new.items) cell slot }
+{
+    let Fresh {
+        top: fresh_top,
+        upper,
+        middle,
+    } = fresh;
+    let free = free_place(middles);
+    link_upper(
+        top,
+        uppers,
+        cell / ENTRIES as u32,
+        fresh_top,
+        upper,
+        free as u32,
+    );
+    link_middle(middles, free, middle, cell as usize % ENTRIES, slot);
 }

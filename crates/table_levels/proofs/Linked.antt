@@ -1,0 +1,76 @@
+-- A cell that had no middle table is linked.
+use Rattle.std.proofs.Common.{◌≡◌, ◌≢◌, ℕ, ◌+◌, ◌/◌, ◌%◌, ◌^◌, ◌<◌, ◌≤◌, Bool, true, false, not, cond, List, [], ◌∷◌, ◌++◌, length, Some, None, Option, refl, sym, ◌∙◌, ap, subst, arith, length-append}
+use Rattle.std.specs.Prelude.{IsSome, is_some}
+use Rattle.std.specs.Option.{option_and_then, option_or}
+use Rattle.std.specs.FinMap.{get, keys}
+use Rattle.std.proofs.lemmas.Bool.{false≢true}
+use Rattle.vm_base.specs.declared.frame_request.Want.TheVariants.{Top, Upper, Middle}
+use Rattle.table_levels.specs.declared.frames.Fresh.{Fresh}
+use Rattle.table_levels.specs.Requests.{shares, missing_tables, wanted_if, wanted_tables}
+use Rattle.table_levels.specs.Tables.{entry_at}
+use Rattle.table_levels.specs.Walks.{Place, Levels, entry_in, table_at, tables_at, tables_in, levels_of, middle_of, slot_of, cells_of, IsDirectory, AreDirectory}
+use Rattle.table_levels.specs.Fresh.{IsFresh, HasFresh}
+use Rattle.table_levels.specs.Links.{AddsMiddle, PutsMiddle, LinksCell, wanted_at}
+use Rattle.table_levels.proofs.TableLemmas.{entry_at-zeros}
+use Rattle.table_levels.proofs.Walking.{get-cells_of, slot_absent}
+use Rattle.table_levels.proofs.Asking.{fresh_count}
+use Rattle.table_levels.proofs.Sharing.{middle_shared, wanted_are_missing}
+use Rattle.table_levels.proofs.Inserted.{Inserts, cells_inserted, directory_inserted}
+
+-- a fresh table has no entry
+fresh_bare : (old fresh : Place) (j : ℕ) → IsFresh true fresh → entry_in (option_or fresh old) j ≡ None
+fresh_bare old None j is_fresh = absurd is_fresh
+fresh_bare old (Some table) j is_fresh = ap (λ bytes. entry_at bytes j) is_fresh ∙ entry_at-zeros j
+
+pair_counts : (p q : Place) → tables_at (p ∷ q ∷ []) ≡ tables_at (p ∷ []) + tables_at (q ∷ [])
+pair_counts None None = refl
+pair_counts None (Some b) = refl
+pair_counts (Some a) None = refl
+pair_counts (Some a) (Some b) = refl
+
+pub cell_linked : (top new_top : Place) (uppers new_uppers middles new_middles : List Place) (cell slot free : ℕ) (fresh : Fresh)
+    → cell < 2 ^ 27 → AreDirectory (levels_of top uppers middles) → middle_of (levels_of top uppers middles) (cell / 512) ≡ None
+    → HasFresh (wanted_at top (cell / 512 / 512)) fresh → free < length middles → table_at middles free ≡ None
+    → AddsMiddle top uppers new_top new_uppers (cell / 512) free → length new_uppers ≡ 512
+    → tables_at (new_top ∷ new_uppers) ≡ tables_at (top ∷ uppers) + tables_at (fresh.top ∷ fresh.upper ∷ [])
+    → PutsMiddle middles new_middles free fresh.middle (cell % 512) slot → length new_middles ≡ length middles
+    → tables_at new_middles ≡ tables_at middles + tables_at (fresh.middle ∷ [])
+    → LinksCell (levels_of top uppers middles) (levels_of new_top new_uppers new_middles) cell slot
+cell_linked top new_top uppers new_uppers middles new_middles cell slot free fresh below directory absent is_fresh inside is_free added size_uppers counted_uppers put size_middles counted_middles =
+    let old = levels_of top uppers middles in
+    let new = levels_of new_top new_uppers new_middles in
+    let cells = cells_of old in
+    let inserts : Inserts old new cell slot free = record {
+      uppers = size_uppers;
+      middles = size_middles ∙ directory.middles;
+      names = added.names;
+      named = added.named;
+      kept = added.kept;
+      here = added.here;
+      others = added.others;
+      unused = λ index lt apart at. false≢true (subst IsSome is_free (directory.middle_there index free lt at).1);
+      place_below = omega (arith, directory.middles);
+      there = put.there;
+      slot_here = put.here;
+      slot_rest = λ j lt apart. put.rest j lt apart ∙ fresh_bare (table_at middles free) fresh.middle j is_fresh.2
+          ∙ sym (ap (option_and_then (λ m. entry_in (table_at middles m) j)) absent);
+      tables = put.others;
+    } in
+    let no_slot : get cells cell ≡ None = get-cells_of old cell below ∙ slot_absent old cell absent in
+    let one : tables_at (fresh.middle ∷ []) ≡ 1 = fresh_count true Middle fresh.middle is_fresh.2 in
+    let wants : length (wanted_tables (wanted_at top (cell / 512 / 512))) ≡ tables_at (fresh.top ∷ []) + (tables_at (fresh.upper ∷ []) + 1) =
+    length-append (wanted_if (not (is_some top)) Top) (wanted_if (not (is_some (entry_in top (cell / 512 / 512)))) Upper ++ Middle ∷ [])
+    ∙ ap (λ k. length (wanted_if (not (is_some top)) Top) + k) (length-append (wanted_if (not (is_some (entry_in top (cell / 512 / 512)))) Upper) (Middle ∷ []))
+    ∙ ap (λ k. k + (length (wanted_if (not (is_some (entry_in top (cell / 512 / 512)))) Upper) + 1)) (sym (fresh_count (not (is_some top)) Top fresh.top is_fresh.0))
+    ∙ ap (λ k. tables_at (fresh.top ∷ []) + (k + 1)) (sym (fresh_count (not (is_some (entry_in top (cell / 512 / 512)))) Upper fresh.upper is_fresh.1)) in
+    let missing : length (wanted_tables (wanted_at top (cell / 512 / 512))) ≡ length (missing_tables (keys cells) cell) = ap length (wanted_are_missing old (tables_in old) directory cell below absent) in
+    let counted : tables_in new ≡ tables_in old + length (missing_tables (keys cells) cell) = omega (arith, counted_uppers, counted_middles, pair_counts fresh.top fresh.upper, one, wants, missing) in
+    let shared : shares (2 ^ 9) (keys cells) cell ≡ false = middle_shared old (tables_in old) directory cell below ∙ ap is_some absent in
+    let middles_counted : tables_at new_middles ≡ tables_at middles + cond (shares (2 ^ 9) (keys cells) cell) 0 1 =
+    counted_middles ∙ ap (λ k. tables_at middles + k) (one ∙ sym (ap (λ b. cond b 0 1) shared)) in
+    record {
+      cells = cells_inserted old new cell slot free (tables_in old) directory inserts below;
+      directory = subst (IsDirectory new) (sym counted)
+          (directory_inserted old new cell slot free (tables_in old) directory inserts below no_slot (length (missing_tables (keys cells) cell)) counted refl middles_counted);
+      counted = counted;
+    }
