@@ -10,11 +10,11 @@ use Rattle.table_levels.specs.Requests.{shares, missing_tables, wanted_if, wante
 use Rattle.table_levels.specs.Tables.{entry_at}
 use Rattle.table_levels.specs.Walks.{Place, Levels, entry_in, table_at, tables_at, tables_in, levels_of, middle_of, slot_of, cells_of, IsDirectory, AreDirectory}
 use Rattle.table_levels.specs.Fresh.{IsFresh, HasFresh}
-use Rattle.table_levels.specs.Links.{AddsMiddle, PutsMiddle, LinksCell, wanted_at}
+use Rattle.table_levels.specs.Links.{AddsMiddle, PutsMiddle, LinksCell, wanted_at, wanted_for}
 use Rattle.table_levels.proofs.TableLemmas.{entry_at-zeros}
 use Rattle.table_levels.proofs.Walking.{get-cells_of, slot_absent}
 use Rattle.table_levels.proofs.Asking.{fresh_count}
-use Rattle.table_levels.proofs.Sharing.{middle_shared, wanted_are_missing}
+use Rattle.table_levels.proofs.Sharing.{middle_shared, wanted_are_missing, nothing_missing, upper_of_middle, table_of_entry}
 use Rattle.table_levels.proofs.Inserted.{Inserts, cells_inserted, directory_inserted}
 
 -- a fresh table has no entry
@@ -74,3 +74,59 @@ cell_linked top new_top uppers new_uppers middles new_middles cell slot free fre
           (directory_inserted old new cell slot free (tables_in old) directory inserts below no_slot (length (missing_tables (keys cells) cell)) counted refl middles_counted);
       counted = counted;
     }
+
+-- a slot is named in a middle table that is there
+pub slot_linked : (top : Place) (uppers middles new_middles : List Place) (cell slot middle : ℕ) → cell < 2 ^ 27 → AreDirectory (levels_of top uppers middles)
+    → middle_of (levels_of top uppers middles) (cell / 512) ≡ Some middle → slot_of (levels_of top uppers middles) cell ≡ None
+    → PutsMiddle middles new_middles middle None (cell % 512) slot → length new_middles ≡ length middles → tables_at new_middles ≡ tables_at middles + 0
+    → LinksCell (levels_of top uppers middles) (levels_of top uppers new_middles) cell slot
+slot_linked top uppers middles new_middles cell slot middle below directory at absent put size counted_middles =
+    let old = levels_of top uppers middles in
+    let new = levels_of top uppers new_middles in
+    let cells = cells_of old in
+    let index_below : cell / 512 < 2 ^ 18 = omega arith in
+    let inserts : Inserts old new cell slot middle = record {
+      uppers = directory.uppers;
+      middles = size ∙ directory.middles;
+      names = directory.upper_there;
+      named = directory.upper_named;
+      kept = λ i apart. refl;
+      here = at;
+      others = λ index lt apart. refl;
+      unused = λ index lt apart also. apart (directory.middle_once index (cell / 512) middle lt index_below also at);
+      place_below = (directory.middle_there (cell / 512) middle index_below at).0;
+      there = put.there;
+      slot_here = put.here;
+      slot_rest = λ j lt apart. put.rest j lt apart ∙ sym (ap (option_and_then (λ m. entry_in (table_at middles m) j)) at);
+      tables = put.others;
+    } in
+    let there : IsSome (middle_of old (cell / 512)) = subst IsSome (sym at) refl in
+    let no_slot : get cells cell ≡ None = get-cells_of old cell below ∙ absent in
+    let none : length (missing_tables (keys cells) cell) ≡ 0 = ap length (nothing_missing old (tables_in old) directory cell below there) in
+    let counted : tables_in new ≡ tables_in old + length (missing_tables (keys cells) cell) = omega (arith, counted_middles, none) in
+    let shared : shares (2 ^ 9) (keys cells) cell ≡ true = middle_shared old (tables_in old) directory cell below ∙ there in
+    let middles_counted : tables_at new_middles ≡ tables_at middles + cond (shares (2 ^ 9) (keys cells) cell) 0 1 =
+    counted_middles ∙ ap (λ k. tables_at middles + k) (sym (ap (λ b. cond b 0 1) shared)) in
+    record {
+      cells = cells_inserted old new cell slot middle (tables_in old) directory inserts below;
+      directory = subst (IsDirectory new) (sym counted)
+          (directory_inserted old new cell slot middle (tables_in old) directory inserts below no_slot (length (missing_tables (keys cells) cell)) counted refl middles_counted);
+      counted = counted;
+    }
+
+-- what is wanted is what the definition misses
+pub wanted_for_missing : (levels : Levels) (n : ℕ) → IsDirectory levels n → (cell : ℕ) → cell < 2 ^ 27 → wanted_tables (wanted_for levels cell) ≡ missing_tables (keys (cells_of levels)) cell
+wanted_for_missing levels n directory cell below = by_middle (middle_of levels (cell / 512)) refl
+  where
+    by_middle : (found : Option ℕ) → middle_of levels (cell / 512) ≡ found → wanted_tables (wanted_for levels cell) ≡ missing_tables (keys (cells_of levels)) cell
+    by_middle None at =
+        ap (λ b. wanted_tables (record { top = not (is_some levels.top); upper = not (is_some (entry_in levels.top (cell / 512 / 512))); middle = not b })) (ap is_some at)
+        ∙ wanted_are_missing levels n directory cell below at
+    by_middle (Some m) at =
+        let there : IsSome (middle_of levels (cell / 512)) = subst IsSome (sym at) refl in
+        let upper : IsSome (entry_in levels.top (cell / 512 / 512)) = upper_of_middle levels (cell / 512) there in
+        ap (λ b. wanted_tables (record { top = not b; upper = not (is_some (entry_in levels.top (cell / 512 / 512))); middle = not (is_some (middle_of levels (cell / 512))) }))
+        (table_of_entry levels.top (cell / 512 / 512) upper)
+        ∙ ap (λ b. wanted_tables (record { top = false; upper = not b; middle = not (is_some (middle_of levels (cell / 512))) })) upper
+        ∙ ap (λ b. wanted_tables (record { top = false; upper = false; middle = not b })) there
+        ∙ sym (nothing_missing levels n directory cell below there)

@@ -42,7 +42,7 @@ middle_of_slot levels c there = and_then_some (λ m. entry_in (table_at levels.m
 pub upper_of_middle : (levels : Levels) (index : ℕ) → IsSome (middle_of levels index) → IsSome (entry_in levels.top (index / 512))
 upper_of_middle levels index there = and_then_some (λ u. entry_in (table_at levels.uppers u) (index % 512)) (entry_in levels.top (index / 512)) there
 
-table_of_entry : (p : Place) (i : ℕ) → IsSome (entry_in p i) → is_some p ≡ true
+pub table_of_entry : (p : Place) (i : ℕ) → IsSome (entry_in p i) → is_some p ≡ true
 table_of_entry None i there = absurd (false≢true there)
 table_of_entry (Some table) i there = refl
 

@@ -4,7 +4,7 @@ use Rattle.std.specs.FinMap.{insert, keys}
 use Rattle.table_levels.specs.declared.frames.Wanted.{Wanted}
 use Rattle.table_levels.specs.Requests.{missing_tables}
 use Rattle.std.specs.Option.{option_or}
-use Rattle.table_levels.specs.Walks.{Place, Levels, entry_in, table_at, middle_at, cells_of, tables_in, NamesUppers, AreNamed, AreDirectory}
+use Rattle.table_levels.specs.Walks.{Place, Levels, entry_in, table_at, middle_at, middle_of, cells_of, tables_in, NamesUppers, AreNamed, AreDirectory}
 
 -- one entry of a table was set, and the others stay
 pub record SetsIn (old new : Place) (i : ℕ) (number : Option ℕ) : Type 0 where
@@ -29,6 +29,14 @@ pub record PutsMiddle (old new : List Place) (place : ℕ) (fresh : Place) (i sl
 -- which tables are missing above a middle table that is missing
 abbrev pub wanted_at : Place → ℕ → Wanted
 wanted_at top upper = record { top = not (is_some top); upper = not (is_some (entry_in top upper)); middle = true }
+
+-- which tables are missing on the way to a cell
+abbrev pub wanted_for : Levels → ℕ → Wanted
+wanted_for levels cell = record {
+  top = not (is_some levels.top);
+  upper = not (is_some (entry_in levels.top (cell / 512 / 512)));
+  middle = not (is_some (middle_of levels (cell / 512)));
+}
 
 -- a cell more, with the tables that were missing
 pub record LinksCell (old new : Levels) (cell slot : ℕ) : Type 0 where

@@ -6,8 +6,8 @@ ghost use Rattle.vm_base.specs.Deals.{LeadsAlong};
 ghost use Rattle.table_levels.specs.Cells.{tables_of, first_from};
 ghost use Rattle.table_levels.specs.Requests.{missing_tables, all_tables, returned, Asks, Counts};
 
-use crate::frames::{Fresh, Wanted, give_back, take_fresh};
-use crate::linking::{link_middle, link_upper};
+use crate::frames::{Wanted, give_back, take_fresh};
+use crate::linking::link;
 use crate::table::{ENTRIES, entry, first_entry, set_entry};
 use std::alloc::Global;
 use std::marker::Model;
@@ -114,29 +114,22 @@ impl Directory {
         ensures untold { A.grants allot.new ≡ A.grants allot.old }
     {
         let index = cell / ENTRIES as u32;
-        let below = cell as usize % ENTRIES;
-        if let Some(middle) = place_of(&self.top, &self.uppers, index) {
-            link_middle(&mut self.middles, middle as usize, None, below, slot);
-            return Ok(());
-        }
         let wanted = Wanted {
             top: self.top.is_none(),
             upper: named_by(&self.top, index as usize / ENTRIES).is_none(),
-            middle: true,
+            middle: place_of(&self.top, &self.uppers, index).is_none(),
         };
         match take_fresh(wanted, allot) {
-            Ok(Fresh { top, upper, middle }) => {
-                let free = free_place(&self.middles);
+            Ok(fresh) => {
                 self.tables += wanted.count();
-                link_upper(
+                link(
                     &mut self.top,
                     &mut self.uppers,
-                    index,
-                    top,
-                    upper,
-                    free as u32,
+                    &mut self.middles,
+                    cell,
+                    slot,
+                    fresh,
                 );
-                link_middle(&mut self.middles, free, middle, below, slot);
                 Ok(())
             }
             Err(refused) => Err(refused),
@@ -290,7 +283,7 @@ fn named_by(table: &Option<Frame>, i: usize) -> Option<u32>
 }
 
 /// The place of the middle table of 512 cells, by its index in all.
-fn place_of(top: &Option<Frame>, uppers: &[Option<Frame>], index: u32) -> Option<u32>
+pub(crate) fn place_of(top: &Option<Frame>, uppers: &[Option<Frame>], index: u32) -> Option<u32>
     requires index { index < 2 ^ 18 }
     requires places { length uppers.now ≡ 512 }
     requires there { NamesUppers top.now uppers.now }
@@ -301,16 +294,6 @@ fn place_of(top: &Option<Frame>, uppers: &[Option<Frame>], index: u32) -> Option
         Some(_) => named_by(&uppers[upper], index as usize % ENTRIES),
         None => None,
     }
-}
-
-/// A place without a table.
-fn free_place(places: &[Option<Frame>]) -> usize {
-    for (i, table) in places.iter().enumerate() {
-        if table.is_none() {
-            return i;
-        }
-    }
-    0
 }
 
 /// The first cell under an upper table from a cell on, counted from the table's first, with its

@@ -1,10 +1,11 @@
 //! Tables put on the way to a cell.
 ghost use Rattle.std.specs.Prelude.{◌≡◌, ◌≢◌, ◌+◌, ◌/◌, ◌<◌, ◌^◌, ◌∷◌, [], ℕ, None, Some, IsSome, is_some, not, length};
 ghost use Rattle.std.specs.Option.{option_or};
-ghost use Rattle.table_levels.specs.Walks.{entry_in, table_at, middle_at, middle_of, tables_at, levels_of, NamesUppers, AreNamed, AreDirectory};
+ghost use Rattle.table_levels.specs.Walks.{entry_in, table_at, middle_at, middle_of, slot_of, tables_at, levels_of, NamesUppers, AreNamed, AreDirectory};
 ghost use Rattle.table_levels.specs.Fresh.{IsFresh, HasFresh};
-ghost use Rattle.table_levels.specs.Links.{SetsIn, PutsMiddle, AddsMiddle, LinksCell, wanted_at};
+ghost use Rattle.table_levels.specs.Links.{SetsIn, PutsMiddle, AddsMiddle, LinksCell, wanted_at, wanted_for};
 
+use crate::directory::place_of;
 use crate::frames::Fresh;
 use crate::table::{ENTRIES, set_entry};
 use vm_base::Frame;
@@ -33,7 +34,7 @@ fn put_if_some(place: &mut Option<Frame>, fresh: Option<Frame>)
 }
 
 /// Names the middle table of 512 cells, by the fresh tables above it.
-pub(crate) fn link_upper(
+fn link_upper(
     top: &mut Option<Frame>,
     uppers: &mut Vec<Option<Frame>>,
     index: u32,
@@ -59,7 +60,7 @@ pub(crate) fn link_upper(
 }
 
 /// Names the slot of a cell in its middle table, which may be fresh.
-pub(crate) fn link_middle(
+fn link_middle(
     middles: &mut Vec<Option<Frame>>,
     place: usize,
     fresh: Option<Frame>,
@@ -93,7 +94,7 @@ fn free_place(places: &[Option<Frame>]) -> usize
 }
 
 /// Puts fresh tables on the way to a cell that has no middle table, and the slot at its end.
-pub(crate) fn link_cell(
+fn link_cell(
     top: &mut Option<Frame>,
     uppers: &mut Vec<Option<Frame>>,
     middles: &mut Vec<Option<Frame>>,
@@ -123,4 +124,35 @@ pub(crate) fn link_cell(
         free as u32,
     );
     link_middle(middles, free, middle, cell as usize % ENTRIES, slot);
+}
+
+/// Puts fresh tables on the way to a cell, as far as they are missing, and the slot at its end.
+pub(crate) fn link(
+    top: &mut Option<Frame>,
+    uppers: &mut Vec<Option<Frame>>,
+    middles: &mut Vec<Option<Frame>>,
+    cell: u32,
+    slot: u32,
+    fresh: Fresh,
+)
+    requires cell { cell < 2 ^ 27 }
+    requires directory { AreDirectory (levels_of top.old uppers.old.items middles.old.items) }
+    requires absent { slot_of (levels_of top.old uppers.old.items middles.old.items) cell ≡ None }
+    requires fewer { tables_at middles.old.items < 512 }
+    requires fresh { HasFresh (wanted_for (levels_of top.old uppers.old.items middles.old.items) cell) fresh }
+    ensures linked { LinksCell (levels_of top.old uppers.old.items middles.old.items) (levels_of top.new uppers.new.items middles.new.items) cell slot }
+{
+    match place_of(top, uppers, cell / ENTRIES as u32) {
+        Some(middle) => {
+            drop(fresh);
+            link_middle(
+                middles,
+                middle as usize,
+                None,
+                cell as usize % ENTRIES,
+                slot,
+            );
+        }
+        None => link_cell(top, uppers, middles, cell, slot, fresh),
+    }
 }
