@@ -4,7 +4,9 @@ use Rattle.std.specs.Prelude.{IsSome, is_some}
 use Rattle.std.specs.Option.{option_and_then, option_or}
 use Rattle.std.specs.FinMap.{get, keys}
 use Rattle.std.proofs.lemmas.Bool.{false≢true}
+use Rattle.vm_base.specs.declared.frame_request.Want.{Want}
 use Rattle.vm_base.specs.declared.frame_request.Want.TheVariants.{Top, Upper, Middle}
+use Rattle.table_levels.specs.declared.frames.Wanted.{Wanted}
 use Rattle.table_levels.specs.declared.frames.Fresh.{Fresh}
 use Rattle.table_levels.specs.Requests.{shares, missing_tables, wanted_if, wanted_tables}
 use Rattle.table_levels.specs.Tables.{entry_at}
@@ -130,3 +132,39 @@ wanted_for_missing levels n directory cell below = by_middle (middle_of levels (
         ∙ ap (λ b. wanted_tables (record { top = false; upper = not b; middle = not (is_some (middle_of levels (cell / 512))) })) upper
         ∙ ap (λ b. wanted_tables (record { top = false; upper = false; middle = not b })) there
         ∙ sym (nothing_missing levels n directory cell below there)
+
+-- there are no more tables than places, and no more than three are wanted
+pub few_tables : (places : List Place) → tables_at places ≤ length places
+few_tables [] = omega arith
+few_tables (None ∷ places) = let rest : tables_at places ≤ length places = few_tables places in omega arith
+few_tables (Some table ∷ places) = let rest : tables_at places ≤ length places = few_tables places in omega arith
+
+pub few_wanted : (wanted : Wanted) → length (wanted_tables wanted) ≤ 3
+few_wanted wanted =
+    omega (
+      arith,
+      length-append (wanted_if wanted.top Top) (wanted_if wanted.upper Upper ++ wanted_if wanted.middle Middle),
+      length-append (wanted_if wanted.upper Upper) (wanted_if wanted.middle Middle),
+      one_at_most wanted.top Top,
+      one_at_most wanted.upper Upper,
+      one_at_most wanted.middle Middle,
+    )
+  where
+    one_at_most : (is_wanted : Bool) (want : Want) → length (wanted_if is_wanted want) ≤ 1
+    one_at_most true want = omega arith
+    one_at_most false want = omega arith
+
+test_turned : (test held : Bool) → held ≡ not test → test ≡ not held
+test_turned true true is = sym is
+test_turned true false is = refl
+test_turned false true is = refl
+test_turned false false is = is
+
+-- three tests make the tables that are wanted
+pub wanted_same : (levels : Levels) (cell : ℕ) (top upper middle : Bool) → is_some levels.top ≡ not top → is_some (entry_in levels.top (cell / 512 / 512)) ≡ not upper
+    → is_some (middle_of levels (cell / 512)) ≡ not middle → ◌≡◌ {A = Wanted} (record { top = top; upper = upper; middle = middle }) (wanted_for levels cell)
+wanted_same levels cell top upper middle top_is upper_is middle_is =
+    ap (λ (b : Bool). let w : Wanted = record { top = b; upper = upper; middle = middle } in w) (test_turned top (is_some levels.top) top_is)
+    ∙ ap (λ (b : Bool). let w : Wanted = record { top = not (is_some levels.top); upper = b; middle = middle } in w) (test_turned upper (is_some (entry_in levels.top (cell / 512 / 512))) upper_is)
+    ∙ ap (λ (b : Bool). let w : Wanted = record { top = not (is_some levels.top); upper = not (is_some (entry_in levels.top (cell / 512 / 512))); middle = b } in w)
+    (test_turned middle (is_some (middle_of levels (cell / 512))) middle_is)
