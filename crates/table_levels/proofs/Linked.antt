@@ -155,7 +155,7 @@ few_wanted wanted =
     one_at_most false want = omega arith
 
 test_turned : (test held : Bool) → held ≡ not test → test ≡ not held
-test_turned true true is = sym is
+test_turned true true is = is
 test_turned true false is = refl
 test_turned false true is = refl
 test_turned false false is = is

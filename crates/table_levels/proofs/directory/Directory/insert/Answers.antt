@@ -20,9 +20,7 @@ pub overflow_add-self : goal.overflow_add-self
 overflow_add-self g c =
     let wanted : Wanted = record { top = c.is_none.result; upper = c.is_none-2.result; middle = c.is_none-3.result } in
     let total : c.self.inside.tables ≡ tables_at (c.self.inside.top ∷ c.self.inside.uppers.items) + tables_at c.self.inside.middles.items = c.self.invariant.counted in
-    let fits : c.self.inside.tables + c.count.result < 2 ^ 32 =
-    omega (arith, total, few_tables (c.self.inside.top ∷ c.self.inside.uppers.items), few_tables c.self.inside.middles.items, c.self.invariant.uppers, c.self.invariant.middles, few_wanted wanted, c.count.ensures) in
-    fits
+    omega (arith, total, few_tables (c.self.inside.top ∷ c.self.inside.uppers.items), few_tables c.self.inside.middles.items, c.self.invariant.uppers, c.self.invariant.middles, few_wanted wanted, c.count.ensures)
 
 pub link-requires-clause-absent : goal.link-requires-clause-absent
 link-requires-clause-absent g c =
