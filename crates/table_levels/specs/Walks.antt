@@ -24,6 +24,7 @@ pub record Levels : Type 0 where
   pub uppers : List Place
   pub middles : List Place
 
+-- the levels of these tables
 abbrev pub levels_of : Place → List Place → List Place → Levels
 levels_of top uppers middles = record { top = top; uppers = uppers; middles = middles }
 
@@ -31,6 +32,7 @@ levels_of top uppers middles = record { top = top; uppers = uppers; middles = mi
 abbrev pub middle_at : Place → List Place → ℕ → Option ℕ
 middle_at top uppers index = option_and_then (λ upper. entry_in (table_at uppers upper) (index % 512)) (entry_in top (index / 512))
 
+-- the same in a directory
 abbrev pub middle_of : Levels → ℕ → Option ℕ
 middle_of levels index = middle_at levels.top levels.uppers index
 
