@@ -14,7 +14,7 @@ pub refuses_alone : {State : Type 0} (goes : State → Deal → State → Type 0
 refuses_alone goes want at old new denied =
     record { front = []; want = want; rest = []; order = refl; deals = one_deal_leads goes (Denied want at) old new denied }
 
-returned-append : (a b : ℕ) → returned a ++ returned b ≡ returned (a + b)
+pub returned-append : (a b : ℕ) → returned a ++ returned b ≡ returned (a + b)
 returned-append zero b = let same : b ≡ zero + b = omega arith in ap returned same
 returned-append (suc a) b = let more : suc (a + b) ≡ suc a + b = omega arith in ap (λ l. Returned ∷ l) (returned-append a b) ∙ ap returned more
 

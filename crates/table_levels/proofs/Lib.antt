@@ -7,3 +7,4 @@ pub mod Links
 pub mod Sharing
 pub mod Inserted
 pub mod Linked
+pub mod Giving

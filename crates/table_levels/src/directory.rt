@@ -6,7 +6,7 @@ ghost use Rattle.vm_base.specs.Deals.{LeadsAlong};
 ghost use Rattle.table_levels.specs.Cells.{tables_of, first_from};
 ghost use Rattle.table_levels.specs.Requests.{missing_tables, all_tables, returned, Asks, Counts};
 
-use crate::frames::{Wanted, give_back, take_fresh};
+use crate::frames::{Wanted, give_all, give_back, take_fresh};
 use crate::linking::link;
 use crate::table::{ENTRIES, entry, first_entry, set_entry};
 use std::alloc::Global;
@@ -228,12 +228,6 @@ impl Directory {
 
 /// How many cells lie under one upper table.
 const UPPER_CELLS: u32 = 1 << 18;
-
-fn give_all<A: Allot>(tables: &mut [Option<Frame>], allot: &mut A) {
-    for i in 0..tables.len() {
-        give_back(tables[i].take(), allot);
-    }
-}
 
 /// Takes an entry out of a table. Where none is left, the table is given back, and it answers so.
 fn clear_entry<A: Allot>(table: &mut Option<Frame>, i: usize, allot: &mut A) -> bool {

@@ -1,5 +1,5 @@
 //! Frames for tables, taken and given back.
-ghost use Rattle.std.specs.Prelude.{◌≡◌, ◌+◌, ◌≤◌, ◌++◌, ◌∷◌, [], None, IfOk, length};
+ghost use Rattle.std.specs.Prelude.{◌≡◌, ◌+◌, ◌≤◌, ◌++◌, ◌∷◌, [], None, IfOk, length, replicate};
 ghost use Rattle.vm_base.specs.declared.frame_request.Want.TheVariants.{Top, Upper, Middle};
 ghost use Rattle.vm_base.specs.Deals.{LeadsAlong};
 ghost use Rattle.table_levels.specs.Requests.{wanted_if, wanted_lower, wanted_tables, returned, Asks, Counts, Adds};
@@ -109,5 +109,19 @@ pub(crate) fn give_back<A: Allot>(table: Option<Frame>, allot: &mut A)
     match table {
         Some(frame) => allot.give(frame),
         None => {}
+    }
+}
+
+/// Gives back the tables of all places, which are free then.
+pub(crate) fn give_all<A: Allot>(places: &mut Vec<Option<Frame>>, allot: &mut A)
+    requires { tables_at places.old.items ≤ A.out (A.state allot.old) }
+    ensures free { places.new.items ≡ replicate (length places.old.items) None }
+    ensures given { LeadsAlong A.goes (A.state allot.old) (returned (tables_at places.old.items)) (A.state allot.new) }
+    ensures out { A.out (A.state allot.new) + tables_at places.old.items ≡ A.out (A.state allot.old) }
+    ensures unrefused { A.refused (A.state allot.new) ≡ A.refused (A.state allot.old) }
+    ensures untold { A.grants allot.new ≡ A.grants allot.old }
+{
+    for i in 0..places.len() {
+        give_back(places[i].take(), allot);
     }
 }
