@@ -29,7 +29,7 @@ table_at-beyond (p ∷ places) zero beyond = absurd (omega arith)
 table_at-beyond (p ∷ places) (suc i) beyond = table_at-beyond places i (omega arith)
 
 -- ---- how many tables
-tables_at-cons : (p : Place) (places : List Place) → tables_at (p ∷ places) ≡ tables_at (p ∷ []) + tables_at places
+pub tables_at-cons : (p : Place) (places : List Place) → tables_at (p ∷ places) ≡ tables_at (p ∷ []) + tables_at places
 tables_at-cons None places = omega arith
 tables_at-cons (Some table) places = omega arith
 
