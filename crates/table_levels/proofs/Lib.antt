@@ -8,3 +8,4 @@ pub mod Sharing
 pub mod Inserted
 pub mod Linked
 pub mod Giving
+pub mod First

@@ -1,6 +1,5 @@
 -- The count is what the cells take.
 use Rattle.std.proofs.Common.{◌∙◌, ap}
-use Rattle.table_levels.proofs.Linked.{cell_linked}
 use Rattle.table_levels.specs.Cells.{tables_of}
 use Rattle.table_levels.proofs.directory.Directory.tables.Goals as goal
 
