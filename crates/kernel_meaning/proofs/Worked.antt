@@ -1,0 +1,208 @@
+-- Small cases of the definitions, worked out.
+use Rattle.std.proofs.Common.{◌≡◌, ℕ, List, [], ◌∷◌, ◌++◌, map, replicate, take, inr, lit<, refl}
+use Rattle.std.specs.Prelude.{Some, None, true, false}
+use Rattle.vm_base.specs.declared.fork_mode.Mode.{Mode}
+use Rattle.vm_base.specs.declared.fork_mode.Mode.TheVariants.{Eager, OnDemand, Async}
+use Rattle.vm_base.specs.declared.frame_request.Want.TheVariants as want
+use Rattle.vm_base.specs.declared.frame_request.Asker.TheVariants.{Parent}
+use Rattle.vm_base.specs.Deals.{Granted, Denied, Returned}
+use Rattle.vm_base.specs.TwoSides.{Loss}
+use Rattle.kernel_meaning.specs.Requests.{Answer, Yes, No, opening_requests}
+use Rattle.kernel_meaning.specs.Leaves.{Leaf, Own, Lost, CellLeaves, unused_cell, version_at, share}
+use Rattle.kernel_meaning.specs.CellActs.{Course, opening_course, touched, cleared, protected, forked, copied, dropped, unmarked, Copied, NothingToCopy, FoundLost, CopyRefused, copy_end}
+use Rattle.kernel_meaning.specs.FrameLaw.{Leaves, held_frames, losses_of, lacks_slots}
+use Rattle.kernel_meaning.specs.EventRequests.{Progress, opening_progress, pages_touched, snapshot_forked, snapshot_copied, snapshot_dropped, pages_unmapped, pages_protected}
+use Rattle.kernel_meaning.specs.RefusedRequests.{answers_from, refused_numbers, requests_of, out_after, is_forced}
+use Rattle.kernel_meaning.specs.CellAccount.{CellAct, CellEntry, Touch, Fork, Copy, Drop, account_of, account_share, AreEntries}
+use Rattle.kernel_meaning.specs.PoolAccount.{PoolAct, PoolEntry, Take, Give, Allow, Parted, Reaped, Lent, NoneFree, pool_account_of, frames_out, load, ArePoolEntries}
+
+-- ---- one cell, act after act
+
+-- an act on a cell behind so many requests, with these answers
+abbrev on : CellLeaves → ℕ → List Answer → Course
+on cell made answers = opening_course cell (opening_requests made answers)
+
+-- a page that was never touched: the parent's leaf, and the page
+abbrev one_page : Course
+one_page = touched 0 (on unused_cell 0 [])
+
+a_first_touch : (one_page.requests.deals ≡ Granted want.Leaf ∷ Granted want.Page ∷ []) × (share one_page.cell ≡ 2) × (version_at one_page.cell.parent 0 ≡ Some 2)
+a_first_touch = (refl, refl, refl)
+
+-- where the page is refused, the leaf that was taken for it goes back
+a_refused_touch : ((touched 0 (on unused_cell 0 (Yes ∷ No 1 ∷ []))).requests.deals ≡ Granted want.Leaf ∷ Denied want.Page 1 ∷ Returned ∷ []) × ((touched 0 (on unused_cell 0 (Yes ∷ No 1 ∷ []))).cell ≡ unused_cell)
+a_refused_touch = (refl, refl)
+
+-- a page that no snapshot names takes no frame when it is touched again
+a_touch_in_place : (touched 0 one_page).requests.deals ≡ one_page.requests.deals
+a_touch_in_place = refl
+
+-- an eager fork takes a leaf, and the first write behind it a copy of the page
+abbrev eager_fork : Course
+eager_fork = forked 1 Eager one_page
+
+an_eager_fork_and_a_write : (share eager_fork.cell ≡ 3) × (share (touched 0 eager_fork).cell ≡ 4) × (share (dropped 1 (touched 0 eager_fork)).cell ≡ 2) × (version_at (touched 0 eager_fork).cell.parent 0 ≡ Some 4)
+an_eager_fork_and_a_write = (refl, refl, refl, refl)
+
+-- the copy is due once: the snapshot names the old version, and no one the new
+no_second_copy : (touched 0 (touched 0 eager_fork)).cell ≡ (touched 0 eager_fork).cell
+no_second_copy = refl
+
+-- any other fork takes nothing; a page that was absent costs the copy of the leaf, and that stays where the page is refused
+abbrev lazy_fork : Mode → Course
+lazy_fork mode = forked 1 mode (on one_page.cell 2 (Yes ∷ No 1 ∷ []))
+
+a_copied_leaf_stays : (share (lazy_fork OnDemand).cell ≡ 2) × ((touched 5 (lazy_fork OnDemand)).requests.deals ≡ Granted want.Leaf ∷ Denied want.Page 1 ∷ []) × (share (touched 5 (lazy_fork OnDemand)).cell ≡ 3) × ((touched 5 (lazy_fork OnDemand)).refused ≡ Some 1)
+a_copied_leaf_stays = (refl, refl, refl, refl)
+
+-- a child copies what is marked, and nothing else
+a_marked_leaf_is_copied : (copy_end 1 (lazy_fork Async) ≡ Copied) × (share (copied 1 (lazy_fork Async)).cell ≡ 3) × (copy_end 1 (copied 1 (lazy_fork Async)) ≡ NothingToCopy) × (copy_end 1 (lazy_fork OnDemand) ≡ NothingToCopy) × (copy_end 2 (lazy_fork Async) ≡ NothingToCopy)
+a_marked_leaf_is_copied = (refl, refl, refl, refl, refl)
+
+-- a refused copy of the child leaves the mark; a refused copy of the parent loses the cell
+abbrev refused_fork : Course
+refused_fork = forked 1 Async (on one_page.cell 2 (No 3 ∷ []))
+
+refused_copies : (copy_end 1 refused_fork ≡ CopyRefused 3) × ((copied 1 refused_fork).cell ≡ refused_fork.cell) × (copy_end 1 (touched 0 refused_fork) ≡ FoundLost 3) × ((touched 0 refused_fork).refused ≡ None) × (share (touched 0 refused_fork).cell ≡ 2)
+refused_copies = (refl, refl, refl, refl, refl)
+
+-- the copies of a change: on-demand forks first, then async forks, each in rising order of numbers
+abbrev three_forks : Course
+three_forks = forked 7 OnDemand (forked 5 Async (forked 3 OnDemand (on one_page.cell 2 (No 1 ∷ No 2 ∷ No 3 ∷ []))))
+
+-- the leaf of each snapshot there
+abbrev leaves_of : Course → List Leaf
+leaves_of course = map (λ kept. kept.leaf) course.cell.kept
+
+order_of_copies : leaves_of (touched 0 three_forks) ≡ Lost 1 ∷ Lost 3 ∷ Lost 2 ∷ []
+order_of_copies = refl
+
+-- one refused copy of a page loses every snapshot whose own leaf names the version, and what they alone named is free at once
+abbrev two_forks : Course
+two_forks = forked 2 Eager (forked 1 Eager (on one_page.cell 2 (Yes ∷ Yes ∷ No 1 ∷ [])))
+
+two_losses : (leaves_of (touched 0 two_forks) ≡ Lost 1 ∷ Lost 1 ∷ []) × ((touched 0 two_forks).requests.deals ≡ Granted want.Leaf ∷ Granted want.Leaf ∷ Denied want.Page 1 ∷ Returned ∷ Returned ∷ []) × (share (touched 0 two_forks).cell ≡ 2)
+two_losses = (refl, refl, refl)
+
+-- a range without a present page is no change; the last page of a cell takes the leaf with it, and the snapshot keeps the page
+clears : ((cleared 1 511 (lazy_fork Async)).cell ≡ (lazy_fork Async).cell) × ((protected 1 511 (lazy_fork Async)).cell ≡ (lazy_fork Async).cell) × (leaves_of (protected 0 2 (lazy_fork Async)) ≡ Own ∷ []) × ((cleared 0 1 (lazy_fork Async)).requests.deals ≡ Granted want.Leaf ∷ Returned ∷ []) × (share (cleared 0 1 (lazy_fork Async)).cell ≡ 2)
+clears = (refl, refl, refl, refl, refl)
+
+-- a mark that is taken away leaves what was there before the fork
+a_mark_taken_away : (unmarked 1 (lazy_fork Async)).cell ≡ one_page.cell
+a_mark_taken_away = refl
+
+-- ---- events, over all cells
+
+-- an event behind so many requests, with these answers
+abbrev begun : Leaves → ℕ → List Answer → Progress
+begun leaves made answers = opening_progress leaves (opening_requests made answers)
+
+-- a write to page 256, where nothing was present
+abbrev written : List Answer → Progress
+written answers = pages_touched 256 1 (begun [] 0 answers)
+
+the_tables_of_a_walk : (written []).requests.deals ≡ Granted want.Top ∷ Granted want.Upper ∷ Granted want.Middle ∷ Granted want.Leaf ∷ Granted want.Page ∷ []
+the_tables_of_a_walk = refl
+
+held_after_a_write : held_frames (written []).leaves ≡ 5
+held_after_a_write = refl
+
+-- a fork, the parent's write behind it, and the drop
+abbrev fork_write_drop : Mode → List Answer → List ℕ
+fork_write_drop mode answers =
+    let forked = snapshot_forked 1 mode (written answers) in
+    let written = pages_touched 256 1 forked in
+    held_frames forked.leaves ∷ held_frames written.leaves ∷ held_frames (snapshot_dropped 1 written).leaves ∷ []
+
+eager_counts : fork_write_drop Eager [] ≡ 9 ∷ 10 ∷ 5 ∷ []
+eager_counts = refl
+
+on_demand_counts : fork_write_drop OnDemand [] ≡ 8 ∷ 10 ∷ 5 ∷ []
+on_demand_counts = refl
+
+-- the copy of the page is refused, which is request 10 in eager mode: the snapshot has lost the cell
+eager_counts_at_a_loss : fork_write_drop Eager (answers_from (10 ∷ []) 0 0) ≡ 9 ∷ 8 ∷ 5 ∷ []
+eager_counts_at_a_loss = refl
+
+-- a touch of many pages that the machine can't hold takes nothing: 8 frames, of which 3 and 1 and 4 are taken before the fifth page is refused
+a_touch_taken_back : (held_frames (pages_touched 256 5 (begun [] 0 (answers_from (9 ∷ []) 0 0))).leaves ≡ 0) × ((pages_touched 256 5 (begun [] 0 (answers_from (9 ∷ []) 0 0))).leaves ≡ []) × ((pages_touched 256 5 (begun [] 0 (answers_from (9 ∷ []) 0 0))).refused ≡ Some (record { at = 1; page = Some 260 }))
+a_touch_taken_back = (refl, refl, refl)
+
+-- a range across two cells: the second has its leaf, but no table of the directory
+two_cells : held_frames (pages_touched 511 2 (begun [] 0 [])).leaves ≡ 7
+two_cells = refl
+
+-- a refused fork leaves nothing behind, whichever of its requests it is
+a_refused_fork : ((snapshot_forked 1 Async (written (answers_from (8 ∷ []) 0 0))).leaves ≡ (written []).leaves) × (out_after 0 (snapshot_forked 1 Async (written (answers_from (8 ∷ []) 0 0))).requests.deals ≡ 5) × (refused_numbers 0 (snapshot_forked 1 Async (written (answers_from (8 ∷ []) 0 0))).requests.deals ≡ 8 ∷ [])
+a_refused_fork = (refl, refl, refl)
+
+-- an async fork; the page is pages_unmapped, and mapped and written anew
+abbrev unmapped_and_written : Progress
+unmapped_and_written = pages_touched 256 1 (pages_unmapped 256 1 (snapshot_forked 1 Async (written [])))
+
+an_unmap_keeps_the_snapshot : (held_frames (pages_unmapped 256 1 (snapshot_forked 1 Async (written []))).leaves ≡ 5) × (held_frames unmapped_and_written.leaves ≡ 10) × (held_frames (pages_protected 256 1 (snapshot_forked 1 Async (written []))).leaves ≡ 9)
+an_unmap_keeps_the_snapshot = (refl, refl, refl)
+
+-- the child's copy, and the write behind it
+copied_and_written : (held_frames (snapshot_copied 1 0 (snapshot_forked 1 Async (written []))).leaves ≡ 9) × (held_frames (pages_touched 256 1 (snapshot_copied 1 0 (snapshot_forked 1 Async (written [])))).leaves ≡ 10)
+copied_and_written = (refl, refl)
+
+-- two forks with a write between them: each has its own version, and the parent a third
+abbrev two_async_forks : Progress
+two_async_forks = snapshot_forked 2 Async (pages_touched 256 1 (snapshot_forked 1 Async (written [])))
+
+two_snapshots : (held_frames two_async_forks.leaves ≡ 13) × (held_frames (pages_touched 256 1 two_async_forks).leaves ≡ 15) × (held_frames (snapshot_dropped 1 (pages_touched 256 1 two_async_forks)).leaves ≡ 10) × (held_frames (snapshot_dropped 2 (snapshot_dropped 1 (pages_touched 256 1 two_async_forks))).leaves ≡ 5)
+two_snapshots = (refl, refl, refl, refl)
+
+abbrev loss : ℕ → ℕ → ℕ → Loss
+loss snapshot cell at = record { snapshot = snapshot; cell = cell; at = at }
+
+-- an async and an on-demand fork, and a write of which one request is refused: 12 is the copy of the second leaf, 14 the copy of the page
+abbrev write_behind_two_modes : List ℕ → Progress
+write_behind_two_modes refused = pages_touched 256 1 (snapshot_forked 2 OnDemand (snapshot_forked 1 Async (written (answers_from refused 0 0))))
+
+refused_behind_two_modes : (held_frames (write_behind_two_modes []).leaves ≡ 14) × (held_frames (write_behind_two_modes (12 ∷ [])).leaves ≡ 13) × (losses_of (write_behind_two_modes (12 ∷ [])).leaves ≡ loss 2 0 1 ∷ []) × (held_frames (write_behind_two_modes (14 ∷ [])).leaves ≡ 11) × (losses_of (write_behind_two_modes (14 ∷ [])).leaves ≡ loss 1 0 1 ∷ loss 2 0 1 ∷ [])
+refused_behind_two_modes = (refl, refl, refl, refl, refl)
+
+-- nine frames of which all are out: the next request is forced to be refused, and the one before was not
+forced_requests : (map (is_forced 9) (requests_of Parent None 7 8 (Granted want.Leaf ∷ Denied want.Page 1 ∷ Returned ∷ Granted want.Page ∷ [])) ≡ false ∷ true ∷ false ∷ []) × (map (is_forced 64) (requests_of Parent (Some 9) 7 8 (Granted want.Leaf ∷ Denied want.Page 1 ∷ [])) ≡ false ∷ true ∷ [])
+forced_requests = (refl, refl)
+
+-- one slot: a second cell has none, and the first needs none
+slots : (lacks_slots 1 [] (0 ∷ []) ≡ false) × (lacks_slots 1 [] (0 ∷ 1 ∷ []) ≡ true) × (lacks_slots 1 (written []).leaves (0 ∷ []) ≡ false) × (lacks_slots 1 (written []).leaves (1 ∷ []) ≡ true)
+slots = (refl, refl, refl, refl)
+
+-- ---- accounts
+
+abbrev entry : CellAct → ℕ → List Answer → CellEntry
+entry act seat answers = record { act = act; seat = seat; answers = answers }
+
+-- a page is touched, an async fork names seat 3, which copies and drops
+abbrev log : List CellEntry
+log = entry (Touch 0) 0 (Yes ∷ Yes ∷ []) ∷ entry (Fork 1 Async 3) 0 [] ∷ entry (Copy 1) 3 (Yes ∷ []) ∷ entry (Touch 0) 0 (Yes ∷ []) ∷ entry (Drop 1) 3 [] ∷ []
+
+the_account_of_a_cell : (account_share (account_of log) ≡ 2) × ((account_of log).made ≡ 4) × (account_share (account_of (take 4 log)) ≡ 4)
+the_account_of_a_cell = (refl, refl, refl)
+
+-- each of these entries may stand where it stands
+the_log_is_one : AreEntries log
+the_log_is_one = (record { seat = refl; answers = refl }, (record { seat = refl; answers = refl }, (record { seat = refl; answers = refl }, (record { seat = refl; answers = refl }, (record { seat = refl; answers = refl }, tt)))))
+
+abbrev dealt : PoolAct → ℕ → PoolEntry
+dealt act seat = record { act = act; seat = seat }
+
+-- the parent takes five frames and three for the directory of snapshot 1, which may take one leaf, takes it, gives all four back and parts
+abbrev pool_log : List PoolEntry
+pool_log = replicate 8 (dealt (Take want.Page Lent) 0) ++ dealt (Allow 1 2 1) 0 ∷ dealt (Take want.Leaf Lent) 2 ∷ dealt (Take want.Leaf NoneFree) 0 ∷ dealt Give 2 ∷ dealt Give 2 ∷ dealt Give 2 ∷ dealt Give 2 ∷ dealt (Parted 1) 2 ∷ dealt (Reaped 1) 0 ∷ []
+
+-- the frames out and the load, behind so many entries
+abbrev out_and_load : ℕ → ℕ × ℕ
+out_and_load n = (frames_out (pool_account_of (take n pool_log)), load (pool_account_of (take n pool_log)))
+
+the_load_of_a_pool : (out_and_load 8 ≡ (8, 8)) × (out_and_load 9 ≡ (8, 9)) × (out_and_load 10 ≡ (9, 9)) × (out_and_load 15 ≡ (5, 9)) × (out_and_load 17 ≡ (5, 5))
+the_load_of_a_pool = (refl, refl, refl, refl, refl)
+
+-- a snapshot takes within its allowance and parts, and is reaped then
+the_pool_log_is_one : ArePoolEntries (dealt (Allow 1 2 1) 0 ∷ dealt (Take want.Leaf Lent) 2 ∷ dealt Give 2 ∷ dealt (Parted 1) 2 ∷ dealt (Reaped 1) 0 ∷ [])
+the_pool_log_is_one = ((refl, lit< tt, refl), (inr ((refl, lit< tt), refl), (inr ((refl, tt), refl), (((refl, refl), refl), ((refl, refl, refl), tt)))))

@@ -1,0 +1,13 @@
+//! What the modelled kernel means where frames are counted: definitions and laws, for any number
+//! of snapshots that live at once and for every mode of fork.
+//!
+//! The main type is `CellLeaves` of `specs/Leaves.antt`: which page of a cell is whose, and what
+//! each snapshot has there. `touched page course` of `specs/CellActs.antt` is one act on it. A
+//! caller may rely on `held_frames` of `specs/FrameLaw.antt`: the frames that are out of the pool
+//! are those that it counts, and no others. The README beside this crate says which definition is
+//! in which file.
+#![tactic(auto)]
+
+mod laws;
+
+pub use laws::{a_present_page_is_touched, frames_lie_in_directories_and_cells};
