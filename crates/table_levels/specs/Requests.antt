@@ -34,13 +34,6 @@ wanted_lower wanted = wanted_if wanted.upper Upper ++ wanted_if wanted.middle Mi
 abbrev pub wanted_tables : Wanted → List Want
 wanted_tables wanted = wanted_if wanted.top Top ++ wanted_lower wanted
 
--- all tables of the directory of these cells: the top table, the upper tables and the middle tables
-abbrev pub all_tables : List ℕ → List Want
-all_tables [] = []
-all_tables (cell ∷ cells) =
-    Top ∷ replicate (length (distinct (map (λ c. c / 2 ^ 18) (cell ∷ cells)))) Upper
-    ++ replicate (length (distinct (map (λ c. c / 2 ^ 9) (cell ∷ cells)))) Middle
-
 -- each want was granted
 abbrev pub granted : List Want → List Deal
 granted wants = map Granted wants

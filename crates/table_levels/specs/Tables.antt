@@ -1,5 +1,5 @@
 -- A table: 4096 bytes as 512 entries of 8 bytes, the least significant byte first.
-use Rattle.std.specs.Prelude.{◌≡◌, ◌≢◌, ℕ, ◌+◌, ◌*◌, ◌<◌, ◌≤◌, ◌==◌, List, drop, Option, Some, None, if◌then◌else◌, MatchOption}
+use Rattle.std.specs.Prelude.{◌≡◌, ◌≢◌, ℕ, ◌*◌, ◌<◌, ◌==◌, List, drop, Option, Some, None, if◌then◌else◌}
 use Rattle.byteorder.specs.Endian.{little_number}
 use Rattle.vm_base.specs.Entries.{number_of, bits_of}
 
@@ -15,13 +15,3 @@ entry_at bytes i = entry_value (little_number 8 (drop (8 * i) bytes))
 pub record SetsEntry (old new : List ℕ) (i : ℕ) (number : Option ℕ) : Type 0 where
   pub here : entry_at new i ≡ number
   pub others : (j : ℕ) → j < 512 → j ≢ i → entry_at new j ≡ entry_at old j
-
--- a table without an entry
-abbrev pub IsBare : List ℕ → Type 0
-IsBare bytes = (i : ℕ) → i < 512 → entry_at bytes i ≡ None
-
--- the lowest entry that is there from a place on, if there is one
-abbrev pub IsFirstFrom : List ℕ → ℕ → Option (ℕ × ℕ) → Type 0
-IsFirstFrom bytes from found =
-    MatchOption found ((i : ℕ) → from ≤ i → i < 512 → entry_at bytes i ≡ None)
-    (λ f. (from ≤ f.0) × (f.0 < 512) × (entry_at bytes f.0 ≡ Some f.1) × ((i : ℕ) → from ≤ i → i < f.0 → entry_at bytes i ≡ None))

@@ -1,17 +1,17 @@
 //! The tables above the leaf tables, seen as a finite map from cells to slots.
-ghost use Rattle.std.specs.Prelude.{◌≡◌, ◌+◌, ◌-◌, ◌<◌, ◌≤◌, ◌^◌, None, Some, IfOk, OnOk, OnErr, replicate, length};
+ghost use Rattle.std.specs.Prelude.{◌≡◌, ◌+◌, ◌<◌, ◌≤◌, ◌^◌, None, Some, IfOk, OnOk, OnErr, replicate, length};
 ghost use Rattle.table_levels.specs.Walks.{entry_in, middle_at, NamesUppers};
 ghost use Rattle.std.specs.FinMap as map;
 ghost use Rattle.vm_base.specs.Deals.{LeadsAlong};
-ghost use Rattle.table_levels.specs.Cells.{tables_of, first_from};
-ghost use Rattle.table_levels.specs.Requests.{missing_tables, all_tables, returned, Asks, Counts};
+ghost use Rattle.table_levels.specs.Cells.{tables_of};
+ghost use Rattle.table_levels.specs.Requests.{missing_tables, returned, Asks, Counts};
 
 use crate::frames::{Wanted, give_all, give_back, take_fresh};
 use crate::linking::link;
-use crate::table::{ENTRIES, entry, first_entry, set_entry};
+use crate::table::{ENTRIES, entry};
 use std::alloc::Global;
 use std::marker::Model;
-use vm_base::{Allot, Frame, NoMemory, Refused, Want};
+use vm_base::{Allot, Frame, NoMemory, Refused};
 
 /// How many cells a directory may have.
 const MOST_CELLS: usize = 512;
@@ -73,29 +73,6 @@ impl Directory {
         }
     }
 
-    /// The least cell that is there and not below this one, with its slot.
-    pub fn at_or_after(&self, cell: u32) -> Option<(u32, u32)>
-        requires { cell < 2 ^ 27 }
-        ensures { result ≡ first_from self.now cell }
-    {
-        let place = Place::of(cell);
-        let top = self.top.as_ref()?;
-        for i in place.top..ENTRIES {
-            if let Some(upper) = entry(top, i) {
-                let from = if i == place.top {
-                    cell % UPPER_CELLS
-                } else {
-                    0
-                };
-                let found = first_in_upper(&self.uppers, &self.middles, upper, from);
-                if let Some((behind, slot)) = found {
-                    return Some((i as u32 * UPPER_CELLS + behind, slot));
-                }
-            }
-        }
-        None
-    }
-
     /// Adds a cell with its slot. It asks for the missing top, upper and middle table in this
     /// order. After `Refused` what was granted has been given back, and the directory is as it was.
     pub fn insert<A: Allot>(&mut self, cell: u32, slot: u32, allot: &mut A) -> Result<(), Refused>
@@ -136,61 +113,6 @@ impl Directory {
         }
     }
 
-    /// Takes a cell out, if it is there. Each table that is left without an entry is given back.
-    pub fn remove<A: Allot>(&mut self, cell: u32, allot: &mut A)
-        requires cell { cell < 2 ^ 27 }
-        requires lent { tables_of self.old ≤ A.out (A.state allot.old) }
-        ensures removed { self.new ≡ map.remove self.old cell }
-
-        // What the allot got back, and what it has afterwards.
-        ensures given { LeadsAlong A.goes (A.state allot.old) (returned (tables_of self.old - tables_of self.new)) (A.state allot.new) }
-        ensures out { A.out (A.state allot.new) + tables_of self.old ≡ A.out (A.state allot.old) + tables_of self.new }
-        ensures unrefused { A.refused (A.state allot.new) ≡ A.refused (A.state allot.old) }
-        ensures untold { A.grants allot.new ≡ A.grants allot.old }
-    {
-        let place = Place::of(cell);
-        let Some(upper) = named_by(&self.top, place.top) else {
-            return;
-        };
-        let Some(middle) = named_by(&self.uppers[upper as usize], place.upper) else {
-            return;
-        };
-        if !clear_entry(&mut self.middles[middle as usize], place.middle, allot) {
-            return;
-        }
-        if !clear_entry(&mut self.uppers[upper as usize], place.upper, allot) {
-            self.tables -= 1;
-            return;
-        }
-        self.tables -= if clear_entry(&mut self.top, place.top, allot) {
-            3
-        } else {
-            2
-        };
-    }
-
-    /// Takes over all cells of another directory. It asks for the top table, the upper tables and
-    /// the middle tables, each level in rising order. After `Refused` what was granted has been
-    /// given back, and the directory is empty as before.
-    pub fn copy_from<A: Allot>(&mut self, other: &Directory, allot: &mut A) -> Result<(), Refused>
-        requires empty { self.old ≡ map.empty }
-        requires untold { A.grants allot.old ≡ None }
-        ensures copied { OnOk result (self.new ≡ other.now) }
-        ensures kept { OnErr result (self.new ≡ map.empty) }
-
-        // What the allot was asked for, and what it has afterwards.
-        ensures requests { Asks A.goes (A.state allot.old) (all_tables (map.keys other.now)) result (A.state allot.new) }
-        ensures counts { Counts A.refused (A.state allot.old) result (A.state allot.new) }
-        ensures out { A.out (A.state allot.new) ≡ A.out (A.state allot.old) + tables_of self.new }
-        ensures untold { A.grants allot.new ≡ A.grants allot.old }
-    {
-        let copied = self.copy_levels(other, allot);
-        if copied.is_err() {
-            self.release(allot);
-        }
-        copied
-    }
-
     /// Gives all tables back. The directory is empty then.
     pub fn release<A: Allot>(&mut self, allot: &mut A)
         requires lent { tables_of self.old ≤ A.out (A.state allot.old) }
@@ -207,62 +129,6 @@ impl Directory {
         give_back(self.top.take(), allot);
         self.tables = 0;
     }
-
-    /// Copies the tables level by level, as far as frames are granted.
-    fn copy_levels<A: Allot>(&mut self, other: &Directory, allot: &mut A) -> Result<(), Refused> {
-        self.tables += copy_table(&mut self.top, &other.top, Want::Top, allot)?;
-        for i in 0..ENTRIES {
-            self.tables += copy_table(&mut self.uppers[i], &other.uppers[i], Want::Upper, allot)?;
-        }
-        for i in 0..MOST_CELLS {
-            self.tables += copy_table(
-                &mut self.middles[i],
-                &other.middles[i],
-                Want::Middle,
-                allot,
-            )?;
-        }
-        Ok(())
-    }
-}
-
-/// How many cells lie under one upper table.
-const UPPER_CELLS: u32 = 1 << 18;
-
-/// Takes an entry out of a table. Where none is left, the table is given back, and it answers so.
-fn clear_entry<A: Allot>(table: &mut Option<Frame>, i: usize, allot: &mut A) -> bool {
-    name_or_clear(table, i, None);
-    let is_left = match &*table {
-        Some(frame) => first_entry(frame, 0).is_some(),
-        None => true,
-    };
-    if is_left {
-        return false;
-    }
-    give_back(table.take(), allot);
-    true
-}
-
-fn name_or_clear(table: &mut Option<Frame>, i: usize, number: Option<u32>) {
-    if let Some(frame) = table {
-        set_entry(frame, i, number);
-    }
-}
-
-/// Copies a table into a frame of its own, if there is one. It answers how many were copied.
-fn copy_table<A: Allot>(
-    table: &mut Option<Frame>,
-    other: &Option<Frame>,
-    want: Want,
-    allot: &mut A,
-) -> Result<u32, Refused> {
-    let Some(other) = other else {
-        return Ok(0);
-    };
-    let mut frame = allot.take(want)?;
-    frame.bytes_mut().copy_from_slice(other.bytes());
-    *table = Some(frame);
-    Ok(1)
 }
 
 /// The entry of a table, if the table is there.
@@ -287,49 +153,6 @@ pub(crate) fn place_of(top: &Option<Frame>, uppers: &[Option<Frame>], index: u32
     match named_by(top, upper) {
         Some(_) => named_by(&uppers[upper], index as usize % ENTRIES),
         None => None,
-    }
-}
-
-/// The first cell under an upper table from a cell on, counted from the table's first, with its
-/// slot.
-fn first_in_upper(
-    uppers: &[Option<Frame>],
-    middles: &[Option<Frame>],
-    upper: u32,
-    from: u32,
-) -> Option<(u32, u32)> {
-    let table = uppers[upper as usize].as_ref()?;
-    let first = from as usize / ENTRIES;
-    for i in first..ENTRIES {
-        if let Some(middle) = entry(table, i) {
-            let low = if i == first {
-                from as usize % ENTRIES
-            } else {
-                0
-            };
-            if let Some((k, slot)) = first_entry(middles[middle as usize].as_ref()?, low) {
-                return Some(((i * ENTRIES + k) as u32, slot));
-            }
-        }
-    }
-    None
-}
-
-/// The indices of a cell in its top, upper and middle table.
-#[derive(Clone, Copy)]
-struct Place {
-    top: usize,
-    upper: usize,
-    middle: usize,
-}
-
-impl Place {
-    fn of(cell: u32) -> Place {
-        Place {
-            top: (cell / (1 << 18)) as usize,
-            upper: (cell / ENTRIES as u32) as usize % ENTRIES,
-            middle: cell as usize % ENTRIES,
-        }
     }
 }
 

@@ -1,7 +1,6 @@
 //! One table: a frame as 512 entries.
-ghost use Rattle.std.specs.Prelude.{◌≡◌, ◌<◌, ◌≤◌, ◌-◌, ℕ, IsTrue, ◌↔◌};
-ghost use Rattle.vm_base.specs.FlatMemory.{zero_page};
-ghost use Rattle.table_levels.specs.Tables.{entry_at, SetsEntry, IsBare, IsFirstFrom};
+ghost use Rattle.std.specs.Prelude.{◌≡◌, ◌<◌};
+ghost use Rattle.table_levels.specs.Tables.{entry_at, SetsEntry};
 
 use byteorder::{ByteOrder, LittleEndian};
 use vm_base::{Bits, Frame, entry_parts, entry_word};
@@ -35,17 +34,4 @@ pub(crate) fn set_entry(table: &mut Frame, i: usize, number: Option<u32>)
     };
     let bytes: &mut [u8] = table.bytes_mut();
     LittleEndian::write_u64(&mut bytes[8 * i..], word);
-}
-
-/// The first entry that is present from a place on, and its number.
-pub(crate) fn first_entry(table: &Frame, from: usize) -> Option<(usize, u32)>
-    requires { from ≤ 512 }
-    ensures { IsFirstFrom table.now.bytes from result }
-{
-    for i in from..ENTRIES {
-        if let Some(number) = entry(table, i) {
-            return Some((i, number));
-        }
-    }
-    None
 }

@@ -1,7 +1,5 @@
 //! Directories over an allot that counts.
-ghost use Rattle.std.specs.Prelude.{◌≡◌, ◌+◌, ◌<◌, ⊤, ℕ, None, IfOk, IfErr, IfSome, OnOk, OnErr};
-ghost use Rattle.vm_base.specs.FlatMemory.{zero_page};
-ghost use Rattle.vm_base.specs.Counts.{next_count};
+ghost use Rattle.std.specs.Prelude.{⊤, ℕ, None};
 
 use super::*;
 use std::alloc::Global;
@@ -72,7 +70,9 @@ const CELLS: [(u32, u32); 7] = [
 ];
 
 #[test]
-fn tables_are_taken_and_given_back_with_their_cells(rt: HostRuntime) -> Result<(), Fail> {
+fn each_cell_takes_its_missing_tables_and_release_gives_all_back(
+    rt: HostRuntime,
+) -> Result<(), Fail> {
     let mut supply = Supply::new(rt.alloc(), 100);
     let mut directory = Directory::new(rt.alloc())?;
     assert_eq!(rt; directory.tables(), 0);
@@ -83,33 +83,21 @@ fn tables_are_taken_and_given_back_with_their_cells(rt: HostRuntime) -> Result<(
         assert_eq!(rt; supply.out, u64::from(tables));
         assert_eq!(rt; directory.find(cell), Some(cell / 7));
     }
+    assert_eq!(rt; directory.find(1), None);
+    directory.release(&mut supply);
+    assert_eq!(rt; directory.tables(), 0);
+    assert_eq!(rt; directory.find(0), None);
+    assert_eq!(rt; supply.out, 0);
     Ok(())
 }
 
-/// A directory of the cells of the table.
-fn filled(alloc: Global, supply: &mut Supply) -> Result<Directory, Fail> {
-    let mut directory = Directory::new(alloc)?;
-    for (cell, _) in CELLS {
-        directory.insert(cell, cell / 7, supply)?;
-    }
-    Ok(directory)
-}
-
 #[test]
-fn the_next_cell_is_found_across_tables(rt: HostRuntime) -> Result<(), Fail> {
-    let mut supply = Supply::new(rt.alloc(), 100);
-    let directory = filled(rt.alloc(), &mut supply)?;
-    let cases = [
-        (0, Some(0)),
-        (1, Some(511)),
-        (512, Some(512)),
-        (514, Some(1 << 18)),
-        ((1 << 18) + 1, Some((1 << 27) - 512)),
-        ((1 << 27) - 511, Some((1 << 27) - 1)),
-    ];
-    for (from, found) in cases {
-        assert_eq!(rt; directory.at_or_after(from).map(|(cell, _)| cell), found);
-    }
+fn the_first_cell_takes_three_tables(rt: HostRuntime) -> Result<(), Fail> {
+    let mut supply = Supply::new(rt.alloc(), 3);
+    let mut directory = Directory::new(rt.alloc())?;
+    assert_eq!(rt; directory.insert(0, 0, &mut supply), Ok(()));
+    assert_eq!(rt; directory.tables(), 3);
+    assert_eq!(rt; directory.find(0), Some(0));
     Ok(())
 }
 
@@ -125,32 +113,5 @@ fn a_refused_insert_gives_back_what_it_took(rt: HostRuntime) -> Result<(), Fail>
         let wants = [Want::Top, Want::Upper, Want::Middle];
         assert_eq!(rt; supply.asked.as_slice(), &wants[..left as usize + 1]);
     }
-    Ok(())
-}
-
-#[test]
-fn a_copy_has_the_cells_and_tables_of_its_source(rt: HostRuntime) -> Result<(), Fail> {
-    let mut supply = Supply::new(rt.alloc(), 15);
-    let mut directory = filled(rt.alloc(), &mut supply)?;
-    let mut copy = Directory::new(rt.alloc())?;
-    assert_eq!(rt;
-        copy.copy_from(&directory, &mut supply),
-        Err(Refused { at: 1 })
-    );
-    assert_eq!(rt; copy.tables(), 0);
-    assert_eq!(rt; supply.out, 8);
-    supply.left = 8;
-    assert_eq!(rt; copy.copy_from(&directory, &mut supply), Ok(()));
-    assert_eq!(rt; copy.tables(), 8);
-    for (cell, _) in CELLS {
-        assert_eq!(rt; copy.find(cell), Some(cell / 7));
-        directory.remove(cell, &mut supply);
-        assert_eq!(rt; directory.find(cell), None);
-    }
-    assert_eq!(rt; directory.tables(), 0);
-    assert_eq!(rt; supply.out, 8);
-    copy.release(&mut supply);
-    assert_eq!(rt; copy.at_or_after(0), None);
-    assert_eq!(rt; supply.out, 0);
     Ok(())
 }
