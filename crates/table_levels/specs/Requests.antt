@@ -7,7 +7,6 @@ use Rattle.table_levels.specs.declared.frames.Wanted.{Wanted}
 use Rattle.vm_base.specs.declared.refusals.Refused.{Refused}
 use Rattle.vm_base.specs.Counts.{next_count}
 use Rattle.vm_base.specs.Deals.{Deal, Granted, Denied, Returned, LeadsAlong}
-use Rattle.vm_base.specs.Places.{distinct}
 
 -- one of the cells lies with this cell under one table that spans so many cells
 abbrev pub shares : ℕ → List ℕ → ℕ → Bool
