@@ -1,10 +1,10 @@
 //! Directories over an allot that counts.
-ghost use Rattle.std.specs.Prelude.{⊤, ℕ, None};
+ghost use Rattle.std.specs.Prelude.{◌<◌, ◌^◌, ⊤, ℕ, None};
 
 use super::*;
 use std::alloc::Global;
 use std::test::Fail;
-use vm_base::{Allot, Frame, Refused, Want};
+use vm_base::{Allot, Frame, NoMemory, Refused, Want};
 
 /// So many frames, and what was asked of them.
 #[derive(Drop)]
@@ -58,60 +58,64 @@ impl Allot for Supply {
     }
 }
 
-/// Cells with the tables that a directory of these and those before takes.
-const CELLS: [(u32, u32); 7] = [
-    (0, 3),
-    (511, 3),
-    (512, 4),
-    (1 << 18, 6),
-    ((1 << 27) - 1, 8),
-    ((1 << 27) - 512, 8),
-    (513, 8),
-];
+/// What an empty directory tells after it was asked for one cell, and the frames that were out
+/// then. The directory has been released since.
+#[derive(Drop)]
+struct Trial {
+    answer: Result<(), Refused>,
+    tables: u32,
+    found: Option<u32>,
+    out: u64,
+    supply: Supply,
+}
 
-#[test]
-fn each_cell_takes_its_missing_tables_and_release_gives_all_back(
-    rt: HostRuntime,
-) -> Result<(), Fail> {
-    let mut supply = Supply::new(rt.alloc(), 100);
-    let mut directory = Directory::new(rt.alloc())?;
-    assert_eq!(rt; directory.tables(), 0);
-    for (cell, tables) in CELLS {
-        assert_eq!(rt; directory.find(cell), None);
-        assert_eq!(rt; directory.insert(cell, cell / 7, &mut supply), Ok(()));
-        assert_eq!(rt; directory.tables(), tables);
-        assert_eq!(rt; supply.out, u64::from(tables));
-        assert_eq!(rt; directory.find(cell), Some(cell / 7));
+fn ask_for_first(alloc: Global, left: u32, cell: u32) -> Result<Trial, NoMemory>
+    requires { cell < 2 ^ 27 }
+{
+    let mut supply = Supply::new(alloc, left);
+    let mut directory = Directory::new(alloc)?;
+    let answer = directory.insert(cell, cell / 7, &mut supply);
+    let tables = directory.tables();
+    let found = directory.find(cell);
+    let out = supply.out;
+    if u64::from(tables) <= out {
+        directory.release(&mut supply);
     }
-    assert_eq!(rt; directory.find(1), None);
-    directory.release(&mut supply);
-    assert_eq!(rt; directory.tables(), 0);
-    assert_eq!(rt; directory.find(0), None);
-    assert_eq!(rt; supply.out, 0);
-    Ok(())
+    Ok(Trial {
+        answer,
+        tables,
+        found,
+        out,
+        supply,
+    })
 }
 
 #[test]
-fn the_first_cell_takes_three_tables(rt: HostRuntime) -> Result<(), Fail> {
-    let mut supply = Supply::new(rt.alloc(), 3);
-    let mut directory = Directory::new(rt.alloc())?;
-    assert_eq!(rt; directory.insert(0, 0, &mut supply), Ok(()));
-    assert_eq!(rt; directory.tables(), 3);
-    assert_eq!(rt; directory.find(0), Some(0));
+fn the_first_cell_takes_three_tables_and_release_gives_them_back(
+    rt: HostRuntime,
+) -> Result<(), Fail> {
+    let lowest = ask_for_first(rt.alloc(), 3, 0)?;
+    assert_eq!(rt; lowest.answer, Ok(()));
+    assert_eq!(rt; lowest.tables, 3);
+    assert_eq!(rt; lowest.found, Some(0));
+    assert_eq!(rt; lowest.out, 3);
+    assert_eq!(rt; lowest.supply.out, 0);
+    let highest = ask_for_first(rt.alloc(), 3, (1 << 27) - 1)?;
+    assert_eq!(rt; highest.tables, 3);
+    assert_eq!(rt; highest.found, Some(((1 << 27) - 1) / 7));
     Ok(())
 }
 
 #[test]
 fn a_refused_insert_gives_back_what_it_took(rt: HostRuntime) -> Result<(), Fail> {
+    let wants = [Want::Top, Want::Upper, Want::Middle];
     for left in 0..3 {
-        let mut supply = Supply::new(rt.alloc(), left);
-        let mut directory = Directory::new(rt.alloc())?;
-        assert_eq!(rt; directory.insert(7, 1, &mut supply), Err(Refused { at: 1 }));
-        assert_eq!(rt; directory.tables(), 0);
-        assert_eq!(rt; directory.find(7), None);
-        assert_eq!(rt; supply.out, 0);
-        let wants = [Want::Top, Want::Upper, Want::Middle];
-        assert_eq!(rt; supply.asked.as_slice(), &wants[..left as usize + 1]);
+        let trial = ask_for_first(rt.alloc(), left, 7)?;
+        assert_eq!(rt; trial.answer, Err(Refused { at: 1 }));
+        assert_eq!(rt; trial.tables, 0);
+        assert_eq!(rt; trial.found, None);
+        assert_eq!(rt; trial.out, 0);
+        assert_eq!(rt; trial.supply.asked.as_slice(), &wants[..left as usize + 1]);
     }
     Ok(())
 }
