@@ -1,0 +1,74 @@
+-- The tables that are missing are asked for, and linked where all were granted.
+use Rattle.std.proofs.Common.{◌≡◌, ◌+◌, ◌/◌, ◌^◌, ◌<◌, ◌≤◌, ◌∷◌, not, None, length, refl, sym, ◌∙◌, ap, subst, arith}
+use Rattle.std.specs.Prelude.{is_some}
+use Rattle.std.specs.FinMap as map
+use Rattle.vm_base.specs.Deals.{LeadsAlong}
+use Rattle.table_levels.specs.declared.frames.Wanted.{Wanted}
+use Rattle.table_levels.specs.Cells.{tables_of}
+use Rattle.table_levels.specs.Requests.{granted, missing_tables, wanted_tables, RefusesOne}
+use Rattle.table_levels.specs.Walks.{Levels, entry_in, middle_at, middle_of, slot_of, cells_of, tables_at, tables_in, NamesUppers, IsDirectory, AreDirectory}
+use Rattle.table_levels.specs.Links.{wanted_for}
+use Rattle.table_levels.proofs.Counting.{middle_tables_of-le}
+use Rattle.table_levels.proofs.Walking.{get-cells_of}
+use Rattle.table_levels.proofs.Linked.{wanted_for_missing, few_tables, few_wanted, wanted_same}
+use Rattle.table_levels.proofs.directory.Directory.insert.Goals as goal
+
+pub place_of-requires-clause-there : goal.place_of-requires-clause-there
+place_of-requires-clause-there g c = subst (λ l. NamesUppers c.self.inside.top l) (sym c.deref.ensures.value) c.self.invariant.upper_there
+
+pub overflow_add-self : goal.overflow_add-self
+overflow_add-self g c =
+    let wanted : Wanted = record { top = c.is_none.result; upper = c.is_none-2.result; middle = c.is_none-3.result } in
+    let total : c.self.inside.tables ≡ tables_at (c.self.inside.top ∷ c.self.inside.uppers.items) + tables_at c.self.inside.middles.items = c.self.invariant.counted in
+    omega (arith, total, few_tables (c.self.inside.top ∷ c.self.inside.uppers.items), few_tables c.self.inside.middles.items, c.self.invariant.uppers, c.self.invariant.middles, few_wanted wanted, c.count.ensures)
+
+pub link-requires-clause-absent : goal.link-requires-clause-absent
+link-requires-clause-absent g c =
+    let levels : Levels = record { top = c.self.inside.top; uppers = c.self.inside.uppers.items; middles = c.self.inside.middles.items } in
+    sym (get-cells_of levels c.args.cell c.requires.cell) ∙ ap (λ m. map.get m c.args.cell) c.self.view_is ∙ c.requires.absent
+
+pub link-requires-clause-fewer : goal.link-requires-clause-fewer
+link-requires-clause-fewer g c =
+    let levels : Levels = record { top = c.self.inside.top; uppers = c.self.inside.uppers.items; middles = c.self.inside.middles.items } in
+    let few : map.len (cells_of levels) < 512 = subst (λ m. map.len m < 512) (sym c.self.view_is) c.requires.fewer in
+    omega (arith, c.self.invariant.middles_taken, middle_tables_of-le (cells_of levels), few)
+
+pub invariant_of-self : goal.invariant_of-self
+invariant_of-self g c =
+    let levels : Levels = record { top = c.self.inside.top; uppers = c.self.inside.uppers.items; middles = c.self.inside.middles.items } in
+    let new : Levels = record { top = c.link.new.top; uppers = c.link.new.uppers.items; middles = c.link.new.middles.items } in
+    let asked = wanted_same levels c.args.cell c.is_none.result c.is_none-2.result c.is_none-3.result c.is_none.ensures (ap is_some (sym c.named_by.ensures) ∙ c.is_none-2.ensures)
+    (ap is_some (sym (c.place_of.ensures ∙ ap (λ l. middle_at c.self.inside.top l (c.args.cell / 512)) c.deref.ensures.value)) ∙ c.is_none-3.ensures) in
+    let missing = ap length (ap wanted_tables asked ∙ wanted_for_missing levels c.self.inside.tables c.self.invariant c.args.cell c.requires.cell) in
+    let total : tables_in new ≡ c.self.inside.tables + c.count.result = c.link.ensures.linked.counted ∙ ap (λ n. n + length (missing_tables (map.keys (cells_of levels)) c.args.cell)) (sym c.self.invariant.counted)
+    ∙ ap (λ n. c.self.inside.tables + n) (sym (c.count.ensures ∙ missing)) in
+    subst (IsDirectory new) total c.link.ensures.linked.directory
+
+pub returns-in-Ok-clause-requests : goal.returns-in-Ok-clause-requests
+returns-in-Ok-clause-requests g c =
+    let levels : Levels = record { top = c.self.inside.top; uppers = c.self.inside.uppers.items; middles = c.self.inside.middles.items } in
+    let asked = wanted_same levels c.args.cell c.is_none.result c.is_none-2.result c.is_none-3.result c.is_none.ensures (ap is_some (sym c.named_by.ensures) ∙ c.is_none-2.ensures)
+    (ap is_some (sym (c.place_of.ensures ∙ ap (λ l. middle_at c.self.inside.top l (c.args.cell / 512)) c.deref.ensures.value)) ∙ c.is_none-3.ensures) in
+    let missing = ap wanted_tables asked ∙ wanted_for_missing levels c.self.inside.tables c.self.invariant c.args.cell c.requires.cell
+    ∙ ap (λ m. missing_tables (map.keys m) c.args.cell) c.self.view_is in
+    subst (λ wants. LeadsAlong g.A.Allot.goes (g.A.Allot.state c.args.allot.now) (granted wants) (g.A.Allot.state c.take_fresh.new.allot)) missing c.in-Ok.ensures.requests
+
+pub returns-in-Ok-clause-out : goal.returns-in-Ok-clause-out
+returns-in-Ok-clause-out g c =
+    let levels : Levels = record { top = c.self.inside.top; uppers = c.self.inside.uppers.items; middles = c.self.inside.middles.items } in
+    let new : Levels = record { top = c.link.new.top; uppers = c.link.new.uppers.items; middles = c.link.new.middles.items } in
+    let asked = wanted_same levels c.args.cell c.is_none.result c.is_none-2.result c.is_none-3.result c.is_none.ensures (ap is_some (sym c.named_by.ensures) ∙ c.is_none-2.ensures)
+    (ap is_some (sym (c.place_of.ensures ∙ ap (λ l. middle_at c.self.inside.top l (c.args.cell / 512)) c.deref.ensures.value)) ∙ c.is_none-3.ensures) in
+    let missing = ap length (ap wanted_tables asked ∙ wanted_for_missing levels c.self.inside.tables c.self.invariant c.args.cell c.requires.cell) in
+    let before : tables_of c.args.self.now ≡ tables_in levels = ap tables_of (sym c.self.view_is) ∙ sym c.self.invariant.taken ∙ c.self.invariant.counted in
+    let after : tables_of (cells_of new) ≡ tables_in new = sym c.link.ensures.linked.directory.taken in
+    omega (arith, c.in-Ok.ensures.out, before, after, c.link.ensures.linked.counted, missing)
+
+pub returns-in-Err-clause-requests : goal.returns-in-Err-clause-requests
+returns-in-Err-clause-requests g c =
+    let levels : Levels = record { top = c.self.inside.top; uppers = c.self.inside.uppers.items; middles = c.self.inside.middles.items } in
+    let asked = wanted_same levels c.args.cell c.is_none.result c.is_none-2.result c.is_none-3.result c.is_none.ensures (ap is_some (sym c.named_by.ensures) ∙ c.is_none-2.ensures)
+    (ap is_some (sym (c.place_of.ensures ∙ ap (λ l. middle_at c.self.inside.top l (c.args.cell / 512)) c.deref.ensures.value)) ∙ c.is_none-3.ensures) in
+    let missing = ap wanted_tables asked ∙ wanted_for_missing levels c.self.inside.tables c.self.invariant c.args.cell c.requires.cell
+    ∙ ap (λ m. missing_tables (map.keys m) c.args.cell) c.self.view_is in
+    subst (λ wants. RefusesOne g.A.Allot.goes (g.A.Allot.state c.args.allot.now) wants c.in-Err.refused.at (g.A.Allot.state c.take_fresh.new.allot)) missing c.in-Err.ensures.requests

@@ -1,0 +1,65 @@
+-- The frame requests of a directory, in their order, and what they leave of an allot.
+use Rattle.std.specs.Prelude.{◌≡◌, ℕ, ◌+◌, ◌/◌, ◌^◌, ◌==◌, Bool, List, [], ◌∷◌, ◌++◌, map, length, replicate, Result, Ok, Err, if◌then◌else◌}
+use Rattle.std.specs.List.{list_any}
+use Rattle.vm_base.specs.declared.frame_request.Want.{Want}
+use Rattle.vm_base.specs.declared.frame_request.Want.TheVariants.{Top, Upper, Middle}
+use Rattle.table_levels.specs.declared.frames.Wanted.{Wanted}
+use Rattle.vm_base.specs.declared.refusals.Refused.{Refused}
+use Rattle.vm_base.specs.Counts.{next_count}
+use Rattle.vm_base.specs.Deals.{Deal, Granted, Denied, Returned, LeadsAlong}
+
+-- one of the cells lies with this cell under one table that spans so many cells
+abbrev pub shares : ℕ → List ℕ → ℕ → Bool
+shares span cells cell = list_any (λ part. cell / span == part) (map (λ c. c / span) cells)
+
+-- one table is asked for, unless it is there
+abbrev pub unless : Bool → Want → List Want
+unless there want = if there then [] else want ∷ []
+
+-- the tables that a cell needs beside those of the cells that are there: one of each level for the first cell
+abbrev pub missing_tables : List ℕ → ℕ → List Want
+missing_tables [] cell = Top ∷ Upper ∷ Middle ∷ []
+missing_tables (other ∷ cells) cell = unless (shares (2 ^ 18) (other ∷ cells) cell) Upper ++ unless (shares (2 ^ 9) (other ∷ cells) cell) Middle
+
+-- one table is asked for where it is wanted
+abbrev pub wanted_if : Bool → Want → List Want
+wanted_if is_wanted want = if is_wanted then want ∷ [] else []
+
+-- the upper and the middle table, as far as they are wanted
+abbrev pub wanted_lower : Wanted → List Want
+wanted_lower wanted = wanted_if wanted.upper Upper ++ wanted_if wanted.middle Middle
+
+-- the tables that are wanted, top first
+abbrev pub wanted_tables : Wanted → List Want
+wanted_tables wanted = wanted_if wanted.top Top ++ wanted_lower wanted
+
+-- each want was granted
+abbrev pub granted : List Want → List Deal
+granted wants = map Granted wants
+
+-- so many frames were given back
+abbrev pub returned : ℕ → List Deal
+returned n = replicate n Returned
+
+-- the wants in front were granted, the next was refused, and what was granted was given back
+pub record RefusesOne {State : Type 0} (goes : State → Deal → State → Type 0) (old : State) (wants : List Want) (at : ℕ) (new : State) : Type 0 where
+  pub front : List Want
+  pub want : Want
+  pub rest : List Want
+  pub order : wants ≡ front ++ want ∷ rest
+  pub deals : LeadsAlong goes old (granted front ++ Denied want at ∷ returned (length front)) new
+
+-- the wants were asked for in their order: all were granted, or one was refused
+abbrev pub Asks : {State X : Type 0} → (State → Deal → State → Type 0) → State → List Want → Result X Refused → State → Type 0
+Asks goes old wants (Ok done) new = LeadsAlong goes old (granted wants) new
+Asks goes old wants (Err e) new = RefusesOne goes old wants e.at new
+
+-- the count of refused requests rose by one exactly where the call was refused, and the answer carries it
+abbrev pub Counts : {State X : Type 0} → (State → ℕ) → State → Result X Refused → State → Type 0
+Counts refused old (Ok done) new = refused new ≡ refused old
+Counts refused old (Err e) new = (refused new ≡ next_count (refused old)) × (e.at ≡ refused new)
+
+-- the frames of this user are more by so many where the call was granted, and as many as before where it was refused
+abbrev pub Adds : {State X : Type 0} → (State → ℕ) → State → ℕ → Result X Refused → State → Type 0
+Adds out old n (Ok done) new = out new ≡ out old + n
+Adds out old n (Err e) new = out new ≡ out old

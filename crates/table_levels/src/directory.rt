@@ -1,0 +1,168 @@
+//! The tables above the leaf tables, seen as a finite map from cells to slots.
+ghost use Rattle.std.specs.Prelude.{◌≡◌, ◌+◌, ◌<◌, ◌≤◌, ◌^◌, None, Some, IfOk, OnOk, OnErr, replicate, length};
+ghost use Rattle.table_levels.specs.Walks.{entry_in, middle_at, NamesUppers};
+ghost use Rattle.std.specs.FinMap as map;
+ghost use Rattle.vm_base.specs.Deals.{LeadsAlong};
+ghost use Rattle.table_levels.specs.Cells.{tables_of};
+ghost use Rattle.table_levels.specs.Requests.{missing_tables, returned, Asks, Counts};
+
+use crate::frames::{Wanted, give_all, give_back, take_fresh};
+use crate::linking::link;
+use crate::table::{ENTRIES, entry};
+use std::alloc::Global;
+use std::marker::Model;
+use vm_base::{Allot, Frame, NoMemory, Refused};
+
+/// How many cells a directory may have.
+const MOST_CELLS: usize = 512;
+
+/// A directory, seen as a finite map from cells to slots. An upper table lies at the place of its
+/// index in the top table, a middle table at a place that was free.
+#[derive(Debug, Drop)]
+pub struct Directory {
+    top: Option<Frame>,
+    uppers: Vec<Option<Frame>>,
+    middles: Vec<Option<Frame>>,
+    tables: u32,
+}
+
+impl Model for Directory {
+    ghost use Rattle.std.specs.Prelude.{ℕ};
+    ghost use Rattle.std.specs.Ordering.{nat_cmp};
+    ghost use Rattle.std.specs.Coded.{coded_ℕ};
+    ghost use Rattle.std.specs.FinMap.{FinMap, code};
+    ghost use Rattle.table_levels.specs.Walks.{cells_of, IsDirectory};
+
+    ghost Value = { FinMap nat_cmp ℕ };
+
+    ghost coded = { code coded_ℕ coded_ℕ };
+
+    ghost view = { λ d. cells_of (record { top = d.top; uppers = d.uppers.items; middles = d.middles.items }) };
+
+    ghost invariant = { λ d. IsDirectory (record { top = d.top; uppers = d.uppers.items; middles = d.middles.items }) d.tables };
+}
+
+impl Directory {
+    /// A directory without cells, with the room that it may need.
+    pub fn new(alloc: Global) -> Result<Directory, NoMemory>
+        ensures { IfOk result (λ directory. directory ≡ map.empty) }
+    {
+        Ok(Directory {
+            top: None,
+            uppers: empty_places(alloc)?,
+            middles: empty_places(alloc)?,
+            tables: 0,
+        })
+    }
+
+    /// How many frames the tables take.
+    pub fn tables(&self) -> u32
+        ensures { result ≡ tables_of self.now }
+    {
+        self.tables
+    }
+
+    /// The slot of a cell.
+    pub fn find(&self, cell: u32) -> Option<u32>
+        requires { cell < 2 ^ 27 }
+        ensures { result ≡ map.get self.now cell }
+    {
+        match place_of(&self.top, &self.uppers, cell / ENTRIES as u32) {
+            Some(middle) => named_by(&self.middles[middle as usize], cell as usize % ENTRIES),
+            None => None,
+        }
+    }
+
+    /// Adds a cell with its slot. It asks for the missing top, upper and middle table in this
+    /// order. After `Refused` what was granted has been given back, and the directory is as it was.
+    pub fn insert<A: Allot>(&mut self, cell: u32, slot: u32, allot: &mut A) -> Result<(), Refused>
+        requires cell { cell < 2 ^ 27 }
+        requires absent { map.get self.old cell ≡ None }
+        requires fewer { map.len self.old < 512 }
+        requires lent { tables_of self.old ≤ A.out (A.state allot.old) }
+        requires untold { A.grants allot.old ≡ None }
+        ensures added { OnOk result (self.new ≡ map.insert self.old cell slot) }
+        ensures kept { OnErr result (self.new ≡ self.old) }
+
+        // What the allot was asked for, and what it has afterwards.
+        ensures requests { Asks A.goes (A.state allot.old) (missing_tables (map.keys self.old) cell) result (A.state allot.new) }
+        ensures counts { Counts A.refused (A.state allot.old) result (A.state allot.new) }
+        ensures out { A.out (A.state allot.new) + tables_of self.old ≡ A.out (A.state allot.old) + tables_of self.new }
+        ensures untold { A.grants allot.new ≡ A.grants allot.old }
+    {
+        let index = cell / ENTRIES as u32;
+        let wanted = Wanted {
+            top: self.top.is_none(),
+            upper: named_by(&self.top, index as usize / ENTRIES).is_none(),
+            middle: place_of(&self.top, &self.uppers, index).is_none(),
+        };
+        match take_fresh(wanted, allot) {
+            Ok(fresh) => {
+                self.tables += wanted.count();
+                link(
+                    &mut self.top,
+                    &mut self.uppers,
+                    &mut self.middles,
+                    cell,
+                    slot,
+                    fresh,
+                );
+                Ok(())
+            }
+            Err(refused) => Err(refused),
+        }
+    }
+
+    /// Gives all tables back. The directory is empty then.
+    pub fn release<A: Allot>(&mut self, allot: &mut A)
+        requires lent { tables_of self.old ≤ A.out (A.state allot.old) }
+        ensures empty { self.new ≡ map.empty }
+
+        // What the allot got back, and what it has afterwards.
+        ensures given { LeadsAlong A.goes (A.state allot.old) (returned (tables_of self.old)) (A.state allot.new) }
+        ensures out { A.out (A.state allot.new) + tables_of self.old ≡ A.out (A.state allot.old) }
+        ensures unrefused { A.refused (A.state allot.new) ≡ A.refused (A.state allot.old) }
+        ensures untold { A.grants allot.new ≡ A.grants allot.old }
+    {
+        give_all(&mut self.middles, allot);
+        give_all(&mut self.uppers, allot);
+        give_back(self.top.take(), allot);
+        self.tables = 0;
+    }
+}
+
+/// The entry of a table, if the table is there.
+fn named_by(table: &Option<Frame>, i: usize) -> Option<u32>
+    requires { i < 512 }
+    ensures { result ≡ entry_in table.now i }
+{
+    match table {
+        Some(frame) => entry(frame, i),
+        None => None,
+    }
+}
+
+/// The place of the middle table of 512 cells, by its index in all.
+pub(crate) fn place_of(top: &Option<Frame>, uppers: &[Option<Frame>], index: u32) -> Option<u32>
+    requires index { index < 2 ^ 18 }
+    requires places { length uppers.now ≡ 512 }
+    requires there { NamesUppers top.now uppers.now }
+    ensures { result ≡ middle_at top.now uppers.now index }
+{
+    let upper = index as usize / ENTRIES;
+    match named_by(top, upper) {
+        Some(_) => named_by(&uppers[upper], index as usize % ENTRIES),
+        None => None,
+    }
+}
+
+/// Places for as many tables as a directory may have on a level.
+fn empty_places(alloc: Global) -> Result<Vec<Option<Frame>>, NoMemory>
+    ensures { IfOk result (λ places. places.items ≡ replicate 512 None) }
+{
+    let mut places = Vec::with_capacity(alloc, MOST_CELLS)?;
+    for _made in 0..MOST_CELLS {
+        places.push_reserved(None);
+    }
+    Ok(places)
+}

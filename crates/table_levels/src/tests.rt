@@ -1,0 +1,121 @@
+//! Directories over an allot that counts.
+ghost use Rattle.std.specs.Prelude.{◌<◌, ◌^◌, ⊤, ℕ, None};
+
+use super::*;
+use std::alloc::Global;
+use std::test::Fail;
+use vm_base::{Allot, Frame, NoMemory, Refused, Want};
+
+/// So many frames, and what was asked of them.
+#[derive(Drop)]
+struct Supply {
+    alloc: Global,
+    left: u32,
+    out: u64,
+    refused: u64,
+    asked: Vec<Want>,
+}
+
+impl Supply {
+    fn new(alloc: Global, left: u32) -> Supply {
+        Supply {
+            alloc,
+            left,
+            out: 0,
+            refused: 0,
+            asked: Vec::new(alloc),
+        }
+    }
+}
+
+impl Allot for Supply {
+    ghost State = { ℕ × ℕ };
+
+    ghost state = { λ s. (s.refused, s.out) };
+
+    ghost refused = { λ s. s.0 };
+
+    ghost out = { λ s. s.1 };
+
+    ghost goes = { λ old deal new. ⊤ };
+
+    fn take(&mut self, want: Want) -> Result<Frame, Refused> {
+        let _ = self.asked.push(want);
+        if self.left > 0 && self.out < 1000 {
+            if let Ok(frame) = Frame::new(self.alloc, self.left) {
+                self.left -= 1;
+                self.out += 1;
+                return Ok(frame);
+            }
+        }
+        self.refused = self.refused.saturating_add(1);
+        Err(Refused { at: self.refused })
+    }
+
+    fn give(&mut self, _frame: Frame) {
+        self.left = self.left.saturating_add(1);
+        self.out -= 1;
+    }
+}
+
+/// What an empty directory tells after it was asked for one cell, and the frames that were out
+/// then. The directory has been released since.
+#[derive(Drop)]
+struct Trial {
+    answer: Result<(), Refused>,
+    tables: u32,
+    found: Option<u32>,
+    out: u64,
+    supply: Supply,
+}
+
+fn ask_for_first(alloc: Global, left: u32, cell: u32) -> Result<Trial, NoMemory>
+    requires { cell < 2 ^ 27 }
+{
+    let mut supply = Supply::new(alloc, left);
+    let mut directory = Directory::new(alloc)?;
+    let answer = directory.insert(cell, cell / 7, &mut supply);
+    let tables = directory.tables();
+    let found = directory.find(cell);
+    let out = supply.out;
+    if u64::from(tables) <= out {
+        directory.release(&mut supply);
+    }
+    Ok(Trial {
+        answer,
+        tables,
+        found,
+        out,
+        supply,
+    })
+}
+
+#[test]
+fn the_first_cell_takes_three_tables_and_release_gives_them_back(
+    rt: HostRuntime,
+) -> Result<(), Fail> {
+    let lowest = ask_for_first(rt.alloc(), 3, 0)?;
+    assert_eq!(rt; lowest.answer, Ok(()));
+    assert_eq!(rt; lowest.tables, 3);
+    assert_eq!(rt; lowest.found, Some(0));
+    assert_eq!(rt; lowest.out, 3);
+    assert_eq!(rt; lowest.supply.out, 0);
+    let highest = ask_for_first(rt.alloc(), 3, (1 << 27) - 1)?;
+    assert_eq!(rt; highest.tables, 3);
+    assert_eq!(rt; highest.found, Some(((1 << 27) - 1) / 7));
+    Ok(())
+}
+
+#[test]
+fn a_refused_insert_gives_back_what_it_took(rt: HostRuntime) -> Result<(), Fail> {
+    let wants = [Want::Top, Want::Upper, Want::Middle];
+    for left in 0..3 {
+        let trial = ask_for_first(rt.alloc(), left, 7)?;
+        assert_eq!(rt; trial.answer, Err(Refused { at: 1 }));
+        assert_eq!(rt; trial.tables, 0);
+        assert_eq!(rt; trial.found, None);
+        assert_eq!(rt; trial.out, 0);
+        assert_eq!(rt; trial.supply.asked.as_slice(), &wants[..left as usize + 1]);
+    }
+    Ok(())
+}
