@@ -1,0 +1,4 @@
+pub mod Places
+pub mod CellView
+pub mod Renaming
+pub mod Standing

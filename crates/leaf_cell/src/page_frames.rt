@@ -1,0 +1,1 @@
+//! The page frames of a cell, each at a place.
