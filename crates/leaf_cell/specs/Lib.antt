@@ -1,4 +1,7 @@
 pub mod Places
 pub mod CellView
+pub mod Inside
 pub mod Renaming
 pub mod Standing
+pub mod States
+pub mod Codes

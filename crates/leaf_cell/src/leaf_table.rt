@@ -1,8 +1,8 @@
 //! A leaf table: the places of the frames of 512 pages, in a frame of its own.
-ghost use Rattle.std.specs.Prelude.{◌≡◌, ◌<◌, ◌*◌, ◌+◌, ◌≤◌, slice_set, Some, None, length};
+ghost use Rattle.std.specs.Prelude.{◌≡◌, ◌<◌, ◌*◌, ◌+◌, ◌≤◌, slice_set, Some, None, length, count_by, is_some};
 ghost use Rattle.byteorder.specs.Endian.{little_bytes};
 ghost use Rattle.vm_base.specs.FlatMemory.{zero_page, spliced};
-ghost use Rattle.kernel_meaning.specs.Leaves.{no_versions, version_at, with_version};
+ghost use Rattle.kernel_meaning.specs.Leaves.{no_versions, version_at, with_version, has_present};
 ghost use Rattle.leaf_cell.specs.Places.{word_at, place_in, with_word};
 
 use byteorder::{ByteOrder, LittleEndian};
@@ -72,6 +72,32 @@ impl LeafTable {
         ensures { self.new ≡ other.now }
     {
         copy_bytes(&mut self.frame, &other.frame);
+    }
+
+    /// How many pages are present.
+    pub(crate) fn pages(&self) -> u32
+        ensures { result ≡ count_by is_some self.now }
+    {
+        let mut pages = 0;
+        for page in 0..CELL_PAGES {
+            if self.get(page).is_some() {
+                pages += 1;
+            }
+        }
+        pages
+    }
+
+    /// Whether one of some pages is present.
+    pub(crate) fn covers(&self, first: u16, pages: u16) -> bool
+        requires { first + pages ≤ CELL_PAGES }
+        ensures { result ≡ has_present self.now first pages }
+    {
+        for page in first..first + pages {
+            if self.get(page).is_some() {
+                return true;
+            }
+        }
+        false
     }
 
     /// The frame that the table was in.

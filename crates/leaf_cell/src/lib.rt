@@ -7,4 +7,13 @@
 #![tactic(auto)]
 
 mod leaf_table;
-mod page_frames;
+mod cell;
+mod changes;
+mod lookups;
+mod snapshot;
+#[cfg(test)]
+mod tests;
+mod touch;
+
+pub use cell::Cell;
+pub use snapshot::LeafState;

@@ -1,0 +1,101 @@
+//! Clearing pages, forking and dropping.
+ghost use Rattle.std.specs.Prelude.{◌≡◌, ◌+◌, ◌≤◌, ℕ, [], true, None, OnErr};
+ghost use Rattle.vm_base.specs.declared.fork_mode.Mode.TheVariants as mode;
+ghost use Rattle.kernel_meaning.specs.Leaves.{has_present, has_pages};
+ghost use Rattle.kernel_meaning.specs.CellAccount.{Clear, Fork, Drop as DropAct};
+ghost use Rattle.leaf_cell.specs.CellView.{AreUnjoined, held_of};
+ghost use Rattle.leaf_cell.specs.Standing.{MadeAct};
+ghost use Rattle.leaf_cell.specs.States.{refused_count};
+
+use crate::cell::Cell;
+use crate::leaf_table::{CELL_PAGES, LeafTable};
+use crate::lookups::own_place;
+use crate::snapshot::{Snapshot, SnapshotLeaf};
+use crate::touch::{give_place, release_leaf};
+use vm_base::{Allot, Frame, Mode, Refused, Want};
+
+impl Cell {
+    /// Takes out pages of the parent. The frames that no snapshot names go back, and so does the
+    /// leaf table with the last page.
+    pub fn clear<A: Allot>(&mut self, first: u16, pages: u16, allot: &mut A)
+        requires range { first + pages ≤ CELL_PAGES }
+        requires unjoined { has_present self.old.leaves.parent first pages ≡ true → AreUnjoined self.old.leaves.kept }
+        requires held { held_of self.old ≤ A.out (A.state allot.old) }
+        requires untold { A.grants allot.old ≡ None }
+        ensures made { MadeAct A.goes (A.state allot.old) (A.state allot.new) (Clear first pages) self.old self.new None }
+        ensures held { A.out (A.state allot.new) + held_of self.old ≡ A.out (A.state allot.old) + held_of self.new }
+        ensures untold { A.grants allot.new ≡ None }
+    {
+        if let Some(mut table) = self.parent.take() {
+            for page in first..first + pages {
+                clear_page(&mut table, &self.snapshot, &mut self.frames, page, allot);
+            }
+            if table.covers(0, CELL_PAGES) {
+                self.parent = Some(table);
+            } else {
+                allot.give(table.into_frame());
+            }
+        }
+    }
+
+    /// Gives a snapshot the cell as the parent has it now, with a leaf table of its own. After a
+    /// refusal the cell is as before.
+    pub fn fork_eager<A: Allot>(&mut self, number: u32, allot: &mut A) -> Result<(), Refused>
+        requires present { has_pages self.old.leaves.parent ≡ true }
+        requires alone { self.old.leaves.kept ≡ [] }
+        requires held { held_of self.old ≤ A.out (A.state allot.old) }
+        requires untold { A.grants allot.old ≡ None }
+        ensures made { (seat : ℕ) → MadeAct A.goes (A.state allot.old) (A.state allot.new) (Fork number mode.Eager seat) self.old self.new (refused_count result) }
+        ensures held { A.out (A.state allot.new) + held_of self.old ≡ A.out (A.state allot.old) + held_of self.new }
+        ensures untold { A.grants allot.new ≡ None }
+        ensures refused { OnErr result (self.new ≡ self.old) }
+    {
+        let frame = allot.take(Want::Leaf)?;
+        let mut table = LeafTable::new(frame);
+        if let Some(parent) = &self.parent {
+            table.copy_from(parent);
+        }
+        self.snapshot = Some(Snapshot {
+            number,
+            mode: Mode::Eager,
+            leaf: SnapshotLeaf::Own(table),
+        });
+        Ok(())
+    }
+
+    /// Takes a snapshot out, with its own table and the frames that only it names.
+    pub fn drop_snap<A: Allot>(&mut self, number: u32, allot: &mut A)
+        requires held { held_of self.old ≤ A.out (A.state allot.old) }
+        requires untold { A.grants allot.old ≡ None }
+        ensures made { MadeAct A.goes (A.state allot.old) (A.state allot.new) (DropAct number) self.old self.new None }
+        ensures held { A.out (A.state allot.new) + held_of self.old ≡ A.out (A.state allot.old) + held_of self.new }
+        ensures untold { A.grants allot.new ≡ None }
+    {
+        match self.snapshot.take() {
+            Some(snapshot) => {
+                if snapshot.number == number {
+                    release_leaf(snapshot.leaf, &self.parent, &mut self.frames, allot);
+                } else {
+                    self.snapshot = Some(snapshot);
+                }
+            }
+            None => {}
+        }
+    }
+}
+
+/// Takes out one page, and gives its frame back where the snapshot does not name it.
+fn clear_page<A: Allot>(
+    table: &mut LeafTable,
+    snapshot: &Option<Snapshot>,
+    frames: &mut [Option<Frame>],
+    page: u16,
+    allot: &mut A,
+) {
+    if let Some(place) = table.get(page) {
+        table.clear(page);
+        if own_place(snapshot, page) != Some(place) {
+            give_place(frames, place, allot);
+        }
+    }
+}

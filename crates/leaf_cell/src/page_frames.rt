@@ -1,1 +1,0 @@
-//! The page frames of a cell, each at a place.

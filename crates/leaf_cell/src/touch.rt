@@ -1,0 +1,189 @@
+//! Touching and storing.
+ghost use Rattle.std.specs.Prelude.{◌≡◌, ◌+◌, ◌<◌, ◌≤◌, ℕ, [], length, None, Some, IsSome, OnErr};
+ghost use Rattle.kernel_meaning.specs.Leaves.{version_at};
+ghost use Rattle.kernel_meaning.specs.CellAccount.{CellAccount, Touch, Store};
+ghost use Rattle.leaf_cell.specs.CellView.{AreUnjoined, held_of};
+ghost use Rattle.leaf_cell.specs.Renaming.{IsNamedBy};
+ghost use Rattle.leaf_cell.specs.Standing.{MadeAct, StandsFor, TakesAccount};
+ghost use Rattle.leaf_cell.specs.States.{refused_count};
+
+use crate::cell::Cell;
+use crate::leaf_table::{CELL_PAGES, LeafTable, put_bytes};
+use crate::lookups::{own_place, place_in};
+use crate::snapshot::SnapshotLeaf;
+use vm_base::{Allot, Frame, Refused, Want};
+
+impl Cell {
+    /// Makes a page of the parent present, and its own: where a snapshot's leaf names its frame,
+    /// it gets a copy. Where the frame for the copy is refused, that snapshot has lost the cell,
+    /// and the page stays where it is. Only an absent page can be refused, and then the cell is as
+    /// before.
+    pub fn touch<A: Allot>(&mut self, page: u16, allot: &mut A) -> Result<(), Refused>
+        requires page { page < CELL_PAGES }
+        requires unjoined { AreUnjoined self.old.leaves.kept }
+        requires held { held_of self.old ≤ A.out (A.state allot.old) }
+        requires untold { A.grants allot.old ≡ None }
+        ensures made { MadeAct A.goes (A.state allot.old) (A.state allot.new) (Touch page) self.old self.new (refused_count result) }
+        ensures held { A.out (A.state allot.new) + held_of self.old ≡ A.out (A.state allot.old) + held_of self.new }
+        ensures untold { A.grants allot.new ≡ None }
+        ensures refused { OnErr result (self.new ≡ self.old) }
+        ensures absent { OnErr result (version_at self.old.leaves.parent page ≡ None) }
+    {
+        match place_in(&self.parent, page) {
+            Some(place) => {
+                if own_place(&self.snapshot, page) == Some(place) {
+                    self.copy_page(page, place, allot);
+                }
+                Ok(())
+            }
+            None => self.add_page(page, allot),
+        }
+    }
+
+    /// Stores bytes in a page that no snapshot names.
+    pub fn store(&mut self, page: u16, at: u16, bytes: &[u8])
+        requires page { page < CELL_PAGES }
+        requires room { at + length bytes.now ≤ 4096 }
+        requires present { IsSome (version_at self.old.leaves.parent page) }
+        requires unnamed { (place : ℕ) → version_at self.old.leaves.parent page ≡ Some place → IsNamedBy page place self.old.leaves.kept → ⊥ }
+        ensures stored { (account : CellAccount) → StandsFor self.old account → TakesAccount (Store page at bytes.now) self.old self.new [] None account }
+    {
+        if let Some(place) = place_in(&self.parent, page) {
+            store_place(&mut self.frames, place, at as usize, bytes);
+        }
+    }
+
+    /// Adds a page of zeros, and the leaf table where it is the first page.
+    fn add_page<A: Allot>(&mut self, page: u16, allot: &mut A) -> Result<(), Refused> {
+        let place = free_place(&self.frames, page);
+        match &mut self.parent {
+            Some(table) => {
+                let frame = take_frame(allot, Want::Page)?;
+                put_page(table, &mut self.frames, page, place, frame);
+            }
+            None => {
+                let (table, frame) = take_both(allot)?;
+                let mut table = LeafTable::new(table);
+                put_page(&mut table, &mut self.frames, page, place, frame);
+                self.parent = Some(table);
+            }
+        }
+        Ok(())
+    }
+
+    /// Copies a present page that the snapshot names too, or loses the cell for the snapshot.
+    fn copy_page<A: Allot>(&mut self, page: u16, place: u32, allot: &mut A) {
+        match allot.take(Want::Page) {
+            Ok(mut frame) => {
+                copy_place(&self.frames, place, &mut frame);
+                let free = free_place(&self.frames, page);
+                if let Some(table) = &mut self.parent {
+                    put_page(table, &mut self.frames, page, free, frame);
+                }
+            }
+            Err(refused) => self.lose_snapshot(refused.at, allot),
+        }
+    }
+
+    /// The snapshot has lost the cell: its own table and the frames that only it names go back.
+    fn lose_snapshot<A: Allot>(&mut self, at: u64, allot: &mut A) {
+        if let Some(snapshot) = &mut self.snapshot {
+            let leaf = std::mem::replace(&mut snapshot.leaf, SnapshotLeaf::Lost(at));
+            release_leaf(leaf, &self.parent, &mut self.frames, allot);
+        }
+    }
+}
+
+/// Takes a frame.
+fn take_frame<A: Allot>(allot: &mut A, want: Want) -> Result<Frame, Refused> {
+    allot.take(want)
+}
+
+/// Takes a frame for a leaf table and one for its first page, or neither.
+fn take_both<A: Allot>(allot: &mut A) -> Result<(Frame, Frame), Refused> {
+    let table = allot.take(Want::Leaf)?;
+    match allot.take(Want::Page) {
+        Ok(page) => Ok((table, page)),
+        Err(refused) => {
+            allot.give(table);
+            Err(refused)
+        }
+    }
+}
+
+/// The one of a page's two places that is free.
+fn free_place(frames: &[Option<Frame>], page: u16) -> u32 {
+    let first = page as usize;
+    if first < frames.len() && frames[first].is_none() {
+        page as u32
+    } else {
+        page as u32 + CELL_PAGES as u32
+    }
+}
+
+/// The page lies at this place from now on.
+fn put_page(
+    table: &mut LeafTable,
+    frames: &mut [Option<Frame>],
+    page: u16,
+    place: u32,
+    frame: Frame,
+) {
+    table.set(page, place);
+    frames[place as usize] = Some(frame);
+}
+
+/// Copies the bytes at a place into a frame.
+fn copy_place(frames: &[Option<Frame>], place: u32, frame: &mut Frame) {
+    if let Some(old) = &frames[place as usize] {
+        *frame.bytes_mut() = *old.bytes();
+    }
+}
+
+/// Stores bytes in the frame at a place.
+fn store_place(frames: &mut [Option<Frame>], place: u32, at: usize, bytes: &[u8]) {
+    if let Some(frame) = &mut frames[place as usize] {
+        put_bytes(frame.bytes_mut(), at, bytes);
+    }
+}
+
+/// Gives back the frame at a place.
+pub(crate) fn give_place<A: Allot>(frames: &mut [Option<Frame>], place: u32, allot: &mut A) {
+    if let Some(frame) = frames[place as usize].take() {
+        allot.give(frame);
+    }
+}
+
+/// Gives back what a snapshot's leaf alone names, and its own table.
+pub(crate) fn release_leaf<A: Allot>(
+    leaf: SnapshotLeaf,
+    parent: &Option<LeafTable>,
+    frames: &mut [Option<Frame>],
+    allot: &mut A,
+) {
+    match leaf {
+        SnapshotLeaf::Own(table) => {
+            for page in 0..CELL_PAGES {
+                release_page(&table, parent, frames, page, allot);
+            }
+            allot.give(table.into_frame());
+        }
+        SnapshotLeaf::Joined => {}
+        SnapshotLeaf::Lost(_) => {}
+    }
+}
+
+/// Gives back the frame of one page of a table, where the other table does not name it.
+fn release_page<A: Allot>(
+    table: &LeafTable,
+    other: &Option<LeafTable>,
+    frames: &mut [Option<Frame>],
+    page: u16,
+    allot: &mut A,
+) {
+    if let Some(place) = table.get(page) {
+        if place_in(other, page) != Some(place) {
+            give_place(frames, place, allot);
+        }
+    }
+}
