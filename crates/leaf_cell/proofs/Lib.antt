@@ -1,1 +1,3 @@
 pub mod TableWords
+pub mod AbsentPages
+pub mod NewCell

@@ -74,7 +74,7 @@ pub version_at-places_of : (bytes : List ℕ) (page : ℕ) → page < 512 → ve
 unfolding places_of
 version_at-places_of bytes page small = get_or-map-range_with_len (λ i. place_in (word_at bytes i)) 0 512 page page None small (omega arith)
 
-length-places_of : (bytes : List ℕ) → length (places_of bytes) ≡ 512
+pub length-places_of : (bytes : List ℕ) → length (places_of bytes) ≡ 512
 unfolding places_of
 length-places_of bytes = length-map-range_with_len (λ i. place_in (word_at bytes i)) 0 512
 

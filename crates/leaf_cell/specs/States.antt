@@ -2,6 +2,7 @@
 use Rattle.std.specs.Prelude.{ℕ, ◌+◌, ◌*◌, if◌then◌else◌, List, [], Option, Some, None, Result, Ok, Err}
 use Rattle.std.specs.Option.{option_map}
 use Rattle.std.specs.List.{slice_get}
+use Rattle.vm_base.specs.declared.fork_mode.Mode.{Mode}
 use Rattle.vm_base.specs.declared.refusals.Refused.{Refused as RefusedRequest}
 use Rattle.kernel_meaning.specs.Leaves.{Leaf, Own, Joined, Lost, Kept, kept_by, is_async}
 use Rattle.leaf_cell.specs.declared.snapshot.LeafState.{LeafState}
@@ -9,15 +10,15 @@ use Rattle.leaf_cell.specs.declared.snapshot.LeafState.TheVariants as state
 use Rattle.leaf_cell.specs.CellView.{CellView, kept_page, part_of}
 
 -- the state of a leaf, joined by an async fork or by another
-abbrev pub leaf_state : Kept → Leaf → LeafState
-leaf_state kept Own = state.Own
-leaf_state kept Joined = if is_async kept.mode then state.Marked else state.Shared
-leaf_state kept (Lost at) = state.Lost at
+abbrev pub leaf_state : Mode → Leaf → LeafState
+leaf_state mode Own = state.Own
+leaf_state mode Joined = if is_async mode then state.Marked else state.Shared
+leaf_state mode (Lost at) = state.Lost at
 
 -- the state of what a snapshot has at a cell, where it has the cell
 abbrev pub state_of : Option Kept → LeafState
 state_of None = state.Absent
-state_of (Some kept) = leaf_state kept kept.leaf
+state_of (Some kept) = leaf_state kept.mode kept.leaf
 
 -- the number of the nth snapshot, counted from 0
 abbrev pub nth_number : List Kept → ℕ → Option ℕ

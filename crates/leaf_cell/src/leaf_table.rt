@@ -74,12 +74,21 @@ impl LeafTable {
         copy_bytes(&mut self.frame, &other.frame);
     }
 
+    /// As many entries as the frame has room for, which is one for each page.
+    pub(crate) fn entries(&self) -> u16
+        ensures count { result ≡ 512 }
+        ensures size { length self.now ≡ 512 }
+    {
+        let bytes: &[u8] = self.frame.bytes();
+        (bytes.len() / ENTRY_BYTES) as u16
+    }
+
     /// How many pages are present.
     pub(crate) fn pages(&self) -> u32
         ensures { result ≡ count_by is_some self.now }
     {
         let mut pages = 0;
-        for page in 0..CELL_PAGES {
+        for page in 0..self.entries() {
             if self.get(page).is_some() {
                 pages += 1;
             }

@@ -1,10 +1,10 @@
 //! Where the pages of a cell are.
-ghost use Rattle.std.specs.Prelude.{◌≡◌, ◌+◌, ◌<◌, ◌≤◌, length, count_by, is_some, take, drop, [], Ok, Err, OnOk, IfOk, IfErr};
+ghost use Rattle.std.specs.Prelude.{◌≡◌, ◌+◌, ◌<◌, ◌≤◌, length, count_by, is_some, take, drop, cond, [], Ok, Err, OnOk, IfOk, IfErr};
 ghost use Rattle.std.specs.Option.{option_map};
-ghost use Rattle.kernel_meaning.specs.Leaves.{version_at};
+ghost use Rattle.kernel_meaning.specs.Leaves.{version_at, no_versions, is_own, Joined};
 ghost use Rattle.leaf_cell.specs.CellView.{bytes_in, part_of};
-ghost use Rattle.leaf_cell.specs.Inside.{table_places, snapshot_places, own_places, leaf_value};
-ghost use Rattle.leaf_cell.specs.States.{unless_lost};
+ghost use Rattle.leaf_cell.specs.Inside.{table_places, snapshot_places, own_places, leaf_value, kept_values};
+ghost use Rattle.leaf_cell.specs.States.{unless_lost, leaf_state as leaf_state_of};
 
 use crate::leaf_table::{CELL_PAGES, LeafTable};
 use crate::snapshot::{LeafState, Snapshot, SnapshotLeaf};
@@ -85,7 +85,9 @@ fn read_frame(frame: &Frame, at: usize, buf: &mut [u8])
 }
 
 /// The state of a leaf.
-pub(crate) fn leaf_state(snapshot: &Snapshot) -> LeafState {
+pub(crate) fn leaf_state(snapshot: &Snapshot) -> LeafState
+    ensures { result ≡ leaf_state_of snapshot.now.mode (leaf_value snapshot.now.leaf) }
+{
     match snapshot.leaf {
         SnapshotLeaf::Own(_) => LeafState::Own,
         SnapshotLeaf::Joined => joined_state(snapshot.mode),
@@ -94,7 +96,9 @@ pub(crate) fn leaf_state(snapshot: &Snapshot) -> LeafState {
 }
 
 /// The state of a leaf that is the parent's.
-fn joined_state(mode: Mode) -> LeafState {
+fn joined_state(mode: Mode) -> LeafState
+    ensures { result ≡ leaf_state_of mode Joined }
+{
     match mode {
         Mode::Eager => LeafState::Shared,
         Mode::OnDemand => LeafState::Shared,
@@ -103,7 +107,9 @@ fn joined_state(mode: Mode) -> LeafState {
 }
 
 /// One frame for a table that is there.
-pub(crate) fn count_table(table: &Option<LeafTable>) -> u32 {
+pub(crate) fn count_table(table: &Option<LeafTable>) -> u32
+    ensures { result ≡ cond (is_some table.now) 1 0 }
+{
     match table {
         Some(_) => 1,
         None => 0,
@@ -111,7 +117,9 @@ pub(crate) fn count_table(table: &Option<LeafTable>) -> u32 {
 }
 
 /// One frame for a snapshot's own table.
-pub(crate) fn count_own(snapshot: &Option<Snapshot>) -> u32 {
+pub(crate) fn count_own(snapshot: &Option<Snapshot>) -> u32
+    ensures { result ≡ count_by (λ kept. is_own kept.leaf) (kept_values no_versions snapshot.now) }
+{
     match snapshot {
         Some(snapshot) => match &snapshot.leaf {
             SnapshotLeaf::Own(_) => 1,
