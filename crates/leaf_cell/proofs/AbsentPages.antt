@@ -62,3 +62,9 @@ has_present-there places first k (suc n) small there = elim (cases_eq k n) [
   | inl last ↦ has_present-more places first n ∙ ap (λ b. has_present places first n || b) (ap (λ i. is_some (version_at places (first + i))) (sym last) ∙ there) ∙ or-true-right (has_present places first n)
   | inr before ↦ has_present-more places first n ∙ ap (λ b. b || is_some (version_at places (first + n))) (has_present-there places first k n (omega (arith, before)) there)
 ]
+
+-- a table without a page has none in any range
+pub has_present-never : (first n : ℕ) → has_present no_versions first n ≡ false
+has_present-never first zero = refl
+has_present-never first (suc n) = has_present-more no_versions first n
+    ∙ ap (λ b. b || is_some (version_at no_versions (first + n))) (has_present-never first n) ∙ ap is_some (version_at-none (first + n))

@@ -1,3 +1,5 @@
 pub mod TableWords
 pub mod AbsentPages
 pub mod NewCell
+pub mod Renamed
+pub mod Alike
