@@ -47,7 +47,7 @@ module _ (name : ℕ → ℕ → ℕ) (view meant : CellLeaves) (page version pl
   new = with_name name page version place
 
   -- what lives in the cell with the new version: that one, or what lived before
-  lived : (p v : ℕ) → IsLive (with_parent_version page version meant) p v → ((p ≡ page) × (v ≡ version)) ⊎ IsLive meant p v
+  pub lived : (p v : ℕ) → IsLive (with_parent_version page version meant) p v → ((p ≡ page) × (v ≡ version)) ⊎ IsLive meant p v
   lived p v (inr named) = inr (inr named)
   lived p v (inl there) = elim (cases_eq p page) [
     | inl here ↦ inl (here, same_some v version (sym there ∙ ap (version_at (with_version meant.parent page version)) here ∙ get_or-set_same meant.parent page (Some version) None inside))

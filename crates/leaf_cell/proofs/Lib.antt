@@ -3,3 +3,5 @@ pub mod AbsentPages
 pub mod NewCell
 pub mod Renamed
 pub mod Alike
+pub mod NewVersion
+pub mod TouchCourses
