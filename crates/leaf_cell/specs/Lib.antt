@@ -3,5 +3,6 @@ pub mod CellView
 pub mod Inside
 pub mod Renaming
 pub mod Standing
+pub mod Adding
 pub mod States
 pub mod Codes

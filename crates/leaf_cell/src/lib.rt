@@ -10,6 +10,7 @@ mod leaf_table;
 mod cell;
 mod changes;
 mod lookups;
+mod pages;
 mod snapshot;
 #[cfg(test)]
 mod tests;

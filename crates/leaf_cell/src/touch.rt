@@ -10,6 +10,7 @@ ghost use Rattle.leaf_cell.specs.States.{refused_count};
 use crate::cell::Cell;
 use crate::leaf_table::{CELL_PAGES, LeafTable, put_bytes};
 use crate::lookups::{own_place, place_in};
+use crate::pages::{add_page, free_place, put_page};
 use crate::snapshot::SnapshotLeaf;
 use vm_base::{Allot, Frame, Refused, Want};
 
@@ -36,7 +37,7 @@ impl Cell {
                 }
                 Ok(())
             }
-            None => self.add_page(page, allot),
+            None => add_page(&mut self.parent, &mut self.frames, page, allot),
         }
     }
 
@@ -51,24 +52,6 @@ impl Cell {
         if let Some(place) = place_in(&self.parent, page) {
             store_place(&mut self.frames, place, at as usize, bytes);
         }
-    }
-
-    /// Adds a page of zeros, and the leaf table where it is the first page.
-    fn add_page<A: Allot>(&mut self, page: u16, allot: &mut A) -> Result<(), Refused> {
-        let place = free_place(&self.frames, page);
-        match &mut self.parent {
-            Some(table) => {
-                let frame = take_frame(allot, Want::Page)?;
-                put_page(table, &mut self.frames, page, place, frame);
-            }
-            None => {
-                let (table, frame) = take_both(allot)?;
-                let mut table = LeafTable::new(table);
-                put_page(&mut table, &mut self.frames, page, place, frame);
-                self.parent = Some(table);
-            }
-        }
-        Ok(())
     }
 
     /// Copies a present page that the snapshot names too, or loses the cell for the snapshot.
@@ -92,45 +75,6 @@ impl Cell {
             release_leaf(leaf, &self.parent, &mut self.frames, allot);
         }
     }
-}
-
-/// Takes a frame.
-fn take_frame<A: Allot>(allot: &mut A, want: Want) -> Result<Frame, Refused> {
-    allot.take(want)
-}
-
-/// Takes a frame for a leaf table and one for its first page, or neither.
-fn take_both<A: Allot>(allot: &mut A) -> Result<(Frame, Frame), Refused> {
-    let table = allot.take(Want::Leaf)?;
-    match allot.take(Want::Page) {
-        Ok(page) => Ok((table, page)),
-        Err(refused) => {
-            allot.give(table);
-            Err(refused)
-        }
-    }
-}
-
-/// The one of a page's two places that is free.
-fn free_place(frames: &[Option<Frame>], page: u16) -> u32 {
-    let first = page as usize;
-    if first < frames.len() && frames[first].is_none() {
-        page as u32
-    } else {
-        page as u32 + CELL_PAGES as u32
-    }
-}
-
-/// The page lies at this place from now on.
-fn put_page(
-    table: &mut LeafTable,
-    frames: &mut [Option<Frame>],
-    page: u16,
-    place: u32,
-    frame: Frame,
-) {
-    table.set(page, place);
-    frames[place as usize] = Some(frame);
 }
 
 /// Copies the bytes at a place into a frame.
