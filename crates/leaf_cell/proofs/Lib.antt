@@ -5,3 +5,6 @@ pub mod Renamed
 pub mod Alike
 pub mod NewVersion
 pub mod TouchCourses
+pub mod InsideFacts
+pub mod PutPage
+pub mod TouchActs
