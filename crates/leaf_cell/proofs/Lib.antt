@@ -8,3 +8,4 @@ pub mod TouchCourses
 pub mod InsideFacts
 pub mod PutPage
 pub mod TouchActs
+pub mod TouchMade

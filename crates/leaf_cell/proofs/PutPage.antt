@@ -28,7 +28,7 @@ module _ (parent : Option Versions) (snapshot : Option Snapshot) (frames : List 
     (put : IsPut bytes page (table_places parent) frames (table_places next) new) (there : is_some next ≡ true)
     (left : (q : ℕ) → version_at (table_places parent) page ≡ Some q → version_at (own_places snapshot) page ≡ Some q) where
 
-  room : put.place < length frames
+  pub room : put.place < length frames
   room = omega (arith, inside.room, place_room page put.place small put.home)
 
   table_inside : page < length (table_places parent)

@@ -1,6 +1,6 @@
 //! Touching and storing.
-ghost use Rattle.std.specs.Prelude.{◌≡◌, ◌+◌, ◌<◌, ◌≤◌, ℕ, [], length, None, Some, IsSome, OnErr};
-ghost use Rattle.kernel_meaning.specs.Leaves.{version_at};
+ghost use Rattle.std.specs.Prelude.{◌≡◌, ◌+◌, ◌<◌, ◌≤◌, ℕ, [], length, None, Some, true, IsSome, OnErr};
+ghost use Rattle.kernel_meaning.specs.Leaves.{version_at, is_named};
 ghost use Rattle.kernel_meaning.specs.CellAccount.{CellAccount, Touch, Store};
 ghost use Rattle.leaf_cell.specs.CellView.{AreUnjoined, held_of};
 ghost use Rattle.leaf_cell.specs.Renaming.{IsNamedBy};
@@ -10,9 +10,9 @@ ghost use Rattle.leaf_cell.specs.States.{refused_count};
 use crate::cell::Cell;
 use crate::leaf_table::{CELL_PAGES, LeafTable, put_bytes};
 use crate::lookups::{own_place, place_in};
-use crate::pages::{add_page, free_place, put_page};
+use crate::pages::{add_page, copy_page};
 use crate::snapshot::SnapshotLeaf;
-use vm_base::{Allot, Frame, Refused, Want};
+use vm_base::{Allot, Frame, Refused};
 
 impl Cell {
     /// Makes a page of the parent present, and its own: where a snapshot's leaf names its frame,
@@ -33,7 +33,7 @@ impl Cell {
         match place_in(&self.parent, page) {
             Some(place) => {
                 if own_place(&self.snapshot, page) == Some(place) {
-                    self.copy_page(page, place, allot);
+                    self.unshare_page(page, place, allot);
                 }
                 Ok(())
             }
@@ -55,15 +55,19 @@ impl Cell {
     }
 
     /// Copies a present page that the snapshot names too, or loses the cell for the snapshot.
-    fn copy_page<A: Allot>(&mut self, page: u16, place: u32, allot: &mut A) {
-        match allot.take(Want::Page) {
-            Ok(mut frame) => {
-                copy_place(&self.frames, place, &mut frame);
-                let free = free_place(&self.frames, page);
-                if let Some(table) = &mut self.parent {
-                    put_page(table, &mut self.frames, page, free, frame);
-                }
-            }
+    fn unshare_page<A: Allot>(&mut self, page: u16, place: u32, allot: &mut A)
+        requires page { page < CELL_PAGES }
+        requires unjoined { AreUnjoined self.old.leaves.kept }
+        requires held { held_of self.old ≤ A.out (A.state allot.old) }
+        requires untold { A.grants allot.old ≡ None }
+        requires there { version_at self.old.leaves.parent page ≡ Some place }
+        requires named { is_named self.old.leaves page place ≡ true }
+        ensures made { MadeAct A.goes (A.state allot.old) (A.state allot.new) (Touch page) self.old self.new None }
+        ensures held { A.out (A.state allot.new) + held_of self.old ≡ A.out (A.state allot.old) + held_of self.new }
+        ensures untold { A.grants allot.new ≡ None }
+    {
+        match copy_page(&mut self.parent, &mut self.frames, page, place, allot) {
+            Ok(()) => {}
             Err(refused) => self.lose_snapshot(refused.at, allot),
         }
     }
@@ -74,13 +78,6 @@ impl Cell {
             let leaf = std::mem::replace(&mut snapshot.leaf, SnapshotLeaf::Lost(at));
             release_leaf(leaf, &self.parent, &mut self.frames, allot);
         }
-    }
-}
-
-/// Copies the bytes at a place into a frame.
-fn copy_place(frames: &[Option<Frame>], place: u32, frame: &mut Frame) {
-    if let Some(old) = &frames[place as usize] {
-        *frame.bytes_mut() = *old.bytes();
     }
 }
 
