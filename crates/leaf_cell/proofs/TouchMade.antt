@@ -7,7 +7,7 @@ use Rattle.vm_base.specs.declared.refusals.Refused.{Refused as RefusedRequest}
 use Rattle.vm_base.specs.Deals.{Deal, Granted, Denied, Returned, LeadsAlong}
 use Rattle.vm_base.specs.Frames.{FrameView}
 use Rattle.vm_base.specs.FlatMemory.{zero_page}
-use Rattle.kernel_meaning.specs.Leaves.{Versions, no_versions, version_at, has_pages, Kept, CellLeaves, parent_leaves, own_leaves, is_joined}
+use Rattle.kernel_meaning.specs.Leaves.{Versions, no_versions, version_at, has_pages, Kept, CellLeaves, parent_leaves, own_leaves, is_joined, is_own}
 use Rattle.kernel_meaning.specs.CellActs.{with_parent_version}
 use Rattle.kernel_meaning.specs.CellAccount.{Touch, CellAccount}
 use Rattle.leaf_cell.specs.declared.snapshot.Snapshot.{Snapshot}
@@ -113,3 +113,35 @@ pub inside-added : (parent : Option Versions) (snapshot : Option Snapshot) (fram
 inside-added parent snapshot frames inside page small next new (Ok done) absent put kept =
     inside_put parent snapshot frames inside next new zero_page page small put.0 put.1 (λ q there. none_is_not_some (version_at (table_places parent) page) q absent there)
 inside-added parent snapshot frames inside page small next new (Err refused) absent put kept = subst (λ p. AreInside p snapshot new) (sym kept.0) (subst (AreInside parent snapshot) (sym kept.1) inside)
+
+-- the parent's leaf counts as one frame where there is a page
+leaf-count : (places : Versions) (b : Bool) → has_pages places ≡ b → ◌≡◌ {A = ℕ} (cond (has_pages places) 1 0) (cond b 1 0)
+leaf-count places b is = ap (λ h. cond h 1 0) is
+
+old-leaf : (parent : Option Versions) (snapshot : Option Snapshot) (frames : List (Option FrameView)) → AreInside parent snapshot frames → has_pages (table_places parent) ≡ is_some parent
+old-leaf None snapshot frames inside = refl
+old-leaf (Some places) snapshot frames inside = inside.used places refl
+
+either-way : (b : Bool) → ◌≡◌ {A = ℕ} (cond b 1 2 + cond b 1 0) 2
+either-way true = refl
+either-way false = refl
+
+-- the frames that the cell holds afterwards
+pub held-added : (parent : Option Versions) (snapshot : Option Snapshot) (frames : List (Option FrameView)) (inside : AreInside parent snapshot frames) (page : ℕ) (small : page < 512)
+    (next : Option Versions) (new : List (Option FrameView)) (result : Result (Unit {0}) RefusedRequest) (before after : ℕ) → version_at (table_places parent) page ≡ None
+    → AreUnjoined (kept_values (table_places parent) snapshot)
+    → OnOk result (IsPut zero_page page (table_places parent) frames (table_places next) new × (is_some next ≡ true)) → OnErr result ((next ≡ parent) × (new ≡ frames))
+    → OnOk result (after ≡ before + cond (is_some parent) 1 2) → OnErr result (after ≡ before)
+    → after + held_of (cell_value parent snapshot frames) ≡ before + held_of (cell_value next snapshot new)
+held-added parent snapshot frames inside page small next new (Ok done) before after absent unjoined put kept taken returned =
+    let left : (q : ℕ) → version_at (table_places parent) page ≡ Some q → version_at (own_places snapshot) page ≡ Some q = λ q there. none_is_not_some (version_at (table_places parent) page) q absent there in
+    let count : count_by is_some new ≡ count_by is_some frames + 1 = count_put parent snapshot frames inside next new zero_page page small put.0 put.1 left in
+    let old : parent_leaves (cell_value parent snapshot frames).leaves ≡ cond (is_some parent) 1 0 = leaf-count (table_places parent) (is_some parent) (old-leaf parent snapshot frames inside) in
+    let one : parent_leaves (cell_value next snapshot new).leaves ≡ 1 = leaf-count (table_places next) true (has_pages_put parent snapshot frames inside next new zero_page page small put.0 put.1 left) in
+    let own : own_leaves (cell_value next snapshot new).leaves ≡ own_leaves (cell_value parent snapshot frames).leaves =
+      ap (count_by (λ it. is_own it.leaf)) (kept-unjoined (table_places parent) (table_places next) snapshot unjoined) in
+    let both : ◌≡◌ {A = ℕ} (cond (is_some parent) 1 2 + cond (is_some parent) 1 0) 2 = either-way (is_some parent) in
+    omega (arith, count, old, one, own, both, taken)
+held-added parent snapshot frames inside page small next new (Err refused) before after absent unjoined put kept taken returned =
+    let same : held_of (cell_value next snapshot new) ≡ held_of (cell_value parent snapshot frames) = λ i. held_of (cell_value (kept.0 i) snapshot (kept.1 i)) in
+    omega (arith, same, returned)

@@ -1,28 +1,29 @@
-use Rattle.std.proofs.Common.{rules, ◌≡◌, ◌+◌, ◌<◌, ◌≤◌, ℕ, [], length, None, Some, true, IsSome, OnErr, ◌-◌, ◌*◌, ◌/◌, ◌%◌, Bool, false, nat_eq, nat_lt, List, ◌∷◌, ◌++◌, slice_index_or, slice_set, bit_and, bit_or, Fits, w8, w32, w64, Bor, MutBor}
-use Rattle.kernel_meaning.specs.Leaves.{version_at, is_named}
-use Rattle.kernel_meaning.specs.CellAccount.{CellAccount, Touch, Store}
+use Rattle.std.proofs.Common.{◌≡◌, ◌∙◌, ◌+◌, sym, subst, None, ap}
+use Rattle.kernel_meaning.specs.Leaves.{version_at}
+use Rattle.kernel_meaning.specs.CellAccount.{Touch}
 use Rattle.leaf_cell.specs.CellView.{AreUnjoined, held_of}
-use Rattle.leaf_cell.specs.Renaming.{IsNamedBy}
-use Rattle.leaf_cell.specs.Standing.{MadeAct, StandsFor, TakesAccount}
+use Rattle.leaf_cell.specs.Inside.{table_places, cell_value}
+use Rattle.leaf_cell.specs.Standing.{MadeAct}
 use Rattle.leaf_cell.specs.States.{refused_count}
+use Rattle.leaf_cell.proofs.TouchMade.{made-added, inside-added, held-added}
 use Rattle.leaf_cell.proofs.cell.Cell.touch.Goals as goal
 
--- src/touch.rt:36:21
-pub unshare_page-requires-clause-named : goal.unshare_page-requires-clause-named
-unshare_page-requires-clause-named g c = ?
-
--- src/touch.rt:40:21
 pub invariant_of-self : goal.invariant_of-self
-invariant_of-self g c = ?
+invariant_of-self g c = inside-added c.self.inside.parent c.self.inside.snapshot c.self.inside.frames.items c.self.invariant c.args.page c.requires.page
+    c.add_page.new.parent c.add_page.new.frames.items c.add_page.result (sym c.place_in.ensures ∙ c.in-None.is) c.add_page.ensures.put c.add_page.ensures.kept
 
--- src/touch.rt:22:5
-pub returns-else-eq-clause-made : goal.returns-else-eq-clause-made
-returns-else-eq-clause-made g c = ?
-
--- src/touch.rt:22:5
 pub returns-in-None-clause-made : goal.returns-in-None-clause-made
-returns-in-None-clause-made g c = ?
+returns-in-None-clause-made g c =
+    subst (λ old. MadeAct g.A.Allot.goes (g.A.Allot.state c.args.allot.now) (g.A.Allot.state c.add_page.new.allot) (Touch c.args.page) old
+      (cell_value c.add_page.new.parent c.self.inside.snapshot c.add_page.new.frames.items) (refused_count c.add_page.result)) c.self.view_is
+    (made-added g.A.Allot.goes (g.A.Allot.state c.args.allot.now) (g.A.Allot.state c.add_page.new.allot) c.self.inside.snapshot c.self.inside.frames.items c.args.page c.requires.page
+      c.self.inside.parent c.self.invariant c.add_page.new.parent c.add_page.new.frames.items c.add_page.result (sym c.place_in.ensures ∙ c.in-None.is)
+      (subst (λ view. AreUnjoined view.leaves.kept) (sym c.self.view_is) c.requires.unjoined) c.add_page.ensures.led c.add_page.ensures.put c.add_page.ensures.kept)
 
--- src/touch.rt:22:5
 pub returns-in-None-clause-held : goal.returns-in-None-clause-held
-returns-in-None-clause-held g c = ?
+returns-in-None-clause-held g c =
+    ap (λ view. g.A.Allot.out (g.A.Allot.state c.add_page.new.allot) + held_of view) (sym c.self.view_is)
+    ∙ held-added c.self.inside.parent c.self.inside.snapshot c.self.inside.frames.items c.self.invariant c.args.page c.requires.page
+      c.add_page.new.parent c.add_page.new.frames.items c.add_page.result (g.A.Allot.out (g.A.Allot.state c.args.allot.now)) (g.A.Allot.out (g.A.Allot.state c.add_page.new.allot))
+      (sym c.place_in.ensures ∙ c.in-None.is) (subst (λ view. AreUnjoined view.leaves.kept) (sym c.self.view_is) c.requires.unjoined)
+      c.add_page.ensures.put c.add_page.ensures.kept c.add_page.ensures.taken c.add_page.ensures.returned
