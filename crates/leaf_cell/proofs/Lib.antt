@@ -9,3 +9,4 @@ pub mod InsideFacts
 pub mod PutPage
 pub mod TouchActs
 pub mod TouchMade
+pub mod PresentPage

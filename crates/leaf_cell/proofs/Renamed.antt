@@ -37,7 +37,7 @@ true_of : (b : Bool) → T b → b ≡ true
 true_of true h = refl
 true_of false h = absurd h
 
-eqb-refl : (n : ℕ) → (n == n) ≡ true
+pub eqb-refl : (n : ℕ) → (n == n) ≡ true
 eqb-refl n = true_of (n == n) (eqb_refl n)
 
 and-false : (a : Bool) → (a && false) ≡ false
