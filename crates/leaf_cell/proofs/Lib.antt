@@ -10,3 +10,4 @@ pub mod PutPage
 pub mod TouchActs
 pub mod TouchMade
 pub mod PresentPage
+pub mod OwnNames
