@@ -11,3 +11,4 @@ pub mod TouchActs
 pub mod TouchMade
 pub mod PresentPage
 pub mod OwnNames
+pub mod CopyMade

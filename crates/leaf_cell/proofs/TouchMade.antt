@@ -115,7 +115,7 @@ inside-added parent snapshot frames inside page small next new (Ok done) absent 
 inside-added parent snapshot frames inside page small next new (Err refused) absent put kept = subst (λ p. AreInside p snapshot new) (sym kept.0) (subst (AreInside parent snapshot) (sym kept.1) inside)
 
 -- the parent's leaf counts as one frame where there is a page
-leaf-count : (places : Versions) (b : Bool) → has_pages places ≡ b → ◌≡◌ {A = ℕ} (cond (has_pages places) 1 0) (cond b 1 0)
+pub leaf-count : (places : Versions) (b : Bool) → has_pages places ≡ b → ◌≡◌ {A = ℕ} (cond (has_pages places) 1 0) (cond b 1 0)
 leaf-count places b is = ap (λ h. cond h 1 0) is
 
 old-leaf : (parent : Option Versions) (snapshot : Option Snapshot) (frames : List (Option FrameView)) → AreInside parent snapshot frames → has_pages (table_places parent) ≡ is_some parent
