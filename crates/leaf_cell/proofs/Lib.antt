@@ -12,3 +12,5 @@ pub mod TouchMade
 pub mod PresentPage
 pub mod OwnNames
 pub mod CopyMade
+pub mod ForkMade
+pub mod StoreMade

@@ -22,7 +22,7 @@ abbrev pub AreFilled : CellView → Type 0
 AreFilled view = (page place : ℕ) → IsLive view.leaves page place → IsSome (slice_index_or view.frames place None)
 
 -- what snapshot n has lives, where it is not lost
-named-kept : (n page place : ℕ) (all : List Kept) (kept : Kept) → kept_by all n ≡ Some kept → is_lost kept.leaf ≡ false → version_at kept.versions page ≡ Some place → IsNamedBy page place all
+pub named-kept : (n page place : ℕ) (all : List Kept) (kept : Kept) → kept_by all n ≡ Some kept → is_lost kept.leaf ≡ false → version_at kept.versions page ≡ Some place → IsNamedBy page place all
 named-kept n page place [] kept found unlost there = absurd (false≢true (ap is_some found))
 named-kept n page place (it ∷ others) kept found unlost there =
     by_number (it.number == n) found (λ e. named-kept n page place others kept e unlost there)

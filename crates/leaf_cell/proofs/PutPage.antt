@@ -13,7 +13,7 @@ use Rattle.leaf_cell.proofs.NewCell.{none_is_some, none_is_not_some}
 use Rattle.leaf_cell.proofs.InsideFacts.{same_some, page_below, has_pages-there, count-filled, parent_filled, own_filled}
 
 -- two pages of one place are one
-one_page : (p page place : ℕ) → p < 512 → page < 512 → IsPlaceOf p place → IsPlaceOf page place → p ≡ page
+pub one_page : (p page place : ℕ) → p < 512 → page < 512 → IsPlaceOf p place → IsPlaceOf page place → p ≡ page
 one_page p page place a b (inl x) (inl y) = sym x ∙ y
 one_page p page place a b (inl x) (inr y) = absurd (omega (arith, a, b, x, y))
 one_page p page place a b (inr x) (inl y) = absurd (omega (arith, a, b, x, y))

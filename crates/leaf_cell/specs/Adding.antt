@@ -1,8 +1,10 @@
 -- What it is to add a page, or to copy one: a frame at a place that was free, and the deals of it.
-use Rattle.std.specs.Prelude.{◌≡◌, ℕ, ◌+◌, ◌⊎◌, Bool, true, false, List, [], ◌∷◌, Option, Some, None, Result, Ok, Err, slice_set, slice_index_or}
+use Rattle.std.specs.Prelude.{◌≡◌, ℕ, ◌+◌, ◌⊎◌, length, Bool, true, false, List, [], ◌∷◌, Option, Some, None, Result, Ok, Err, slice_set, slice_index_or}
 use Rattle.vm_base.specs.declared.frame_request.Want.TheVariants as want
 use Rattle.vm_base.specs.declared.refusals.Refused.{Refused as RefusedRequest}
 use Rattle.vm_base.specs.Deals.{Deal, Granted, Denied, Returned, LeadsAlong}
+use Rattle.std.specs.Option.{option_map, ForSome}
+use Rattle.vm_base.specs.FlatMemory.{spliced}
 use Rattle.vm_base.specs.Frames.{FrameView}
 use Rattle.kernel_meaning.specs.Leaves.{Versions, with_version}
 use Rattle.leaf_cell.specs.Inside.{IsPlaceOf}
@@ -53,3 +55,15 @@ pub record LedByCopy {State : Type 0} (goes : State → Deal → State → Type 
   pub deals : List Deal
   pub led : LeadsAlong goes from deals to
   pub copying : CopyDeals result deals
+
+-- a frame with some of its bytes replaced
+abbrev pub with_stored : ℕ → List ℕ → FrameView → FrameView
+with_stored at bytes frame = record frame { bytes = spliced frame.bytes at bytes }
+
+-- the same where it is there
+abbrev pub stored_in : Option FrameView → ℕ → List ℕ → Option FrameView
+stored_in frame at bytes = option_map (with_stored at bytes) frame
+
+-- a frame that is there has 4096 bytes
+abbrev pub IsWholeFrame : Option FrameView → Type 0
+IsWholeFrame frame = ForSome frame (λ it. length it.bytes ≡ 4096)

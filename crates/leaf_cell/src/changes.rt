@@ -1,6 +1,9 @@
 //! Clearing pages, forking and dropping.
 ghost use Rattle.std.specs.Prelude.{◌≡◌, ◌+◌, ◌≤◌, ℕ, [], true, None, OnErr};
 ghost use Rattle.vm_base.specs.declared.fork_mode.Mode.TheVariants as mode;
+ghost use Rattle.vm_base.specs.FlatMemory.{zero_page};
+ghost use Rattle.leaf_cell.specs.declared.snapshot.SnapshotLeaf.TheVariants as leaf;
+ghost use Rattle.leaf_cell.specs.Inside.{table_places};
 ghost use Rattle.kernel_meaning.specs.Leaves.{has_present, has_pages};
 ghost use Rattle.kernel_meaning.specs.CellAccount.{Clear, Fork, Drop as DropAct};
 ghost use Rattle.leaf_cell.specs.CellView.{AreUnjoined, held_of};
@@ -50,17 +53,13 @@ impl Cell {
         ensures untold { A.grants allot.new ≡ None }
         ensures refused { OnErr result (self.new ≡ self.old) }
     {
-        let frame = allot.take(Want::Leaf)?;
-        let mut table = LeafTable::new(frame);
-        if let Some(parent) = &self.parent {
-            table.copy_from(parent);
+        match allot.take(Want::Leaf) {
+            Ok(frame) => {
+                self.snapshot = Some(new_snapshot(number, frame, &self.parent));
+                Ok(())
+            }
+            Err(refused) => Err(refused),
         }
-        self.snapshot = Some(Snapshot {
-            number,
-            mode: Mode::Eager,
-            leaf: SnapshotLeaf::Own(table),
-        });
-        Ok(())
     }
 
     /// Takes a snapshot out, with its own table and the frames that only it names.
@@ -81,6 +80,24 @@ impl Cell {
             }
             None => {}
         }
+    }
+}
+
+/// A snapshot with a table of its own, which names what the parent's does.
+fn new_snapshot(number: u32, frame: Frame, parent: &Option<LeafTable>) -> Snapshot
+    requires { frame.bytes ≡ zero_page }
+    ensures number { result.number ≡ number }
+    ensures mode { result.mode ≡ mode.Eager }
+    ensures leaf { result.leaf ≡ leaf.Own (table_places parent.now) }
+{
+    let mut table = LeafTable::new(frame);
+    if let Some(parent) = parent {
+        table.copy_from(parent);
+    }
+    Snapshot {
+        number,
+        mode: Mode::Eager,
+        leaf: SnapshotLeaf::Own(table),
     }
 }
 

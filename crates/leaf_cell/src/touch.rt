@@ -1,5 +1,7 @@
 //! Touching and storing.
-ghost use Rattle.std.specs.Prelude.{◌≡◌, ◌+◌, ◌<◌, ◌≤◌, ℕ, [], length, None, Some, true, IsSome, OnErr};
+ghost use Rattle.std.specs.Prelude.{◌≡◌, ◌+◌, ◌<◌, ◌≤◌, ℕ, [], length, slice_set, slice_index_or, None, Some, true, IsSome, OnErr};
+ghost use Rattle.vm_base.specs.FlatMemory.{spliced};
+ghost use Rattle.leaf_cell.specs.Adding.{stored_in, IsWholeFrame};
 ghost use Rattle.kernel_meaning.specs.Leaves.{version_at, is_named};
 ghost use Rattle.kernel_meaning.specs.CellAccount.{CellAccount, Touch, Store};
 ghost use Rattle.leaf_cell.specs.CellView.{AreUnjoined, held_of};
@@ -82,10 +84,34 @@ impl Cell {
 }
 
 /// Stores bytes in the frame at a place.
-fn store_place(frames: &mut [Option<Frame>], place: u32, at: usize, bytes: &[u8]) {
-    if let Some(frame) = &mut frames[place as usize] {
-        put_bytes(frame.bytes_mut(), at, bytes);
+fn store_place(frames: &mut Vec<Option<Frame>>, place: u32, at: usize, bytes: &[u8])
+    requires place { place < length frames.old.items }
+    requires room { at + length bytes.now ≤ 4096 }
+    ensures stored { frames.new.items ≡ slice_set frames.old.items place (stored_in (slice_index_or frames.old.items place None) at bytes.now) }
+    ensures whole { IsWholeFrame (slice_index_or frames.old.items place None) }
+{
+    store_slot(&mut frames[place as usize], at, bytes);
+}
+
+/// Stores bytes in a frame that is there.
+fn store_slot(slot: &mut Option<Frame>, at: usize, bytes: &[u8])
+    requires { at + length bytes.now ≤ 4096 }
+    ensures stored { slot.new ≡ stored_in slot.old at bytes.now }
+    ensures whole { IsWholeFrame slot.old }
+{
+    if let Some(frame) = slot {
+        store_frame(frame, at, bytes);
     }
+}
+
+/// Stores bytes in a frame.
+fn store_frame(frame: &mut Frame, at: usize, bytes: &[u8])
+    requires { at + length bytes.now ≤ 4096 }
+    ensures stored { frame.new ≡ record frame.old { bytes = spliced frame.old.bytes at bytes.now } }
+    ensures whole { length frame.old.bytes ≡ 4096 }
+{
+    let target: &mut [u8] = frame.bytes_mut();
+    put_bytes(target, at, bytes);
 }
 
 /// Gives back the frame at a place.
