@@ -71,6 +71,12 @@ stored-apart pages page at old (b ∷ bytes) there whole room p apart =
     ap (λ m. get m p) (with_bytes_in pages (page * 4096 + at) (b ∷ bytes) old (ap (get pages) in_page ∙ there) whole (rw in_place room))
     ∙ get_inserted_apart pages (page_of (page * 4096 + at)) (spliced old (offset_of (page * 4096 + at)) (b ∷ bytes)) p (λ e. apart (e ∙ in_page))
 
+pub place-below : (parent : Option Versions) (snapshot : Option Snapshot) (frames : List (Option FrameView)) → AreInside parent snapshot frames → (page place : ℕ) → page < 512 → version_at (table_places parent) page ≡ Some place → place < length frames
+place-below parent snapshot frames inside page place small there = elim (parent_place parent snapshot frames inside page place there) [
+  | inl x ↦ omega (arith, small, x, inside.room)
+  | inr x ↦ omega (arith, small, x, inside.room)
+]
+
 still_some : (o : Option FrameView) (at : ℕ) (bytes : List ℕ) → is_some (stored_in o at bytes) ≡ is_some o
 still_some None at bytes = refl
 still_some (Some frame) at bytes = refl
@@ -83,11 +89,8 @@ module _ (parent : Option Versions) (snapshot : Option Snapshot) (frames : List 
   home : IsPlaceOf page place
   home = parent_place parent snapshot frames inside page place there
 
-  pub place_inside : place < length frames
-  place_inside = elim home [
-    | inl x ↦ omega (arith, small, x, inside.room)
-    | inr x ↦ omega (arith, small, x, inside.room)
-  ]
+  place_inside : place < length frames
+  place_inside = place-below parent snapshot frames inside page place small there
 
   new_here : slice_index_or new place None ≡ stored_in (slice_index_or frames place None) at bytes
   new_here = ap (λ fs. slice_index_or fs place None) stored ∙ get_or-set_same frames place (stored_in (slice_index_or frames place None) at bytes) None place_inside
@@ -125,7 +128,7 @@ module _ (parent : Option Versions) (snapshot : Option Snapshot) (frames : List 
 
   before_of : (o : Option FrameView) → slice_index_or frames place None ≡ o → IsSome o → IsWholeFrame o → Before
   before_of None is some w = absurd (false≢true some)
-  before_of (Some frame) is some w = record { frame = frame; is = is; size = w }
+  before_of (Some frame) is some w = record { frame = frame; is = is; size = w frame refl }
 
   before : Before
   before = before_of (slice_index_or frames place None) refl (parent_filled parent snapshot frames inside page place there) whole
