@@ -14,3 +14,6 @@ pub mod OwnNames
 pub mod CopyMade
 pub mod ForkMade
 pub mod StoreMade
+pub mod PairCounts
+pub mod LivePairs
+pub mod SameShare

@@ -39,7 +39,7 @@ parent_place parent snapshot frames inside page place there = (inside.parent_hom
 own_place : (parent : Option Versions) (snapshot : Option Snapshot) (frames : List (Option FrameView)) → AreInside parent snapshot frames → (page place : ℕ) → version_at (own_places snapshot) page ≡ Some place → IsPlaceOf page place
 own_place parent snapshot frames inside page place there = (inside.own_home page place (page_below (own_places snapshot) page place inside.own_size there) there).0
 
-at_home : (parent : Option Versions) (snapshot : Option Snapshot) (frames : List (Option FrameView)) → AreInside parent snapshot frames → (page place : ℕ) → IsLive (cell_value parent snapshot frames).leaves page place → IsPlaceOf page place
+pub at_home : (parent : Option Versions) (snapshot : Option Snapshot) (frames : List (Option FrameView)) → AreInside parent snapshot frames → (page place : ℕ) → IsLive (cell_value parent snapshot frames).leaves page place → IsPlaceOf page place
 at_home parent snapshot frames inside page place (inl there) = parent_place parent snapshot frames inside page place there
 at_home parent None frames inside page place (inr named) = absurd named
 at_home parent (Some it) frames inside page place (inr (inl named)) =
