@@ -17,3 +17,4 @@ pub mod StoreMade
 pub mod PairCounts
 pub mod LivePairs
 pub mod SameShare
+pub mod HeldShare

@@ -118,7 +118,7 @@ inside-added parent snapshot frames inside page small next new (Err refused) abs
 pub leaf-count : (places : Versions) (b : Bool) → has_pages places ≡ b → ◌≡◌ {A = ℕ} (cond (has_pages places) 1 0) (cond b 1 0)
 leaf-count places b is = ap (λ h. cond h 1 0) is
 
-old-leaf : (parent : Option Versions) (snapshot : Option Snapshot) (frames : List (Option FrameView)) → AreInside parent snapshot frames → has_pages (table_places parent) ≡ is_some parent
+pub old-leaf : (parent : Option Versions) (snapshot : Option Snapshot) (frames : List (Option FrameView)) → AreInside parent snapshot frames → has_pages (table_places parent) ≡ is_some parent
 old-leaf None snapshot frames inside = refl
 old-leaf (Some places) snapshot frames inside = inside.used places refl
 
