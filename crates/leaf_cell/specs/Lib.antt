@@ -4,5 +4,6 @@ pub mod Inside
 pub mod Renaming
 pub mod Standing
 pub mod Adding
+pub mod Releasing
 pub mod States
 pub mod Codes

@@ -14,7 +14,7 @@ use crate::cell::Cell;
 use crate::leaf_table::{CELL_PAGES, LeafTable};
 use crate::lookups::own_place;
 use crate::snapshot::{Snapshot, SnapshotLeaf};
-use crate::touch::{give_place, release_leaf};
+use crate::release::{give_place, release_leaf};
 use vm_base::{Allot, Frame, Mode, Refused, Want};
 
 impl Cell {
@@ -105,7 +105,7 @@ fn new_snapshot(number: u32, frame: Frame, parent: &Option<LeafTable>) -> Snapsh
 fn clear_page<A: Allot>(
     table: &mut LeafTable,
     snapshot: &Option<Snapshot>,
-    frames: &mut [Option<Frame>],
+    frames: &mut Vec<Option<Frame>>,
     page: u16,
     allot: &mut A,
 ) {

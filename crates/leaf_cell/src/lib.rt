@@ -11,6 +11,7 @@ mod cell;
 mod changes;
 mod lookups;
 mod pages;
+mod release;
 mod snapshot;
 #[cfg(test)]
 mod tests;

@@ -13,6 +13,7 @@ use crate::cell::Cell;
 use crate::leaf_table::{CELL_PAGES, LeafTable, put_bytes};
 use crate::lookups::{own_place, place_in};
 use crate::pages::{add_page, copy_page};
+use crate::release::release_leaf;
 use crate::snapshot::SnapshotLeaf;
 use vm_base::{Allot, Frame, Refused};
 
@@ -112,45 +113,4 @@ fn store_frame(frame: &mut Frame, at: usize, bytes: &[u8])
 {
     let target: &mut [u8] = frame.bytes_mut();
     put_bytes(target, at, bytes);
-}
-
-/// Gives back the frame at a place.
-pub(crate) fn give_place<A: Allot>(frames: &mut [Option<Frame>], place: u32, allot: &mut A) {
-    if let Some(frame) = frames[place as usize].take() {
-        allot.give(frame);
-    }
-}
-
-/// Gives back what a snapshot's leaf alone names, and its own table.
-pub(crate) fn release_leaf<A: Allot>(
-    leaf: SnapshotLeaf,
-    parent: &Option<LeafTable>,
-    frames: &mut [Option<Frame>],
-    allot: &mut A,
-) {
-    match leaf {
-        SnapshotLeaf::Own(table) => {
-            for page in 0..CELL_PAGES {
-                release_page(&table, parent, frames, page, allot);
-            }
-            allot.give(table.into_frame());
-        }
-        SnapshotLeaf::Joined => {}
-        SnapshotLeaf::Lost(_) => {}
-    }
-}
-
-/// Gives back the frame of one page of a table, where the other table does not name it.
-fn release_page<A: Allot>(
-    table: &LeafTable,
-    other: &Option<LeafTable>,
-    frames: &mut [Option<Frame>],
-    page: u16,
-    allot: &mut A,
-) {
-    if let Some(place) = table.get(page) {
-        if place_in(other, page) != Some(place) {
-            give_place(frames, place, allot);
-        }
-    }
 }
