@@ -20,7 +20,7 @@ use Rattle.leaf_cell.proofs.PresentPage.{touch-copied}
 use Rattle.leaf_cell.proofs.TouchMade.{put-view, kept-unjoined, leaf-count}
 
 -- options that test equal are equal
-eq-some : (o : Option ℕ) (place : ℕ) → option_eq nat_eq o (Some place) ≡ true → o ≡ Some place
+pub eq-some : (o : Option ℕ) (place : ℕ) → option_eq nat_eq o (Some place) ≡ true → o ≡ Some place
 eq-some None place h = absurd (false≢true h)
 eq-some (Some q) place h = elim (cases_eq q place) [
   | inl same ↦ ap Some same

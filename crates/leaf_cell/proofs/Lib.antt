@@ -18,3 +18,4 @@ pub mod PairCounts
 pub mod LivePairs
 pub mod SameShare
 pub mod HeldShare
+pub mod Releases

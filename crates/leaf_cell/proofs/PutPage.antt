@@ -19,7 +19,7 @@ one_page p page place a b (inl x) (inr y) = absurd (omega (arith, a, b, x, y))
 one_page p page place a b (inr x) (inl y) = absurd (omega (arith, a, b, x, y))
 one_page p page place a b (inr x) (inr y) = omega (arith, x, y)
 
-place_room : (page place : ℕ) → page < 512 → IsPlaceOf page place → place < 1024
+pub place_room : (page place : ℕ) → page < 512 → IsPlaceOf page place → place < 1024
 place_room page place small (inl x) = omega (arith, small, x)
 place_room page place small (inr x) = omega (arith, small, x)
 
