@@ -9,7 +9,8 @@ use Rattle.vm_base.specs.Frames.{FrameView}
 use Rattle.vm_base.proofs.DealLemmas.{LeadsAlong-append}
 use Rattle.kernel_meaning.specs.Leaves.{Versions, version_at}
 use Rattle.leaf_cell.specs.Inside.{IsPlaceOf}
-use Rattle.leaf_cell.specs.Releasing.{AreHome, Releasing, IsReleased}
+use Rattle.leaf_cell.specs.Releasing.{AreHome, Releasing, IsReleased, IsLeafReleased}
+use Rattle.leaf_cell.proofs.NewCell.{none_is_not_some}
 use Rattle.leaf_cell.proofs.PutPage.{one_page, place_room}
 use Rattle.leaf_cell.proofs.CopyMade.{eq-some}
 
@@ -96,4 +97,30 @@ not-released goes state own other frames page place named named_too = record {
   taken = omega arith;
   frames = inl refl;
   gone = λ q own_q unnamed. absurd (unnamed (named_too ∙ sym named ∙ own_q));
+}
+
+-- the pages of a table, and then the table itself
+pub leaf-released : {State : Type 0} (goes : State → Deal → State → Type 0) (from middle to : State) (own other : Versions) (old new : List (Option FrameView)) → AreHome own
+    → Releasing goes from middle own other old new 512 → goes middle Returned to → IsLeafReleased goes from to own other 1 old new
+leaf-released goes from middle to own other old new home pages table = record {
+  count = pages.count + 1;
+  led = subst (λ deals. LeadsAlong goes from deals to) (replicate-both Returned pages.count 1)
+      (LeadsAlong-append goes (replicate pages.count Returned) (Returned ∷ []) from middle to pages.led (to, (table, refl)));
+  taken = omega (arith, pages.taken);
+  room = pages.room;
+  each = pages.each;
+  kept = pages.kept;
+  gone = λ page place named unnamed. pages.gone page place (home page place named).0 named unnamed;
+}
+
+-- a leaf without a table
+pub leaf-kept : {State : Type 0} (goes : State → Deal → State → Type 0) (state : State) (own other : Versions) (frames : List (Option FrameView)) → ((page : ℕ) → version_at own page ≡ None) → IsLeafReleased goes state state own other 0 frames frames
+leaf-kept goes state own other frames none = record {
+  count = 0;
+  led = refl;
+  taken = omega arith;
+  room = refl;
+  each = λ place. inl refl;
+  kept = λ page place named. refl;
+  gone = λ page place named. none_is_not_some (version_at own page) place (none page) named;
 }

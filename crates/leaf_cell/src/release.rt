@@ -1,8 +1,9 @@
 //! Frames that go back.
 ghost use Rattle.std.specs.Prelude.{◌≡◌, ◌+◌, ◌<◌, ◌≤◌, length, slice_set, slice_index_or, replicate, count_by, is_some, Some, None};
 ghost use Rattle.vm_base.specs.Deals.{LeadsAlong, Returned};
-ghost use Rattle.leaf_cell.specs.Inside.{table_places};
-ghost use Rattle.leaf_cell.specs.Releasing.{one_if, AreHome, Releasing, IsReleased};
+ghost use Rattle.kernel_meaning.specs.Leaves.{no_versions};
+ghost use Rattle.leaf_cell.specs.Inside.{table_places, snapshot_places, leaf_value};
+ghost use Rattle.leaf_cell.specs.Releasing.{one_if, own_if, IsLeafReleased, AreHome, Releasing, IsReleased};
 
 use crate::leaf_table::{CELL_PAGES, LeafTable};
 use crate::lookups::place_in;
@@ -15,7 +16,16 @@ pub(crate) fn release_leaf<A: Allot>(
     parent: &Option<LeafTable>,
     frames: &mut Vec<Option<Frame>>,
     allot: &mut A,
-) {
+)
+    requires size { length frames.old.items ≡ 1024 }
+    requires home { AreHome (snapshot_places no_versions leaf) }
+    requires others { AreHome (table_places parent.now) }
+    requires out { count_by is_some frames.old.items + own_if (leaf_value leaf) ≤ A.out (A.state allot.old) }
+    requires untold { A.grants allot.old ≡ None }
+    ensures released { IsLeafReleased A.goes (A.state allot.old) (A.state allot.new) (snapshot_places no_versions leaf) (table_places parent.now) (own_if (leaf_value leaf)) frames.old.items frames.new.items }
+    ensures out { A.out (A.state allot.new) + count_by is_some frames.old.items + own_if (leaf_value leaf) ≡ A.out (A.state allot.old) + count_by is_some frames.new.items }
+    ensures untold { A.grants allot.new ≡ None }
+{
     match leaf {
         SnapshotLeaf::Own(table) => {
             release_pages(&table, parent, frames, allot);
