@@ -19,3 +19,4 @@ pub mod LivePairs
 pub mod SameShare
 pub mod HeldShare
 pub mod Releases
+pub mod DropMade

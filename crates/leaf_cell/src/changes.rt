@@ -1,10 +1,10 @@
 //! Clearing pages, forking and dropping.
-ghost use Rattle.std.specs.Prelude.{◌≡◌, ◌+◌, ◌≤◌, ℕ, [], true, None, OnErr};
+ghost use Rattle.std.specs.Prelude.{◌≡◌, ◌+◌, ◌≤◌, ℕ, [], true, is_some, None, OnErr};
 ghost use Rattle.vm_base.specs.declared.fork_mode.Mode.TheVariants as mode;
 ghost use Rattle.vm_base.specs.FlatMemory.{zero_page};
 ghost use Rattle.leaf_cell.specs.declared.snapshot.SnapshotLeaf.TheVariants as leaf;
-ghost use Rattle.leaf_cell.specs.Inside.{table_places};
-ghost use Rattle.kernel_meaning.specs.Leaves.{has_present, has_pages};
+ghost use Rattle.leaf_cell.specs.Inside.{table_places, kept_values};
+ghost use Rattle.kernel_meaning.specs.Leaves.{has_present, has_pages, kept_by, no_versions};
 ghost use Rattle.kernel_meaning.specs.CellAccount.{Clear, Fork, Drop as DropAct};
 ghost use Rattle.leaf_cell.specs.CellView.{AreUnjoined, held_of};
 ghost use Rattle.leaf_cell.specs.Standing.{MadeAct};
@@ -70,16 +70,21 @@ impl Cell {
         ensures held { A.out (A.state allot.new) + held_of self.old ≡ A.out (A.state allot.old) + held_of self.new }
         ensures untold { A.grants allot.new ≡ None }
     {
-        match self.snapshot.take() {
-            Some(snapshot) => {
-                if snapshot.number == number {
-                    release_leaf(snapshot.leaf, &self.parent, &mut self.frames, allot);
-                } else {
-                    self.snapshot = Some(snapshot);
-                }
+        if is_snapshot(&self.snapshot, number) {
+            if let Some(snapshot) = self.snapshot.take() {
+                release_leaf(snapshot.leaf, &self.parent, &mut self.frames, allot);
             }
-            None => {}
         }
+    }
+}
+
+/// Whether the snapshot has this number.
+fn is_snapshot(snapshot: &Option<Snapshot>, number: u32) -> bool
+    ensures { result ≡ is_some (kept_by (kept_values no_versions snapshot.now) number) }
+{
+    match snapshot {
+        Some(snapshot) => snapshot.number == number,
+        None => false,
     }
 }
 
