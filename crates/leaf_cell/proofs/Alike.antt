@@ -15,12 +15,15 @@ kept-with_name : (name : ℕ → ℕ → ℕ) (page version place : ℕ) (view m
 kept-with_name name page version place [] [] fresh alike = tt
 kept-with_name name page version place [] (it ∷ others) fresh alike = absurd alike
 kept-with_name name page version place (it ∷ others) [] fresh alike = absurd alike
-kept-with_name name page version place (it ∷ others) (meant ∷ rest) fresh alike = (record {
-  number = alike.0.number;
-  mode = alike.0.mode;
-  leaf = alike.0.leaf;
-  versions = λ unlost. alike.0.versions unlost ∙ renamed-with_name name meant.versions page version place (λ there. fresh (inl (unlost, there)));
-}, kept-with_name name page version place others rest (λ named. fresh (inr named)) alike.1)
+kept-with_name name page version place (it ∷ others) (meant ∷ rest) fresh alike = (
+  record {
+    number = alike.0.number;
+    mode = alike.0.mode;
+    leaf = alike.0.leaf;
+    versions = λ unlost. alike.0.versions unlost ∙ renamed-with_name name meant.versions page version place (λ there. fresh (inl (unlost, there)));
+  },
+  kept-with_name name page version place others rest (λ named. fresh (inr named)) alike.1,
+)
 
 -- what lives among snapshots lives under its name
 named-alike : (name : ℕ → ℕ → ℕ) (page version : ℕ) (view meant : List Kept) → AreKeptAlike name view meant → IsNamedBy page version meant → IsNamedBy page (name page version) view
@@ -42,7 +45,6 @@ same_some x y e = ap (λ o. unwrap_or o x) e
 module _ (name : ℕ → ℕ → ℕ) (view meant : CellLeaves) (page version place : ℕ)
     (alike : IsRenaming name view meant) (inside : page < length meant.parent)
     (fresh : (v : ℕ) → IsLive meant page v → v ≢ version) (free : IsLive view page place → ⊥) where
-
   new : ℕ → ℕ → ℕ
   new = with_name name page version place
 
@@ -73,13 +75,13 @@ module _ (name : ℕ → ℕ → ℕ) (view meant : CellLeaves) (page version pl
   new_apart : (p a b : ℕ) → IsLive (with_parent_version page version meant) p a → IsLive (with_parent_version page version meant) p b → new p a ≡ new p b → a ≡ b
   new_apart p a b la lb same = elim (lived p a la) [
     | inl a_new ↦ elim (lived p b lb) [
-        | inl b_new ↦ a_new.1 ∙ sym b_new.1
-        | inr b_old ↦ absurd (not_old p b a_new.0 b_old (sym (new_name p a a_new) ∙ same))
-      ]
+      | inl b_new ↦ a_new.1 ∙ sym b_new.1
+      | inr b_old ↦ absurd (not_old p b a_new.0 b_old (sym (new_name p a a_new) ∙ same))
+    ]
     | inr a_old ↦ elim (lived p b lb) [
-        | inl b_new ↦ absurd (not_old p a b_new.0 a_old (sym (new_name p b b_new) ∙ sym same))
-        | inr b_old ↦ alike.apart p a b a_old b_old (sym (old_name p a a_old) ∙ same ∙ old_name p b b_old)
-      ]
+      | inl b_new ↦ absurd (not_old p a b_new.0 a_old (sym (new_name p b b_new) ∙ sym same))
+      | inr b_old ↦ alike.apart p a b a_old b_old (sym (old_name p a a_old) ∙ same ∙ old_name p b b_old)
+    ]
   ]
 
   -- a version that was not there, at a place that was free

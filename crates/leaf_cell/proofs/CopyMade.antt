@@ -36,7 +36,6 @@ module _ (parent : Option Versions) (snapshot : Option Snapshot) (frames : List 
     (there : version_at (table_places parent) page ≡ Some place) (named : is_named (cell_value parent snapshot frames).leaves page place ≡ true)
     (unjoined : AreUnjoined (kept_values (table_places parent) snapshot))
     (next : Option Versions) (new : List (Option FrameView)) (put : IsPut (page_or_zeros (frame_bytes frames place)) page (table_places parent) frames (table_places next) new) (is_table : is_some next ≡ true) where
-
   view : CellView
   view = cell_value parent snapshot frames
 
@@ -60,7 +59,7 @@ module _ (parent : Option Versions) (snapshot : Option Snapshot) (frames : List 
     follows = λ account stands. subst (λ ds. TakesAccount (Touch page) (cell_value parent snapshot frames) (cell_value next snapshot new) ds None account) (sym is)
         (subst (λ after. TakesAccount (Touch page) (cell_value parent snapshot frames) after (Granted want.Page ∷ []) None account) (put-view parent snapshot frames next new (page_or_zeros (frame_bytes frames place)) page put unjoined)
         (touch-copied (cell_value parent snapshot frames) page place small there unjoined account stands put.place put.frame inside.parent_size (are_filled parent snapshot frames inside) put.free
-          (room parent snapshot frames inside next new (page_or_zeros (frame_bytes frames place)) page small put is_table left) named bytes));
+        (room parent snapshot frames inside next new (page_or_zeros (frame_bytes frames place)) page small put is_table left) named bytes));
   }
 
   pub held-copied : (before after : ℕ) → after ≡ before + 1 → after + held_of (cell_value parent snapshot frames) ≡ before + held_of (cell_value next snapshot new)
@@ -69,5 +68,5 @@ module _ (parent : Option Versions) (snapshot : Option Snapshot) (frames : List 
       let old : parent_leaves (cell_value parent snapshot frames).leaves ≡ 1 = leaf-count (table_places parent) true (has_pages-there (table_places parent) page place there) in
       let one : parent_leaves (cell_value next snapshot new).leaves ≡ 1 = leaf-count (table_places next) true (has_pages_put parent snapshot frames inside next new (page_or_zeros (frame_bytes frames place)) page small put is_table left) in
       let own : own_leaves (cell_value next snapshot new).leaves ≡ own_leaves (cell_value parent snapshot frames).leaves =
-        ap (count_by (λ it. is_own it.leaf)) (kept-unjoined (table_places parent) (table_places next) snapshot unjoined) in
+      ap (count_by (λ it. is_own it.leaf)) (kept-unjoined (table_places parent) (table_places next) snapshot unjoined) in
       omega (arith, count, old, one, own, taken)

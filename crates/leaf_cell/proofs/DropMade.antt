@@ -108,7 +108,7 @@ pub takes-dropped : (old new : CellView) (account : CellAccount) (n count : ℕ)
 takes-dropped old new account n count stands leaves pages kept less =
     let alike : IsRenaming stands.name new.leaves (without n account.state.leaves) = subst (λ l. IsRenaming stands.name l (without n account.state.leaves)) (sym leaves) (renaming-without stands.name n old.leaves account.state.leaves stands.leaves) in
     let shrunk : share account.state.leaves - share (without n account.state.leaves) ≡ count =
-      omega (arith, less, share-alike stands.name old.leaves account.state.leaves stands.leaves, share-alike stands.name new.leaves (without n account.state.leaves) alike) in
+    omega (arith, less, share-alike stands.name old.leaves account.state.leaves stands.leaves, share-alike stands.name new.leaves (without n account.state.leaves) alike) in
     record {
       stands = record {
         name = stands.name;
@@ -144,12 +144,12 @@ inside-dropped goes from to parent it frames new tables inside released = record
   own_home = λ page place small named. none_is_not_some (version_at no_versions page) place (version_at-none page) named;
   named = λ page place small home there. elim (released.each place) [
     | inl same ↦ elim (inside.named page place small home (ap is_some (sym same) ∙ there)) [
+      | inl named ↦ inl named
+      | inr own ↦ elim (names-or (table_places parent) page place) [
         | inl named ↦ inl named
-        | inr own ↦ elim (names-or (table_places parent) page place) [
-            | inl named ↦ inl named
-            | inr unnamed ↦ absurd (false≢true (sym (ap is_some (released.gone page place own unnamed)) ∙ there))
-          ]
+        | inr unnamed ↦ absurd (false≢true (sym (ap is_some (released.gone page place own unnamed)) ∙ there))
       ]
+    ]
     | inr none ↦ absurd (false≢true (sym (ap is_some none) ∙ there))
   ];
   used = inside.used;
@@ -169,7 +169,7 @@ made-dropped goes from to parent it frames new n inside number released =
     let gone : (it.number == n) ≡ true = ap (λ x. x == n) number ∙ eqb-refl n in
     let after : AreInside parent None new = inside-dropped goes from to parent it frames new (own_if (leaf_value it.leaf)) inside released in
     let less : share (cell_value parent (Some it) frames).leaves ≡ share (cell_value parent None new).leaves + released.count =
-      omega (arith, released.taken, sym (held-share parent (Some it) frames inside), sym (held-share parent None new after), sum_by-cons (λ k. cond (is_own k.leaf) 1 0) (kept_value no_versions it) []) in
+    omega (arith, released.taken, sym (held-share parent (Some it) frames inside), sym (held-share parent None new after), sum_by-cons (λ k. cond (is_own k.leaf) 1 0) (kept_value no_versions it) []) in
     record {
       deals = replicate released.count Returned;
       led = released.led;

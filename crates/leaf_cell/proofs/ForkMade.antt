@@ -42,7 +42,6 @@ abbrev pub fork_of : ℕ → Versions → Kept
 fork_of n places = record { number = n; mode = Eager; versions = places; leaf = Own }
 
 module _ (view : CellView) (account : CellAccount) (stands : StandsFor view account) (n : ℕ) (alone : view.leaves.kept ≡ []) where
-
   none_meant : account.state.leaves.kept ≡ []
   none_meant = alike-none stands.name account.state.leaves.kept (subst (λ kept. AreKeptAlike stands.name kept account.state.leaves.kept) alone stands.leaves.kept)
 

@@ -32,7 +32,6 @@ is_none_or None = inl refl
 is_none_or (Some x) = inr refl
 
 module _ (parent : Option Versions) (snapshot : Option Snapshot) (frames : List (Option FrameView)) (inside : AreInside parent snapshot frames) where
-
   at_place : ℕ → Option FrameView
   at_place place = slice_index_or frames place None
 
@@ -48,9 +47,9 @@ module _ (parent : Option Versions) (snapshot : Option Snapshot) (frames : List 
   one_free page small absent = elim (is_none_or (slice_index_or frames page None)) [
     | inl free ↦ inl free
     | inr there ↦ elim (is_none_or (slice_index_or frames (page + 512) None)) [
-        | inl free ↦ inr free
-        | inr there_too ↦ absurd (omega (arith, same_some page (page + 512) (sym (own_names page page small absent (inl refl) there) ∙ own_names page (page + 512) small absent (inr refl) there_too)))
-      ]
+      | inl free ↦ inr free
+      | inr there_too ↦ absurd (omega (arith, same_some page (page + 512) (sym (own_names page page small absent (inl refl) there) ∙ own_names page (page + 512) small absent (inr refl) there_too)))
+    ]
   ]
 
   -- each place that lives has a frame
@@ -85,6 +84,6 @@ pub count-filled : (frames : List (Option FrameView)) (place : ℕ) (frame : Fra
     → count_by is_some (slice_set frames place (Some frame)) ≡ count_by is_some frames + 1
 count-filled frames place frame inside free =
     let moved : count_by is_some (slice_set frames place (Some frame)) + cond (is_some (slice_index_or frames place None)) 1 0 ≡ count_by is_some frames + 1 =
-      sum_by-set (λ o. cond (is_some o) 1 0) frames place (Some frame) None inside in
+    sum_by-set (λ o. cond (is_some o) 1 0) frames place (Some frame) None inside in
     let none : ◌≡◌ {A = ℕ} (cond (is_some (slice_index_or frames place None)) 1 0) 0 = ap (λ o. cond (is_some o) 1 0) free in
     omega (arith, moved, none)

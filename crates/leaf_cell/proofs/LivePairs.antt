@@ -118,7 +118,6 @@ below parent (Some it) frames inside p q (inr (inl named)) = leaf_below parent i
 below parent (Some it) frames inside p q (inr (inr named)) = absurd named
 
 module _ (parent : Option Versions) (snapshot : Option Snapshot) (frames : List (Option FrameView)) (inside : AreInside parent snapshot frames) where
-
   live_of : (x : ℕ × ℕ) → IsIn x (named_pairs (cell_value parent snapshot frames).leaves) → IsLive (cell_value parent snapshot frames).leaves x.0 x.1
   live_of x h = in-live (cell_value parent snapshot frames).leaves x (from-distinct x (all_pairs (cell_value parent snapshot frames).leaves) h)
 
@@ -138,7 +137,10 @@ module _ (parent : Option Versions) (snapshot : Option Snapshot) (frames : List 
   -- the page frames of a cell are as many as its distinct pairs
   pub pairs-filled : length (named_pairs (cell_value parent snapshot frames).leaves) ≡ count_by is_some frames
   pairs-filled = count-pairs (named_pairs (cell_value parent snapshot frames).leaves) frames (distinct-once (all_pairs (cell_value parent snapshot frames).leaves))
-      (λ x y hx hy same. λ i. (one_page x.0 y.0 y.1 (live_below x (live_of x hx)) (live_below y (live_of y hy))
-        (subst (IsPlaceOf x.0) same (at_home parent snapshot frames inside x.0 x.1 (live_of x hx))) (at_home parent snapshot frames inside y.0 y.1 (live_of y hy)) i, same i))
+      (λ x y hx hy same. λ i. (
+        one_page x.0 y.0 y.1 (live_below x (live_of x hx)) (live_below y (live_of y hy))
+            (subst (IsPlaceOf x.0) same (at_home parent snapshot frames inside x.0 x.1 (live_of x hx))) (at_home parent snapshot frames inside y.0 y.1 (live_of y hy)) i,
+        same i,
+      ))
       (λ x h. are_filled parent snapshot frames inside x.0 x.1 (live_of x h))
       pair_for

@@ -45,7 +45,6 @@ module _ (view : CellView) (account : CellAccount) (page version place made : �
     (filled : AreFilled view) (empty : slice_index_or view.frames place None ≡ None) (room : place < length view.frames)
     (above : account.made < version) (within : version ≤ made)
     (here : get pages page ≡ Some frame.bytes) (others : (p : ℕ) → p ≢ page → get pages p ≡ get account.state.pages p) where
-
   abbrev pub view_then : CellView
   view_then = record { leaves = with_parent_version page place view.leaves; frames = slice_set view.frames place (Some frame) }
 
@@ -56,7 +55,7 @@ module _ (view : CellView) (account : CellAccount) (page version place made : �
   }
 
   inside : page < length account.state.leaves.parent
-  inside = omega (arith, small, size, sym (ap length stands.leaves.parent) , length-renamed stands.name account.state.leaves.parent)
+  inside = omega (arith, small, size, sym (ap length stands.leaves.parent), length-renamed stands.name account.state.leaves.parent)
 
   fresh : (v : ℕ) → IsLive account.state.leaves page v → v ≢ version
   fresh v live same = absurd (omega (arith, stands.made page v live, above, same))

@@ -102,8 +102,8 @@ count-pairs {X} (x ∷ xs) frames once apart filled all =
     let less : count_by is_some left + cond (is_some (slice_index_or frames x.1 None)) 1 0 ≡ count_by is_some frames + 0 = sum_by-set (λ o. cond (is_some o) 1 0) frames x.1 None None inside in
     let one : ◌≡◌ {A = ℕ} (cond (is_some (slice_index_or frames x.1 None)) 1 0) 1 = ap (λ b. cond b 1 0) here in
     let rest : length xs ≡ count_by is_some left = count-pairs xs left once.1 (λ a b ha hb. apart a b (inr ha) (inr hb))
-      (λ y h. ap is_some (get_or-set_other frames x.1 y.1 None None (other y h)) ∙ filled y (inr h))
-      (λ q there. still q there) in
+    (λ y h. ap is_some (get_or-set_other frames x.1 y.1 None None (other y h)) ∙ filled y (inr h))
+    (λ q there. still q there) in
     omega (arith, less, one, rest)
   where
     still : (q : ℕ) → IsSome (slice_index_or (slice_set frames x.1 None) q None) → (y : ℕ × ℕ) × (IsIn y xs × (y.1 ≡ q))

@@ -40,7 +40,6 @@ eqb_names a b c d there back = elim (cases_eq a b) [
 ]
 
 module _ (name : ℕ → ℕ → ℕ) (view meant : CellLeaves) (alike : IsRenaming name view meant) (page version : ℕ) (live : IsLive meant page version) where
-
   -- one snapshot names the version where it names the place
   holds : (o : Option ℕ) → ((w : ℕ) → o ≡ Some w → IsLive meant page w) → holds_number (option_map (name page) o) (name page version) ≡ holds_number o version
   holds None lives = refl
@@ -55,8 +54,8 @@ module _ (name : ℕ → ℕ → ℕ) (view meant : CellLeaves) (alike : IsRenam
       by_leaf true is =
           let unlost : is_lost other.leaf ≡ false = own_unlost other.leaf is in
           ap (λ b. is_own other.leaf && b) (ap (λ vs. holds_number (version_at vs page) (name page version)) (same.versions unlost)
-            ∙ ap (λ o. holds_number o (name page version)) (version_at-renamed name other.versions page)
-            ∙ holds (version_at other.versions page) (λ w e. lives w (unlost, e)))
+          ∙ ap (λ o. holds_number o (name page version)) (version_at-renamed name other.versions page)
+          ∙ holds (version_at other.versions page) (λ w e. lives w (unlost, e)))
 
   named_alike : (its others : List Kept) → AreKeptAlike name its others → ((w : ℕ) → IsNamedBy page w others → IsLive meant page w)
       → list_any (names_version page (name page version)) its ≡ list_any (names_version page version) others
@@ -83,13 +82,12 @@ meant_from name (Some v) place e = (v, (refl, same_some (name v) place e))
 pub meant-there : (view : CellView) (account : CellAccount) (stands : StandsFor view account) (page place : ℕ) → version_at view.leaves.parent page ≡ Some place → Meant view account stands page place
 meant-there view account stands page place there =
     let found : (v : ℕ) × ((version_at account.state.leaves.parent page ≡ Some v) × (stands.name page v ≡ place)) =
-      meant_from (stands.name page) (version_at account.state.leaves.parent page) place
-      (sym (version_at-renamed stands.name account.state.leaves.parent page) ∙ ap (λ vs. version_at vs page) (sym stands.leaves.parent) ∙ there) in
+    meant_from (stands.name page) (version_at account.state.leaves.parent page) place
+    (sym (version_at-renamed stands.name account.state.leaves.parent page) ∙ ap (λ vs. version_at vs page) (sym stands.leaves.parent) ∙ there) in
     record { version = found.0; there = found.1.0; named = found.1.1 }
 
 module _ (view : CellView) (page place : ℕ) (small : page < 512) (there : version_at view.leaves.parent page ≡ Some place) (unjoined : AreUnjoined view.leaves.kept)
     (account : CellAccount) (stands : StandsFor view account) where
-
   meant : Meant view account stands page place
   meant = meant-there view account stands page place there
 
@@ -106,9 +104,9 @@ module _ (view : CellView) (page place : ℕ) (small : page < 512) (there : vers
       let course : Course = opening_course account.state.leaves (opening_requests account.made []) in
       takes-by (Touch page) view view [] None account course
       (touched-present page course (meant-unjoined view account stands unjoined) meant.version meant.there
-        ∙ ap (λ b. cond b (page_copy_answered page meant.version (coming_answer course) (asking want.Page course)) course) (same_named ∙ unnamed))
+      ∙ ap (λ b. cond b (page_copy_answered page meant.version (coming_answer course) (asking want.Page course)) course) (same_named ∙ unnamed))
       (subst (λ pages. StandsFor view (record { state = record account.state { pages = pages }; made = account.made }))
-        (sym (with_page_there account.state.pages page (ap is_some (page_there (bytes_in view.frames (Some place)) refl) ∙ filled))) stands)
+      (sym (with_page_there account.state.pages page (ap is_some (page_there (bytes_in view.frames (Some place)) refl) ∙ filled))) stands)
       refl refl
 
   -- a snapshot names it and the frame is granted: the page gets a version of its own
@@ -121,7 +119,7 @@ module _ (view : CellView) (page place : ℕ) (small : page < 512) (there : vers
       let kept_pages : with_page account.state.pages page ≡ account.state.pages = with_page_there account.state.pages page (ap is_some (page_there (Some frame.bytes) bytes)) in
       takes-by (Touch page) view next (Granted want.Page ∷ []) None account (page_copy_answered page meant.version Yes (asking want.Page course))
       (touched-present page course (meant-unjoined view account stands unjoined) meant.version meant.there
-        ∙ ap (λ b. cond b (page_copy_answered page meant.version (coming_answer course) (asking want.Page course)) course) (same_named ∙ named))
+      ∙ ap (λ b. cond b (page_copy_answered page meant.version (coming_answer course) (asking want.Page course)) course) (same_named ∙ named))
       (stands-new_version view account page (account.made + 1) to (account.made + 1) frame (with_page account.state.pages page) stands small size filled empty room (omega arith) (omega arith)
-        (ap (λ m. get m page) kept_pages ∙ page_there (Some frame.bytes) bytes) (λ p apart. ap (λ m. get m p) kept_pages))
+      (ap (λ m. get m page) kept_pages ∙ page_there (Some frame.bytes) bytes) (λ p apart. ap (λ m. get m p) kept_pages))
       refl refl

@@ -27,7 +27,6 @@ module _ (parent : Option Versions) (snapshot : Option Snapshot) (frames : List 
     (next : Option Versions) (new : List (Option FrameView)) (bytes : List ℕ) (page : ℕ) (small : page < 512)
     (put : IsPut bytes page (table_places parent) frames (table_places next) new) (there : is_some next ≡ true)
     (left : (q : ℕ) → version_at (table_places parent) page ≡ Some q → version_at (own_places snapshot) page ≡ Some q) where
-
   pub room : put.place < length frames
   room = omega (arith, inside.room, place_room page put.place small put.home)
 
@@ -80,12 +79,12 @@ module _ (parent : Option Versions) (snapshot : Option Snapshot) (frames : List 
         let same : p ≡ page = one_page p page q below small home (subst (IsPlaceOf page) (sym here) put.home) in
         inl (ap (version_at (table_places next)) same ∙ table_here ∙ ap Some (sym here))
     | inr apart ↦ elim (inside.named p q below home (ap is_some (sym (frame_apart q apart)) ∙ filled)) [
-        | inl named ↦ elim (cases_eq p page) [
-            | inl same ↦ inr (ap (version_at (own_places snapshot)) same ∙ left q (ap (version_at (table_places parent)) (sym same) ∙ named))
-            | inr other ↦ inl (table_apart p other ∙ named)
-          ]
-        | inr named ↦ inr named
+      | inl named ↦ elim (cases_eq p page) [
+        | inl same ↦ inr (ap (version_at (own_places snapshot)) same ∙ left q (ap (version_at (table_places parent)) (sym same) ∙ named))
+        | inr other ↦ inl (table_apart p other ∙ named)
       ]
+      | inr named ↦ inr named
+    ]
   ]
 
   pub inside_put : AreInside next snapshot new

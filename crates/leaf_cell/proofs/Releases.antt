@@ -39,18 +39,21 @@ releasing-none goes state own other frames = record {
 module _ {State : Type 0} (goes : State → Deal → State → Type 0) (from middle to : State) (own other : Versions) (old now new : List (Option FrameView)) (page : ℕ)
     (small : page < 512) (size : length old ≡ 1024) (home : AreHome own) (home_too : AreHome other)
     (before : Releasing goes from middle own other old now page) (step : IsReleased goes middle to own other now new page) where
-
   -- a place is as it was before this page, or is given back by it
   at_step : (q : ℕ) → (slice_index_or new q None ≡ slice_index_or now q None) ⊎ ((q ≡ step.place) × (slice_index_or new q None ≡ None) × (version_at own page ≡ Some q) × (version_at other page ≡ Some q → ⊥))
   at_step q = elim step.frames [
     | inl same ↦ inl (ap (λ fs. slice_index_or fs q None) same)
     | inr set ↦ elim (cases_eq q step.place) [
-        | inl here ↦
-            let room : step.place < length now = omega (arith, size, before.room, place_room page step.place small (home page step.place set.1).1) in
-            inr (here, ap (λ fs. slice_index_or fs q None) set.0 ∙ ap (λ i. slice_index_or (slice_set now step.place None) i None) here ∙ get_or-set_same now step.place None None room,
-              set.1 ∙ ap Some (sym here), λ named. set.2 (named ∙ ap Some here))
-        | inr apart ↦ inl (ap (λ fs. slice_index_or fs q None) set.0 ∙ get_or-set_other now step.place q None None apart)
-      ]
+      | inl here ↦
+          let room : step.place < length now = omega (arith, size, before.room, place_room page step.place small (home page step.place set.1).1) in
+          inr (
+            here,
+            ap (λ fs. slice_index_or fs q None) set.0 ∙ ap (λ i. slice_index_or (slice_set now step.place None) i None) here ∙ get_or-set_same now step.place None None room,
+            set.1 ∙ ap Some (sym here),
+            λ named. set.2 (named ∙ ap Some here),
+          )
+      | inr apart ↦ inl (ap (λ fs. slice_index_or fs q None) set.0 ∙ get_or-set_other now step.place q None None apart)
+    ]
   ]
 
   pub releasing-more : Releasing goes from to own other old new (page + 1)
@@ -70,9 +73,9 @@ module _ {State : Type 0} (goes : State → Deal → State → Type 0) (from mid
     ];
     gone = λ p q below named unnamed. elim (cases_lt p page) [
       | inl earlier ↦ elim (at_step q) [
-          | inl same ↦ same ∙ before.gone p q earlier named unnamed
-          | inr set ↦ set.1
-        ]
+        | inl same ↦ same ∙ before.gone p q earlier named unnamed
+        | inr set ↦ set.1
+      ]
       | inr here ↦
           let is : p ≡ page = omega (arith, below, here) in
           let own_here : version_at own page ≡ Some q = ap (version_at own) (sym is) ∙ named in

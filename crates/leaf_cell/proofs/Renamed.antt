@@ -63,7 +63,7 @@ pub renamed-with_version : (name : ℕ → ℕ → ℕ) (versions : Versions) (p
 renamed-with_version name versions page version place inside =
     let new : ℕ → ℕ → ℕ = with_name name page version place in
     let size : length (with_version (renamed name versions) page place) ≡ length (renamed new (with_version versions page version)) =
-      length-set (renamed name versions) page (Some place) ∙ length-renamed name versions ∙ sym (length-set versions page (Some version)) ∙ sym (length-renamed new (with_version versions page version)) in
+    length-set (renamed name versions) page (Some place) ∙ length-renamed name versions ∙ sym (length-set versions page (Some version)) ∙ sym (length-renamed new (with_version versions page version)) in
     same_versions (with_version (renamed name versions) page place) (renamed new (with_version versions page version)) size (λ p small. elim (cases_eq p page) [
       | inl here ↦ ap (version_at (with_version (renamed name versions) page place)) here
           ∙ get_or-set_same (renamed name versions) page (Some place) None (rw (length-renamed name versions) inside)
@@ -88,15 +88,15 @@ pub renamed-with_name : (name : ℕ → ℕ → ℕ) (versions : Versions) (page
 renamed-with_name name versions page version place fresh =
     let new : ℕ → ℕ → ℕ = with_name name page version place in
     same_versions (renamed name versions) (renamed new versions) (length-renamed name versions ∙ sym (length-renamed new versions)) (λ p small.
-      version_at-renamed name versions p ∙ same_names p (version_at versions p) refl ∙ sym (version_at-renamed new versions p))
+    version_at-renamed name versions p ∙ same_names p (version_at versions p) refl ∙ sym (version_at-renamed new versions p))
   where
     same_names : (p : ℕ) (o : Option ℕ) → version_at versions p ≡ o → option_map (name p) o ≡ option_map (with_name name page version place p) o
     same_names p None is = refl
     same_names p (Some v) is = elim (cases_eq p page) [
       | inl here ↦ elim (cases_eq v version) [
-          | inl same ↦ absurd (fresh (ap (version_at versions) (sym here) ∙ is ∙ ap Some same))
-          | inr apart ↦ ap Some (sym (with_name-other_version name page version place p v apart))
-        ]
+        | inl same ↦ absurd (fresh (ap (version_at versions) (sym here) ∙ is ∙ ap Some same))
+        | inr apart ↦ ap Some (sym (with_name-other_version name page version place p v apart))
+      ]
       | inr apart ↦ ap Some (sym (with_name-other_page name page version place p v apart))
     ]
 

@@ -69,9 +69,9 @@ own-alike name (i ∷ is) (o ∷ os) alike = sum_by-cons (λ it. cond (is_own it
 pub share-alike : (name : ℕ → ℕ → ℕ) (view meant : CellLeaves) → IsRenaming name view meant → share view ≡ share meant
 share-alike name view meant alike =
     let pairs : all_pairs view ≡ map (named_pair name) (all_pairs meant) =
-      ap (λ vs. pairs_from 0 vs ++ flat_map pairs_of view.kept) alike.parent ∙ ap (λ ps. ps ++ flat_map pairs_of view.kept) (pairs-renamed name 0 meant.parent)
-      ∙ ap (λ ps. map (named_pair name) (pairs_from 0 meant.parent) ++ ps) (kept-pairs name view.kept meant.kept alike.kept)
-      ∙ sym (map-append (named_pair name) (pairs_from 0 meant.parent) (flat_map pairs_of meant.kept)) in
+    ap (λ vs. pairs_from 0 vs ++ flat_map pairs_of view.kept) alike.parent ∙ ap (λ ps. ps ++ flat_map pairs_of view.kept) (pairs-renamed name 0 meant.parent)
+    ∙ ap (λ ps. map (named_pair name) (pairs_from 0 meant.parent) ++ ps) (kept-pairs name view.kept meant.kept alike.kept)
+    ∙ sym (map-append (named_pair name) (pairs_from 0 meant.parent) (flat_map pairs_of meant.kept)) in
     let count : length (named_pairs view) ≡ length (named_pairs meant) = ap (λ ps. length (distinct_pairs ps)) pairs ∙ distinct-map (named_pair name) (all_pairs meant) apart in
     let leaf : parent_leaves view ≡ parent_leaves meant = ap (λ b. cond b 1 0) (ap has_pages alike.parent ∙ has_pages-renamed name meant.parent) in
     let own : own_leaves view ≡ own_leaves meant = own-alike name view.kept meant.kept alike.kept in

@@ -85,7 +85,6 @@ module _ (parent : Option Versions) (snapshot : Option Snapshot) (frames : List 
     (small : page < 512) (there : version_at (table_places parent) page ≡ Some place) (room : at + length bytes ≤ 4096)
     (whole : IsWholeFrame (slice_index_or frames place None)) (new : List (Option FrameView))
     (stored : new ≡ slice_set frames place (stored_in (slice_index_or frames place None) at bytes)) where
-
   home : IsPlaceOf page place
   home = parent_place parent snapshot frames inside page place there
 
@@ -134,7 +133,6 @@ module _ (parent : Option Versions) (snapshot : Option Snapshot) (frames : List 
   before = before_of (slice_index_or frames place None) refl (parent_filled parent snapshot frames inside page place there) whole
 
   module _ (unnamed : IsNamedBy page place (cell_value parent snapshot frames).leaves.kept → ⊥) (account : CellAccount) (stands : StandsFor (cell_value parent snapshot frames) account) where
-
     old_page : get account.state.pages page ≡ Some before.frame.bytes
     old_page = sym (stands.pages page small) ∙ ap (bytes_in frames) there ∙ ap (option_map (λ f. f.bytes)) before.is
 
@@ -151,7 +149,7 @@ module _ (parent : Option Versions) (snapshot : Option Snapshot) (frames : List 
         let named : IsNamedBy p q (cell_value parent snapshot frames).leaves.kept = named-kept n p q (cell_value parent snapshot frames).leaves.kept kept found unlost is in
         let at_p : IsPlaceOf p place = subst (IsPlaceOf p) same (at_home parent snapshot frames inside p q (inr named)) in
         unnamed (subst (λ i. IsNamedBy i place (cell_value parent snapshot frames).leaves.kept) (one_page p page place below small at_p home)
-          (subst (λ i. IsNamedBy p i (cell_value parent snapshot frames).leaves.kept) same named))
+        (subst (λ i. IsNamedBy p i (cell_value parent snapshot frames).leaves.kept) same named))
 
     pub takes-stored : TakesAccount (Store page at bytes) (cell_value parent snapshot frames) (cell_value parent snapshot new) [] None account
     takes-stored = record {

@@ -62,12 +62,12 @@ word_at-apart bytes i word k whole small small_too apart =
     let size : length (little_bytes 8 word) ≡ 8 = length-bytes_low_first 0 8 word in
     let room : 8 * i + length (little_bytes 8 word) ≤ length bytes = omega (arith, size) in
     little_from-same (drop (8 * k) (with_word bytes i word)) (drop (8 * k) bytes) 0 8 (λ j above below.
-      get_or-drop (8 * k) (with_word bytes i word) j 0
-      ∙ elim (cases_lt k i) [
-          | inl less ↦ spliced-below bytes (8 * i) (little_bytes 8 word) room (8 * k + j) (omega arith)
-          | inr more ↦ spliced-above bytes (8 * i) (little_bytes 8 word) room (8 * k + j) (omega (arith, size, apart))
-        ]
-      ∙ sym (get_or-drop (8 * k) bytes j 0))
+    get_or-drop (8 * k) (with_word bytes i word) j 0
+    ∙ elim (cases_lt k i) [
+      | inl less ↦ spliced-below bytes (8 * i) (little_bytes 8 word) room (8 * k + j) (omega arith)
+      | inr more ↦ spliced-above bytes (8 * i) (little_bytes 8 word) room (8 * k + j) (omega (arith, size, apart))
+    ]
+    ∙ sym (get_or-drop (8 * k) bytes j 0))
 
 -- the place of a page that a table holds
 pub version_at-places_of : (bytes : List ℕ) (page : ℕ) → page < 512 → version_at (places_of bytes) page ≡ place_in (word_at bytes page)

@@ -62,7 +62,6 @@ module _ (view : CellView) (page place : ℕ) (frame : FrameView) (small : page 
     (filled : AreFilled view) (empty : slice_index_or view.frames place None ≡ None) (room : place < length view.frames)
     (absent : version_at view.leaves.parent page ≡ None) (unjoined : AreUnjoined view.leaves.kept) (zeros : frame.bytes ≡ zero_page)
     (account : CellAccount) (stands : StandsFor view account) where
-
   no_page : get account.state.pages page ≡ None
   no_page = sym (stands.pages page small) ∙ ap (bytes_in view.frames) absent
 
@@ -91,7 +90,7 @@ module _ (view : CellView) (page place : ℕ) (frame : FrameView) (small : page 
       let course : Course = opening_course account.state.leaves (opening_requests account.made (Yes ∷ Yes ∷ [])) in
       takes-by (Touch page) view next_view (Granted want.Leaf ∷ Granted want.Page ∷ []) None account (new_page_asked page 1 (asking want.Leaf course))
       (touched-first page course (meant-unjoined view account stands unjoined) (meant-absent view account stands page absent) (meant-pages view account stands ∙ none)
-        ∙ ap (new_page_asked page 1) (before_change-none (asking want.Leaf course) (meant-unjoined view account stands unjoined)))
+      ∙ ap (new_page_asked page 1) (before_change-none (asking want.Leaf course) (meant-unjoined view account stands unjoined)))
       (stands_next (account.made + 1 + 1) (omega arith)) refl refl
 
 -- requests that leave all as it was
@@ -106,7 +105,6 @@ stands-made view account made stands more = record {
 
 module _ (view : CellView) (page at : ℕ) (absent : version_at view.leaves.parent page ≡ None) (unjoined : AreUnjoined view.leaves.kept)
     (account : CellAccount) (stands : StandsFor view account) where
-
   pub page-refused : has_pages view.leaves.parent ≡ true → TakesAccount (Touch page) view view (Denied want.Page at ∷ []) (Some at) account
   page-refused there =
       let course : Course = opening_course account.state.leaves (opening_requests account.made (No at ∷ [])) in
@@ -126,5 +124,5 @@ module _ (view : CellView) (page at : ℕ) (absent : version_at view.leaves.pare
       let course : Course = opening_course account.state.leaves (opening_requests account.made (Yes ∷ No at ∷ [])) in
       takes-by (Touch page) view view (Granted want.Leaf ∷ Denied want.Page at ∷ Returned ∷ []) (Some at) account (new_page_asked page 1 (asking want.Leaf course))
       (touched-first page course (meant-unjoined view account stands unjoined) (meant-absent view account stands page absent) (meant-pages view account stands ∙ none)
-        ∙ ap (new_page_asked page 1) (before_change-none (asking want.Leaf course) (meant-unjoined view account stands unjoined)))
+      ∙ ap (new_page_asked page 1) (before_change-none (asking want.Leaf course) (meant-unjoined view account stands unjoined)))
       (stands-made view account (account.made + 1 + 1) stands (omega arith)) refl refl

@@ -26,7 +26,7 @@ none_pass with_mode (it ∷ others) h = ap (λ b. cond (b && with_mode it) (it �
 pub before_change-none : (course : Course) → AreUnjoined course.cell.kept → before_change course ≡ course
 before_change-none course h =
     let first : leaves_copied (numbers_where is_shared course.cell) course ≡ course =
-      ap (λ kept. leaves_copied (map (λ k. k.number) kept) course) (none_pass (λ it. not (is_async it.mode)) course.cell.kept h) in
+    ap (λ kept. leaves_copied (map (λ k. k.number) kept) course) (none_pass (λ it. not (is_async it.mode)) course.cell.kept h) in
     ap (λ c. leaves_copied (numbers_where is_marked c.cell) c) first
     ∙ ap (λ kept. leaves_copied (map (λ k. k.number) kept) course) (none_pass (λ it. is_async it.mode) course.cell.kept h)
 

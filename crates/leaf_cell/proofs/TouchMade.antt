@@ -44,7 +44,6 @@ put-view parent snapshot frames next new bytes page put unjoined = λ i. record 
 }
 
 module _ {State : Type 0} (goes : State → Deal → State → Type 0) (from to : State) (snapshot : Option Snapshot) (frames : List (Option FrameView)) (page : ℕ) (small : page < 512) where
-
   -- where the leaf table was there
   added-there : (places : Versions) (inside : AreInside (Some places) snapshot frames) (next : Option Versions) (new : List (Option FrameView)) (result : Result (Unit {0}) RefusedRequest)
       → version_at places page ≡ None → AreUnjoined (kept_values places snapshot) → LedByAdding goes from to true result
@@ -58,8 +57,8 @@ module _ {State : Type 0} (goes : State → Deal → State → Type 0) (from to 
         follows = λ account stands. subst (λ deals. TakesAccount (Touch page) view (cell_value next snapshot new) deals None account) (sym led.adding)
             (subst (λ after. TakesAccount (Touch page) view after (Granted want.Page ∷ []) None account) (put-view (Some places) snapshot frames next new zero_page page put.0 unjoined)
             (touch-added view page put.0.place put.0.frame small inside.parent_size (are_filled (Some places) snapshot frames inside) put.0.free
-              (room (Some places) snapshot frames inside next new zero_page page small put.0 put.1 (λ q there. none_is_not_some (version_at places page) q absent there))
-              absent unjoined put.0.held account stands (inside.used places refl)));
+            (room (Some places) snapshot frames inside next new zero_page page small put.0 put.1 (λ q there. none_is_not_some (version_at places page) q absent there))
+            absent unjoined put.0.held account stands (inside.used places refl)));
       }
   added-there places inside next new (Err refused) absent unjoined led put kept =
       let view : CellView = cell_value (Some places) snapshot frames in
@@ -84,8 +83,8 @@ module _ {State : Type 0} (goes : State → Deal → State → Type 0) (from to 
         follows = λ account stands. subst (λ deals. TakesAccount (Touch page) view (cell_value next snapshot new) deals None account) (sym led.adding)
             (subst (λ after. TakesAccount (Touch page) view after (Granted want.Leaf ∷ Granted want.Page ∷ []) None account) (put-view None snapshot frames next new zero_page page put.0 unjoined)
             (touch-first view page put.0.place put.0.frame small inside.parent_size (are_filled None snapshot frames inside) put.0.free
-              (room None snapshot frames inside next new zero_page page small put.0 put.1 (λ q there. none_is_not_some (version_at no_versions page) q absent there))
-              absent unjoined put.0.held account stands refl));
+            (room None snapshot frames inside next new zero_page page small put.0 put.1 (λ q there. none_is_not_some (version_at no_versions page) q absent there))
+            absent unjoined put.0.held account stands refl));
       }
   added-first inside next new (Err refused) absent unjoined led put kept =
       let view : CellView = cell_value None snapshot frames in
@@ -139,7 +138,7 @@ held-added parent snapshot frames inside page small next new (Ok done) before af
     let old : parent_leaves (cell_value parent snapshot frames).leaves ≡ cond (is_some parent) 1 0 = leaf-count (table_places parent) (is_some parent) (old-leaf parent snapshot frames inside) in
     let one : parent_leaves (cell_value next snapshot new).leaves ≡ 1 = leaf-count (table_places next) true (has_pages_put parent snapshot frames inside next new zero_page page small put.0 put.1 left) in
     let own : own_leaves (cell_value next snapshot new).leaves ≡ own_leaves (cell_value parent snapshot frames).leaves =
-      ap (count_by (λ it. is_own it.leaf)) (kept-unjoined (table_places parent) (table_places next) snapshot unjoined) in
+    ap (count_by (λ it. is_own it.leaf)) (kept-unjoined (table_places parent) (table_places next) snapshot unjoined) in
     let both : ◌≡◌ {A = ℕ} (cond (is_some parent) 1 2 + cond (is_some parent) 1 0) 2 = either-way (is_some parent) in
     omega (arith, count, old, one, own, both, taken)
 held-added parent snapshot frames inside page small next new (Err refused) before after absent unjoined put kept taken returned =

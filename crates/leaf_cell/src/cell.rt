@@ -7,10 +7,12 @@ ghost use Rattle.leaf_cell.specs.Standing.{StandsFor};
 ghost use Rattle.leaf_cell.specs.States.{state_of, nth_number, snapshot_part};
 
 use crate::leaf_table::{CELL_PAGES, LeafTable};
+use crate::lookups::{
+    count_frames, count_own, count_table, leaf_state, place_in, read_place, snapshot_place,
+};
 use crate::snapshot::{LeafState, Snapshot};
 use std::alloc::Global;
 use std::marker::Model;
-use crate::lookups::{count_frames, count_own, count_table, leaf_state, place_in, read_place, snapshot_place};
 use vm_base::{Frame, Lost, NoMemory};
 
 /// Places for frames: two for each page, so that a page and the copy that a snapshot keeps of it

@@ -13,8 +13,8 @@ ghost use Rattle.leaf_cell.specs.States.{refused_count};
 use crate::cell::Cell;
 use crate::leaf_table::{CELL_PAGES, LeafTable};
 use crate::lookups::own_place;
-use crate::snapshot::{Snapshot, SnapshotLeaf};
 use crate::release::{give_place, release_leaf};
+use crate::snapshot::{Snapshot, SnapshotLeaf};
 use vm_base::{Allot, Frame, Mode, Refused, Want};
 
 impl Cell {

@@ -6,9 +6,9 @@
 //! stands for the account with that act. The README beside this crate says what it keeps where.
 #![tactic(auto)]
 
-mod leaf_table;
 mod cell;
 mod changes;
+mod leaf_table;
 mod lookups;
 mod pages;
 mod release;

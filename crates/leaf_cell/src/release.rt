@@ -83,11 +83,7 @@ fn release_page<A: Allot>(
 }
 
 /// Gives back the frame at a place.
-pub(crate) fn give_place<A: Allot>(
-    frames: &mut Vec<Option<Frame>>,
-    place: u32,
-    allot: &mut A,
-)
+pub(crate) fn give_place<A: Allot>(frames: &mut Vec<Option<Frame>>, place: u32, allot: &mut A)
     requires place { place < length frames.old.items }
     requires out { one_if (slice_index_or frames.old.items place None) ≤ A.out (A.state allot.old) }
     requires untold { A.grants allot.old ≡ None }

@@ -22,8 +22,8 @@ returns-in-Ok-clause-made g c = λ seat.
       led = (g.A.Allot.state c.take.new.self, (c.in-Ok.ensures.granted, refl));
       follows = subst (λ view. (account : CellAccount) → StandsFor view account → TakesAccount (Fork c.args.number mode.Eager seat) view new (Granted want.Leaf ∷ []) None account) c.self.view_is
           (λ account stands. subst (λ after. TakesAccount (Fork c.args.number mode.Eager seat) old after (Granted want.Leaf ∷ []) None account)
-            (forked-view c.self.inside.parent c.self.inside.snapshot c.self.inside.frames.items c.new_snapshot.result c.args.number c.new_snapshot.ensures.number c.new_snapshot.ensures.mode c.new_snapshot.ensures.leaf)
-            (fork-granted old account stands c.args.number (ap (λ view. view.leaves.kept) c.self.view_is ∙ c.requires.alone) seat));
+          (forked-view c.self.inside.parent c.self.inside.snapshot c.self.inside.frames.items c.new_snapshot.result c.args.number c.new_snapshot.ensures.number c.new_snapshot.ensures.mode c.new_snapshot.ensures.leaf)
+          (fork-granted old account stands c.args.number (ap (λ view. view.leaves.kept) c.self.view_is ∙ c.requires.alone) seat));
     }
 
 pub returns-in-Err-clause-made : goal.returns-in-Err-clause-made

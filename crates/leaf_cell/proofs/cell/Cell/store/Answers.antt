@@ -24,6 +24,6 @@ returns-in-Some c =
           takes-stored c.self.inside.parent c.self.inside.snapshot c.self.inside.frames.items c.self.invariant c.args.page c.in-Some.place c.args.at c.args.bytes.now
           c.requires.page (sym c.place_in.ensures ∙ c.in-Some.is) c.requires.room c.store_place.ensures.whole c.store_place.new.frames.items c.store_place.ensures.stored
           (λ named. c.requires.unnamed c.in-Some.place (ap (λ view. version_at view.leaves.parent c.args.page) (sym c.self.view_is) ∙ sym c.place_in.ensures ∙ c.in-Some.is)
-            (subst (λ view. IsNamedBy c.args.page c.in-Some.place view.leaves.kept) c.self.view_is named))
+          (subst (λ view. IsNamedBy c.args.page c.in-Some.place view.leaves.kept) c.self.view_is named))
           account stands);
     }

@@ -33,9 +33,9 @@ returns-else-eq-clause-made g c = record {
       touch-in_place (cell_value c.self.inside.parent c.self.inside.snapshot c.self.inside.frames.items) c.args.page c.in-Some.place c.requires.page
       (sym c.place_in.ensures ∙ c.in-Some.is) (subst (λ view. AreUnjoined view.leaves.kept) (sym c.self.view_is) c.requires.unjoined) account stands
       (named-own c.self.inside.parent c.self.inside.snapshot c.self.inside.frames.items c.args.page c.in-Some.place
-        ∙ ap (λ o. option_eq nat_eq o (Some c.in-Some.place)) (sym c.own_place.ensures) ∙ sym c.eq.ensures ∙ c.if-eq.false)
+      ∙ ap (λ o. option_eq nat_eq o (Some c.in-Some.place)) (sym c.own_place.ensures) ∙ sym c.eq.ensures ∙ c.if-eq.false)
       (frame_there (slice_index_or c.self.inside.frames.items c.in-Some.place None)
-        (parent_filled c.self.inside.parent c.self.inside.snapshot c.self.inside.frames.items c.self.invariant c.args.page c.in-Some.place (sym c.place_in.ensures ∙ c.in-Some.is))));
+      (parent_filled c.self.inside.parent c.self.inside.snapshot c.self.inside.frames.items c.self.invariant c.args.page c.in-Some.place (sym c.place_in.ensures ∙ c.in-Some.is))));
 }
 
 pub invariant_of-self : goal.invariant_of-self
@@ -45,15 +45,15 @@ invariant_of-self g c = inside-added c.self.inside.parent c.self.inside.snapshot
 pub returns-in-None-clause-made : goal.returns-in-None-clause-made
 returns-in-None-clause-made g c =
     subst (λ old. MadeAct g.A.Allot.goes (g.A.Allot.state c.args.allot.now) (g.A.Allot.state c.add_page.new.allot) (Touch c.args.page) old
-      (cell_value c.add_page.new.parent c.self.inside.snapshot c.add_page.new.frames.items) (refused_count c.add_page.result)) c.self.view_is
+    (cell_value c.add_page.new.parent c.self.inside.snapshot c.add_page.new.frames.items) (refused_count c.add_page.result)) c.self.view_is
     (made-added g.A.Allot.goes (g.A.Allot.state c.args.allot.now) (g.A.Allot.state c.add_page.new.allot) c.self.inside.snapshot c.self.inside.frames.items c.args.page c.requires.page
-      c.self.inside.parent c.self.invariant c.add_page.new.parent c.add_page.new.frames.items c.add_page.result (sym c.place_in.ensures ∙ c.in-None.is)
-      (subst (λ view. AreUnjoined view.leaves.kept) (sym c.self.view_is) c.requires.unjoined) c.add_page.ensures.led c.add_page.ensures.put c.add_page.ensures.kept)
+    c.self.inside.parent c.self.invariant c.add_page.new.parent c.add_page.new.frames.items c.add_page.result (sym c.place_in.ensures ∙ c.in-None.is)
+    (subst (λ view. AreUnjoined view.leaves.kept) (sym c.self.view_is) c.requires.unjoined) c.add_page.ensures.led c.add_page.ensures.put c.add_page.ensures.kept)
 
 pub returns-in-None-clause-held : goal.returns-in-None-clause-held
 returns-in-None-clause-held g c =
     ap (λ view. g.A.Allot.out (g.A.Allot.state c.add_page.new.allot) + held_of view) (sym c.self.view_is)
     ∙ held-added c.self.inside.parent c.self.inside.snapshot c.self.inside.frames.items c.self.invariant c.args.page c.requires.page
-      c.add_page.new.parent c.add_page.new.frames.items c.add_page.result (g.A.Allot.out (g.A.Allot.state c.args.allot.now)) (g.A.Allot.out (g.A.Allot.state c.add_page.new.allot))
-      (sym c.place_in.ensures ∙ c.in-None.is) (subst (λ view. AreUnjoined view.leaves.kept) (sym c.self.view_is) c.requires.unjoined)
-      c.add_page.ensures.put c.add_page.ensures.kept c.add_page.ensures.taken c.add_page.ensures.returned
+    c.add_page.new.parent c.add_page.new.frames.items c.add_page.result (g.A.Allot.out (g.A.Allot.state c.args.allot.now)) (g.A.Allot.out (g.A.Allot.state c.add_page.new.allot))
+    (sym c.place_in.ensures ∙ c.in-None.is) (subst (λ view. AreUnjoined view.leaves.kept) (sym c.self.view_is) c.requires.unjoined)
+    c.add_page.ensures.put c.add_page.ensures.kept c.add_page.ensures.taken c.add_page.ensures.returned

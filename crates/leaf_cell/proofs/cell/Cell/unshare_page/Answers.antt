@@ -20,7 +20,7 @@ pub returns-in-Ok-clause-made : goal.returns-in-Ok-clause-made
 returns-in-Ok-clause-made g c =
     let led : LedByCopy g.A.Allot.goes (g.A.Allot.state c.args.allot.now) (g.A.Allot.state c.copy_page.new.allot) (Ok c.in-Ok.field-0) = c.in-Ok.ensures.led in
     subst (λ old. MadeAct g.A.Allot.goes (g.A.Allot.state c.args.allot.now) (g.A.Allot.state c.copy_page.new.allot) (Touch c.args.page) old
-      (cell_value c.copy_page.new.parent c.self.inside.snapshot c.copy_page.new.frames.items) None) c.self.view_is
+    (cell_value c.copy_page.new.parent c.self.inside.snapshot c.copy_page.new.frames.items) None) c.self.view_is
     (made-copied c.self.inside.parent c.self.inside.snapshot c.self.inside.frames.items c.self.invariant c.args.page c.args.place c.requires.page
     (ap (λ view. version_at view.leaves.parent c.args.page) c.self.view_is ∙ c.requires.there)
     (ap (λ view. is_named view.leaves c.args.page c.args.place) c.self.view_is ∙ c.requires.named)
