@@ -157,7 +157,7 @@ inside-dropped goes from to parent it frames new tables inside released = record
   own_size = length-replicate {A = Option ℕ} 512 None;
 }
 
-bytes-kept : (old new : List (Option FrameView)) (o : Option ℕ) → ((q : ℕ) → o ≡ Some q → slice_index_or new q None ≡ slice_index_or old q None) → bytes_in new o ≡ bytes_in old o
+pub bytes-kept : (old new : List (Option FrameView)) (o : Option ℕ) → ((q : ℕ) → o ≡ Some q → slice_index_or new q None ≡ slice_index_or old q None) → bytes_in new o ≡ bytes_in old o
 bytes-kept old new None same = refl
 bytes-kept old new (Some q) same = ap (option_map (λ f. f.bytes)) (same q refl)
 

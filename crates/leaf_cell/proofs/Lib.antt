@@ -20,3 +20,4 @@ pub mod SameShare
 pub mod HeldShare
 pub mod Releases
 pub mod DropMade
+pub mod LossMade

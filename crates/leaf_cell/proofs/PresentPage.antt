@@ -88,14 +88,14 @@ meant-there view account stands page place there =
 
 module _ (view : CellView) (page place : ℕ) (small : page < 512) (there : version_at view.leaves.parent page ≡ Some place) (unjoined : AreUnjoined view.leaves.kept)
     (account : CellAccount) (stands : StandsFor view account) where
-  meant : Meant view account stands page place
+  pub meant : Meant view account stands page place
   meant = meant-there view account stands page place there
 
   -- whether a snapshot's own leaf names it, in the account
-  same_named : is_named account.state.leaves page meant.version ≡ is_named view.leaves page place
+  pub same_named : is_named account.state.leaves page meant.version ≡ is_named view.leaves page place
   same_named = sym (is_named-alike stands.name view.leaves account.state.leaves stands.leaves page meant.version (inl meant.there)) ∙ ap (is_named view.leaves page) meant.named
 
-  page_there : (bytes : Option (List ℕ)) → bytes_in view.frames (Some place) ≡ bytes → get account.state.pages page ≡ bytes
+  pub page_there : (bytes : Option (List ℕ)) → bytes_in view.frames (Some place) ≡ bytes → get account.state.pages page ≡ bytes
   page_there bytes is = sym (stands.pages page small) ∙ ap (bytes_in view.frames) there ∙ is
 
   -- no snapshot names it: nothing is asked for

@@ -13,8 +13,7 @@ use crate::cell::Cell;
 use crate::leaf_table::{CELL_PAGES, LeafTable, put_bytes};
 use crate::lookups::{own_place, place_in};
 use crate::pages::{add_page, copy_page};
-use crate::release::release_leaf;
-use crate::snapshot::SnapshotLeaf;
+use crate::release::lose_leaf;
 use vm_base::{Allot, Frame, Refused};
 
 impl Cell {
@@ -71,15 +70,15 @@ impl Cell {
     {
         match copy_page(&mut self.parent, &mut self.frames, page, place, allot) {
             Ok(()) => {}
-            Err(refused) => self.lose_snapshot(refused.at, allot),
-        }
-    }
-
-    /// The snapshot has lost the cell: its own table and the frames that only it names go back.
-    fn lose_snapshot<A: Allot>(&mut self, at: u64, allot: &mut A) {
-        if let Some(snapshot) = &mut self.snapshot {
-            let leaf = std::mem::replace(&mut snapshot.leaf, SnapshotLeaf::Lost(at));
-            release_leaf(leaf, &self.parent, &mut self.frames, allot);
+            Err(refused) => {
+                lose_leaf(
+                    &mut self.snapshot,
+                    refused.at,
+                    &self.parent,
+                    &mut self.frames,
+                    allot,
+                )
+            }
         }
     }
 }
