@@ -1,10 +1,12 @@
 # Made by packaging/make-pages from packaging/words.txt: change that table.
 _afkv() {
-  # A command has no words behind it.
-  if [ "$COMP_CWORD" = 1 ]; then
-    mapfile -t COMPREPLY < <(compgen -W 'trace' -- "$2")
-  else
-    COMPREPLY=()
-  fi
+  # What stands before the word under the cursor decides what may stand there.
+  local next=
+  case "${COMP_WORDS[*]:1:COMP_CWORD-1}" in
+    '') next='trace replay' ;;
+    'replay') next='--every' ;;
+    'replay --every') next='0' ;;
+  esac
+  mapfile -t COMPREPLY < <(compgen -W "$next" -- "$2")
 }
 complete -F _afkv afkv

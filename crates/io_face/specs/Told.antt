@@ -10,6 +10,10 @@ Takes old new piece = old ≡ option_map (λ rest. piece ++ rest) new
 abbrev pub TakesCount : Option (List ℕ) → Option (List ℕ) → ℕ → Type 0
 TakesCount old new count = (piece : List ℕ) × ((length piece ≡ count) × Takes old new piece)
 
+-- no more than so many bytes were taken off the front
+abbrev pub TakesAtMost : Option (List ℕ) → Option (List ℕ) → ℕ → Type 0
+TakesAtMost old new most = (piece : List ℕ) × ((length piece ≤ most) × Takes old new piece)
+
 -- some bytes were taken off the front
 abbrev pub TakesSome : Option (List ℕ) → Option (List ℕ) → Type 0
 TakesSome old new = (piece : List ℕ) × Takes old new piece

@@ -1,7 +1,7 @@
 //! Where bytes come from.
 ghost use Rattle.std.specs.Prelude.{◌≡◌, ℕ, ◌+◌, ◌<◌, ◌≤◌, ◌↔◌, List, Option, None, [], length, take, IfOk, IfSome, OnErr, IsErrOf, vec_len};
 ghost use Rattle.io_face.specs.Faults.{Rose};
-ghost use Rattle.io_face.specs.Told.{Takes, TakesCount, TakesSome, IsAtEnd};
+ghost use Rattle.io_face.specs.Told.{Takes, TakesAtMost, TakesCount, TakesSome, IsAtEnd};
 
 use crate::failed::Failed;
 use std::alloc::{AllocError, Global};
@@ -84,6 +84,10 @@ pub fn read_all<S: Source>(
     ensures too_long { IsErrOf result ReadAllError.TooLong
         → TakesCount (S.left source.old) (S.left source.new) (limit + 1) }
     ensures part { OnErr result (TakesSome (S.left source.old) (S.left source.new)) }
+
+    // No byte past the limit was taken before a fault.
+    ensures limited { IsErrOf result ReadAllError.ReadFault
+        → TakesAtMost (S.left source.old) (S.left source.new) limit }
 
     ensures faults { S.faults source.old ≤ S.faults source.new }
     ensures read_fault { IsErrOf result ReadAllError.ReadFault

@@ -15,6 +15,7 @@ pub fn exit_status(status: Status) -> u8
         Status::BadScript { .. } => 3,
         Status::ReadFault => 4,
         Status::WriteFault => 5,
+        Status::Protocol { .. } => 9,
         Status::TooLong => 10,
         Status::NoMemory => 11,
     }
@@ -36,6 +37,7 @@ impl fmt::Display for Message {
             Status::BadScript { line } => write!(f, "afkv: bad script line {line}"),
             Status::ReadFault => f.write_str("afkv: read fault"),
             Status::WriteFault => f.write_str("afkv: write fault"),
+            Status::Protocol { place } => write!(f, "afkv: bad request at {place}"),
             Status::TooLong => f.write_str("afkv: input too long"),
             Status::NoMemory => f.write_str("afkv: no memory"),
         }

@@ -1,11 +1,14 @@
-//! The program `afkv`: its words, standard input and standard output, handed to the top call.
+//! The program `afkv`: its words, standard input, standard output and the current folder, handed to
+//! the top call.
 #![tactic(auto)]
 
 mod ending;
+mod folder;
 mod streams;
 mod words;
 
 use ending::{Message, exit_status};
+use folder::CurrentFolder;
 use server_top::{Status, run_plain};
 use std::process::ExitCode;
 use streams::{InputStream, OutputStream};
@@ -18,7 +21,8 @@ fn main(rt: HostRuntime) -> ExitCode {
         Ok(words) => {
             let mut input = InputStream::new(rt.stdin());
             let mut output = OutputStream::new(rt.stdout());
-            run_plain(alloc, &words, &mut input, &mut output)
+            let mut files = CurrentFolder::new(rt, alloc);
+            run_plain(alloc, &words, &mut input, &mut output, &mut files)
         }
         Err(NoMemory) => Status::NoMemory,
     };

@@ -23,6 +23,12 @@ impl<R: Read> InputStream<R> {
     {
         InputStream { reader, faults: 0 }
     }
+
+    pub fn faults(&self) -> u64
+        ensures { result ≡ self.now.faults }
+    {
+        self.faults
+    }
 }
 
 impl<R: Read> Source for InputStream<R> {
@@ -64,6 +70,18 @@ impl<W: Write> OutputStream<W> {
         ensures faults { result.faults ≡ 0 }
     {
         OutputStream { writer, faults: 0 }
+    }
+
+    pub fn faults(&self) -> u64
+        ensures { result ≡ self.now.faults }
+    {
+        self.faults
+    }
+
+    pub fn into_writer(self) -> W
+        ensures { result ≡ self.writer }
+    {
+        self.writer
     }
 }
 

@@ -1,13 +1,11 @@
 -- A world is ready for the events of a script, and stays ready as they run.
-use Rattle.std.proofs.Common.{◌≡◌, ℕ, zero, suc, ◌+◌, ◌≤◌, ◌<◌, List, [], ◌∷◌, length, refl, sym, ◌∙◌, ap, arith, true, false, cond, Bool, zero-add}
+use Rattle.std.proofs.Common.{◌≡◌, ℕ, suc, ◌+◌, List, ◌∷◌, length, refl, ◌∙◌, ap, arith, true, false, cond, Bool, zero-add}
 use Rattle.std.specs.Prelude.{All, count_by, Option, Some, None, Result, Ok, Err}
 use Rattle.std.proofs.lemmas.List.Sums.{sum_by-cons}
-use Rattle.std.specs.FinMap.{len, empty, len-empty}
+use Rattle.std.specs.FinMap.{len, len-empty}
 use Rattle.std.specs.Ordering.{nat_cmp}
-use Rattle.vm_base.specs.declared.permission.Perm.{Perm}
-use Rattle.vm_base.specs.declared.fork_mode.Mode.{Mode}
 use Rattle.vm_base.specs.Places.{page_of, page_count}
-use Rattle.vm_base.specs.FlatMemory.{FlatMemory, Area}
+use Rattle.vm_base.specs.FlatMemory.{FlatMemory}
 use Rattle.vm_base.specs.FlatStep.{Refusal, OutsideAreas, ReadOnly, or_refused, outside, unwritable, with_pages, stored, map_of, write_of}
 use Rattle.vm_base.specs.TwoSides.{World, opening_world}
 use Rattle.trace_core.specs.declared.event.Event.{Event}

@@ -1,6 +1,6 @@
 -- Lines that are written in pieces.
-use Rattle.std.proofs.Common.{◌≡◌, ℕ, ◌+◌, ◌≤◌, ◌<◌, List, [], ◌∷◌, ◌++◌, length, take, drop, refl, sym, ◌∙◌, ap, arith}
-use Rattle.std.specs.Prelude.{Option, Some, None, Result, Ok, Err, OnErr}
+use Rattle.std.proofs.Common.{◌≡◌, ℕ, List, [], ◌++◌, length, take, drop, refl, sym, ◌∙◌, ap, subst, arith}
+use Rattle.std.specs.Prelude.{Option, Some, None, Result, Ok, Err, OnErr, OnOk}
 use Rattle.std.specs.Option.{option_map}
 use Rattle.std.proofs.lemmas.List.{append_assoc, append-nil, length-append, take_at, take-append-drop}
 use Rattle.io_face.specs.Told.{Adds, AddsPrefix}
@@ -43,6 +43,11 @@ writing_written old now new waiting coming all writing adds = record {
   whole = ap (λ front. front ++ coming) (append-nil (writing.done ++ waiting)) ∙ writing.whole;
 }
 
+-- what was written and what waits, by other names
+pub writing_renamed : (old now other : Option (List ℕ)) (waiting same coming all : List ℕ) → other ≡ now → same ≡ waiting → Writing old now waiting coming all → Writing old other same coming all
+writing_renamed old now other waiting same coming all now_is waiting_is writing =
+    subst (λ o. Writing old o same coming all) (sym now_is) (subst (λ w. Writing old now w coming all) (sym waiting_is) writing)
+
 -- all is written
 pub writing_all : (old now new : Option (List ℕ)) (waiting all : List ℕ) → Writing old now waiting [] all → Adds now new waiting → Adds old new all
 writing_all old now new waiting all writing adds =
@@ -82,3 +87,8 @@ on_err (Err error) P holds = holds
 pub on_err_then : {X E : Type 0} (result : Result X E) (P Q : Type 0) → OnErr result P → (P → Q) → OnErr result Q
 on_err_then (Ok value) P Q holds f = tt
 on_err_then (Err error) P Q holds f = f holds
+
+-- what follows from what holds at a success
+pub on_ok_then : {X E : Type 0} (result : Result X E) (P Q : Type 0) → OnOk result P → (P → Q) → OnOk result Q
+on_ok_then (Ok value) P Q holds f = f holds
+on_ok_then (Err error) P Q holds f = tt

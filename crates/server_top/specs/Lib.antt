@@ -3,5 +3,7 @@ pub mod PrintedLines
 pub mod ScriptMeaning
 pub mod CommandWords
 pub mod RunPromise
+pub mod ReplayPromise
 pub mod ScriptRun
+pub mod ReplayRun
 pub mod ScriptReading

@@ -1,9 +1,9 @@
 -- What a run of `trace` read and wrote, by its status.
 use Rattle.std.specs.Prelude.{◌≡◌, ◌⊎◌, ℕ, ◌+◌, ◌^◌, ◌≤◌, List, Option, Some, None, length}
-use Rattle.io_face.specs.Told.{Takes, TakesCount, TakesSome, IsAtEnd, Adds, AddsPrefix}
+use Rattle.io_face.specs.Told.{Takes, TakesAtMost, TakesCount, TakesSome, IsAtEnd, Adds, AddsPrefix}
 use Rattle.trace_core.specs.declared.event.Event.{Event}
 use Rattle.server_top.specs.declared.status.Status.{Status}
-use Rattle.server_top.specs.declared.status.Status.TheVariants.{Done, Usage, BadScript, ReadFault, WriteFault, TooLong, NoMemory}
+use Rattle.server_top.specs.declared.status.Status.TheVariants.{Done, Usage, BadScript, ReadFault, WriteFault, Protocol, TooLong, NoMemory}
 use Rattle.server_top.specs.ScriptGrammar.{IsScript, IsNoScript}
 use Rattle.server_top.specs.ScriptMeaning.{script_lines}
 
@@ -22,17 +22,17 @@ pub record Streams : Type 0 where
 abbrev pub WroteNothing : Streams → Type 0
 WroteNothing streams = streams.written_after ≡ streams.written
 
--- the input was read to its end, and its text keeps the limit
-pub record WasRead (streams : Streams) (text : List ℕ) : Type 0 where
+-- the input was read to its end, and its text keeps this limit
+pub record WasRead (streams : Streams) (limit : ℕ) (text : List ℕ) : Type 0 where
   pub taken : Takes streams.left streams.left_after text
   pub to_the_end : IsAtEnd streams.left_after
-  pub within : length text ≤ script_limit
+  pub within : length text ≤ limit
 
 -- the input was read to its end, and it is the script of these events
 pub record ReadScript (streams : Streams) (events : List Event) : Type 0 where
   pub text : List ℕ
   pub frames : ℕ
-  pub was_read : WasRead streams text
+  pub was_read : WasRead streams script_limit text
   pub is_script : IsScript text frames events
 
 -- the input is a script, and its lines were written
@@ -50,17 +50,19 @@ pub record WroteSomeLines (streams : Streams) : Type 0 where
 -- the input was read to its end, it is no script, and nothing was written
 pub record RefusedScript (streams : Streams) : Type 0 where
   pub text : List ℕ
-  pub was_read : WasRead streams text
+  pub was_read : WasRead streams script_limit text
   pub is_none : IsNoScript text
   pub nothing : WroteNothing streams
 
--- what was read and written, by status
+-- what `trace` read and wrote, by status; words and requests are not what it may fail by
 abbrev pub Ran : Streams → Status → Type 0
 Ran streams Done = WroteLines streams
-Ran streams (Usage place) = (streams.left_after ≡ streams.left) × WroteNothing streams
+Ran streams (Usage place) = ⊥
 Ran streams (BadScript line) = (line ≡ 1) × RefusedScript streams
-Ran streams ReadFault = TakesSome streams.left streams.left_after × WroteNothing streams
+Ran streams ReadFault =
+    TakesAtMost streams.left streams.left_after script_limit × WroteNothing streams
 Ran streams WriteFault = WroteSomeLines streams
+Ran streams (Protocol place) = ⊥
 Ran streams TooLong = TakesCount streams.left streams.left_after (script_limit + 1) × WroteNothing streams
 Ran streams NoMemory = TakesSome streams.left streams.left_after × (WroteNothing streams ⊎ WroteSomeLines streams)
 
@@ -71,6 +73,7 @@ RanText text written after (Usage place) = ⊥
 RanText text written after (BadScript line) = (line ≡ 1) × IsNoScript text × (after ≡ written)
 RanText text written after ReadFault = ⊥
 RanText text written after WriteFault = (frames : ℕ) × ((events : List Event) × (IsScript text frames events × AddsPrefix written after (script_lines events)))
+RanText text written after (Protocol place) = ⊥
 RanText text written after TooLong = ⊥
 RanText text written after NoMemory =
     (after ≡ written) ⊎ ((frames : ℕ) × ((events : List Event) × (IsScript text frames events × AddsPrefix written after (script_lines events))))
@@ -82,5 +85,6 @@ usage_of (Usage place) = Some place
 usage_of (BadScript line) = None
 usage_of ReadFault = None
 usage_of WriteFault = None
+usage_of (Protocol place) = None
 usage_of TooLong = None
 usage_of NoMemory = None

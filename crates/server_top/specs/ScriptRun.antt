@@ -1,5 +1,5 @@
 -- Events that a kernel takes one after another.
-use Rattle.std.specs.Prelude.{◌≡◌, ℕ, ◌≤◌, ◌<◌, List, [], All, count_by}
+use Rattle.std.specs.Prelude.{◌≡◌, ◌≤◌, ◌<◌, List, [], All, count_by}
 use Rattle.std.specs.FinMap.{len}
 use Rattle.vm_base.specs.TwoSides.{World}
 use Rattle.trace_core.specs.declared.event.Event.{Event}

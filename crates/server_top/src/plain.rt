@@ -1,35 +1,45 @@
 //! The top call of all that one thread does.
 ghost use Rattle.std.specs.Prelude.{◌≡◌, ◌≤◌, None};
 ghost use Rattle.io_face.specs.Faults.{Rose};
-ghost use Rattle.server_top.specs.CommandWords.{bad_word};
+ghost use Rattle.server_top.specs.CommandWords.{bad_word, plan_of};
+ghost use Rattle.server_top.specs.ReplayPromise.{RanBy};
 ghost use Rattle.server_top.specs.RunPromise.{Ran, RanText, usage_of};
 
+use crate::replay::replay;
 use crate::run::{RunError, run_events};
 use crate::script::{ScriptFault, read_script};
 use crate::status::Status;
-use crate::words::bad_word;
-use io_face::{ReadAllError, Sink, Source, read_all};
+use crate::words::{Plan, read_words};
+use io_face::{Folder, ReadAllError, Sink, Source, read_all};
 use std::alloc::Global;
 use vm_base::Bytes;
 
 /// The most bytes of a script.
 const SCRIPT_LIMIT: usize = 1 << 24;
 
-/// Runs the command that the words name, from the input to the output. The one command is
-/// `trace`: it reads a script to its end, runs it on the kernel, and writes a line for each of
-/// its events.
-pub fn run_plain<I: Source, O: Sink>(
+/// Runs the command that the words name, from the input to the output. `trace` reads a script to
+/// its end, runs it on the kernel, and writes a line for each of its events. `replay` reads the
+/// requests of one session to their end, answers them, publishes the image of the snapshot that
+/// was started, and writes the replies and then a line for the save.
+pub fn run_plain<I: Source, O: Sink, F: Folder>(
     alloc: Global,
     words: &[Bytes],
     input: &mut I,
     output: &mut O,
+    files: &mut F,
 ) -> Status
-    // What was read and what was written, by the status.
-    ensures ran { Ran (record {
+    // What was read, written and published, by the words and the status.
+    ensures ran { RanBy (plan_of words.now) (record {
       left = I.left input.old;
       left_after = I.left input.new;
-      written = O.written output.old;
-      written_after = O.written output.new;
+      outside = record {
+        written = O.written output.old;
+        written_after = O.written output.new;
+        files = F.files files.old;
+        files_after = F.files files.new;
+        faults = F.faults files.old;
+        faults_after = F.faults files.new;
+      };
     }) result }
 
     // Exactly where the words are not accepted.
@@ -40,10 +50,12 @@ pub fn run_plain<I: Source, O: Sink>(
     ensures write_fault { result ≡ Status.WriteFault → Rose (O.faults output.old) (O.faults output.new) }
     ensures input_faults { I.faults input.old ≤ I.faults input.new }
     ensures output_faults { O.faults output.old ≤ O.faults output.new }
+    ensures folder_faults { F.faults files.old ≤ F.faults files.new }
 {
-    match bad_word(words) {
-        Some(place) => Status::Usage { place },
-        None => trace(alloc, input, output),
+    match read_words(words) {
+        Ok(Plan::Trace) => trace(alloc, input, output),
+        Ok(Plan::Replay) => replay(alloc, input, output, files),
+        Err(place) => Status::Usage { place },
     }
 }
 

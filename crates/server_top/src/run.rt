@@ -76,13 +76,23 @@ fn push_line(
 }
 
 /// Writes all lines that are there.
-fn write_lines<O: Sink>(output: &mut O, lines: &Bytes) -> Result<(), RunError>
+pub(crate) fn write_lines<O: Sink>(output: &mut O, lines: &Bytes) -> Result<(), RunError>
     ensures ok { OnOk result (Adds (O.written output.old) (O.written output.new) lines.now) }
     ensures err { OnErr result (AddsPrefix (O.written output.old) (O.written output.new) lines.now) }
     ensures faults { O.faults output.old ≤ O.faults output.new }
     ensures cause { OnErr result (Rose (O.faults output.old) (O.faults output.new)) }
 {
-    match write_all(output, lines.as_slice()) {
+    write_text(output, lines.as_slice())
+}
+
+/// Writes a text.
+pub(crate) fn write_text<O: Sink>(output: &mut O, text: &[u8]) -> Result<(), RunError>
+    ensures ok { OnOk result (Adds (O.written output.old) (O.written output.new) text.now) }
+    ensures err { OnErr result (AddsPrefix (O.written output.old) (O.written output.new) text.now) }
+    ensures faults { O.faults output.old ≤ O.faults output.new }
+    ensures cause { OnErr result (Rose (O.faults output.old) (O.faults output.new)) }
+{
+    match write_all(output, text) {
         Ok(()) => Ok(()),
         Err(Failed) => Err(RunError::WriteFault),
     }

@@ -13,6 +13,8 @@ pub enum Status {
     ReadFault,
     /// A write of the output failed.
     WriteFault,
+    /// The input is no list of whole requests. The place is told as 0, wherever it breaks.
+    Protocol { place: u64 },
     /// The input goes on past its limit.
     TooLong,
     NoMemory,

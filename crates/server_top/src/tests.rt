@@ -1,6 +1,6 @@
 //! Whole runs through the top call, over a source and a sink in memory.
 use crate::{Status, run_plain};
-use io_face::{MemSink, MemSource};
+use io_face::{MemFolder, MemSink, MemSource};
 use std::alloc::Global;
 use std::test::Fail;
 use vm_base::{Bytes, NoMemory};
@@ -48,7 +48,8 @@ fn run(
     );
     let mut written = MemSink::new(alloc, 1 << 20, Vec::from_slice(alloc, failing_writes)?)?;
     let words = words(alloc, texts)?;
-    let status = run_plain(alloc, &words, &mut left, &mut written);
+    let mut files = MemFolder::new(alloc, Vec::new(alloc), 0, Vec::new(alloc))?;
+    let status = run_plain(alloc, &words, &mut left, &mut written, &mut files);
     Ok(Ended {
         status,
         written,
@@ -178,7 +179,8 @@ fn an_input_past_its_limit_is_too_long(rt: HostRuntime) -> Result<(), Fail> {
         let mut input = MemSource::new(text, Vec::new(alloc), Vec::new(alloc));
         let mut output = MemSink::new(alloc, 16, Vec::new(alloc))?;
         let words = words(alloc, &[b"trace"])?;
-        let ended = run_plain(alloc, &words, &mut input, &mut output);
+        let mut files = MemFolder::new(alloc, Vec::new(alloc), 0, Vec::new(alloc))?;
+        let ended = run_plain(alloc, &words, &mut input, &mut output, &mut files);
         assert!(rt; ended == status);
         assert!(rt; output.written().is_empty());
     }

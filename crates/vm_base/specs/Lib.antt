@@ -9,3 +9,7 @@ pub mod Frames
 pub mod FrameLending
 pub mod Entries
 pub mod Walk
+pub mod MemoryState
+pub mod MemoryCalls
+pub mod ProcessState
+pub mod SnapshotState

@@ -7,22 +7,38 @@
 
 mod allotment;
 mod byte_list;
+mod copying;
+mod faults;
 mod fork_mode;
 mod frame_request;
+mod frozen;
+mod gate;
+mod housing;
+mod memory;
+mod nest;
 mod no_memory;
 mod page_frame;
 mod permission;
+mod process;
 mod refusals;
 mod table_entry;
 mod walk;
 
 pub use allotment::Allot;
 pub use byte_list::Bytes;
+pub use copying::{Copying, copy_through};
+pub use faults::{CopyFault, Fault, ForkFault, SnapFault, Step};
 pub use fork_mode::Mode;
 pub use frame_request::{Asker, Want};
+pub use frozen::{Frozen, read_twice};
+pub use gate::{Gate, OpenGate, Point};
+pub use housing::{Housing, read_child};
+pub use memory::{Memory, write_at};
+pub use nest::{Nest, Nested};
 pub use no_memory::NoMemory;
 pub use page_frame::Frame;
 pub use permission::Perm;
+pub use process::{Process, fork_and_write, reap_one};
 pub use refusals::{Lost, Refused};
 pub use table_entry::{Bits, entry_parts, entry_word};
 pub use walk::split_addr;

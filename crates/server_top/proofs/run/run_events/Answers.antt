@@ -1,12 +1,9 @@
 -- The lines so far, those that wait and those to come are all, at each step and at each end.
-use Rattle.std.proofs.Common.{◌≡◌, ◌+◌, ◌<◌, List, ℕ, drop, length, sym, ◌∙◌, ap, subst, arith, [], ◌++◌}
+use Rattle.std.proofs.Common.{◌≡◌, ◌+◌, List, ℕ, drop, sym, ◌∙◌, ap, subst, arith, []}
 use Rattle.std.specs.Prelude.{Option}
-use Rattle.std.proofs.lemmas.List.{drop_all}
-use Rattle.io_face.specs.Told.{Adds, AddsPrefix}
 use Rattle.trace_core.specs.declared.event.Event.{Event}
 use Rattle.server_top.specs.ScriptMeaning.{lines_from, script_lines}
-use Rattle.server_top.specs.ScriptRun.{IsReady}
-use Rattle.server_top.proofs.Written.{Writing, writing_front, writing_part, writing_written, writing_all, on_err, on_err_then}
+use Rattle.server_top.proofs.Written.{Writing, writing_front, writing_part, writing_written, on_err, on_err_then}
 use Rattle.server_top.proofs.Lines.{pushed_line, ready_behind}
 use Rattle.server_top.proofs.run.run_events.Given as given
 use Rattle.server_top.proofs.run.run_events.Goals as goal

@@ -1,6 +1,5 @@
 -- The lines so far, those that wait and those to come are all; the kernel is ready for the events to come.
 use Rattle.std.proofs.Common.{◌≤◌, drop}
-use Rattle.vm_base.specs.TwoSides.{opening_world}
 use Rattle.server_top.specs.ScriptMeaning.{lines_from, script_lines}
 use Rattle.server_top.specs.ScriptRun.{IsReady}
 use Rattle.server_top.proofs.Written.{Writing}

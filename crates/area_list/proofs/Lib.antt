@@ -1,0 +1,10 @@
+pub mod Joining
+pub mod Pushing
+pub mod Order
+pub mod Parts
+pub mod Whole
+pub mod Permissions
+pub mod Within
+pub mod Unique
+pub mod Found
+pub mod Made

@@ -1,0 +1,118 @@
+-- What the machine's answers have in common, whatever the request.
+use Rattle.std.proofs.Common.{◌≡◌, ℕ, ◌+◌, ◌-◌, ◌^◌, ◌≤◌, ◌<◌, Bool, true, false, cond, List, [], ◌∷◌, ◌++◌, length, drop, Option, Some, None, refl, sym, ◌∙◌, ap, subst, arith}
+use Rattle.std.specs.Prelude.{if◌then◌else◌, nat_le}
+use Rattle.std.specs.List.{AllByRecursion}
+use Rattle.std.specs.Cmp.Lexicographic.{nat_list_cmp_total}
+use Rattle.std.specs.declared.cmp.Ordering.TheVariants.{Less, Equal, Greater}
+use Rattle.std.specs.FinMap.{entries, get, insert, len, put, entries-insert, len-insert, contains_key}
+use Rattle.std.specs.FinMap.Entries.{by_order}
+use Rattle.std.proofs.lemmas.Bool.{ltb-false}
+use Rattle.std.proofs.lemmas.List.{append-nil}
+use Rattle.resp_text.specs.declared.reply.Reply.{Reply}
+use Rattle.resp_text.specs.declared.reply.Reply.TheVariants as reply
+use Rattle.resp_text.specs.declared.reply.ErrorKind.TheVariants as kind
+use Rattle.image_text.specs.Image.{bytes_cmp, FitsImage}
+use Rattle.service_meaning.specs.Commands.{Command, SetPair, GetValue, StartSave, command_of, is_long}
+use Rattle.service_meaning.specs.MapMachine.{Service, Answer, refused, value_reply, answer, command_answer, set_answer, get_answer, save_answer, with_snapshot}
+use Rattle.service_meaning.specs.History.{Call, started, is_refusal}
+
+-- a request with a word behind BGSAVE
+pub save_arity : (service : Service) (words : List (List ℕ)) → 0 < length words → (length words ≡ 1 → ⊥) → save_answer service (drop 1 words) ≡ refused service kind.Arity
+save_arity service [] some other = absurd (omega arith)
+save_arity service (word ∷ []) some other = absurd (other refl)
+save_arity service (word ∷ more ∷ words) some other = refl
+
+-- what holds of each answer: a snapshot that is started lives behind the others, no frame is refused, a fork leaves the pairs, and at most one pair comes, which fits an image where the others do
+pub record Follows (service : Service) (given : Answer) : Type 0 where
+  pub live : given.1.live ≡ service.live ++ started given.0
+  pub granted : (caller : ℕ) (words : List (List ℕ)) → is_refusal (Call caller words given.0) ≡ false
+  pub forked : (number : ℕ) → given.0 ≡ reply.Started number → given.1.pairs ≡ service.pairs
+  pub few : len given.1.pairs ≤ len service.pairs + 1
+  pub each : AllByRecursion FitsImage (entries service.pairs) → AllByRecursion FitsImage (entries given.1.pairs)
+
+-- a reply that changes nothing
+same : (service : Service) (given : Reply) → started given ≡ [] → ((caller : ℕ) (words : List (List ℕ)) → is_refusal (Call caller words given) ≡ false) → Follows service (given, service)
+same service given none granted = record {
+  live = sym (append-nil service.live) ∙ ap (λ numbers. service.live ++ numbers) (sym none);
+  granted = granted;
+  forked = λ number e. refl;
+  few = omega arith;
+  each = λ all. all;
+}
+
+-- a pair that fits is put among pairs that fit
+fits_put : (key value : List ℕ) (ps : List (List ℕ × List ℕ)) → length key ≤ 65536 → length value ≤ 1048576 → AllByRecursion FitsImage ps → AllByRecursion FitsImage (put bytes_cmp key value ps)
+fits_put key value [] k v all = ((k, v), tt)
+fits_put key value (p ∷ ps) k v all =
+    elim (bytes_cmp key p.0) as (λ r. AllByRecursion FitsImage (by_order r ((key, value) ∷ p ∷ ps) ((p.0, value) ∷ ps) (p ∷ put bytes_cmp key value ps))) [
+      | Less ↦ ((k, v), all)
+      | Equal ↦ ((all.0.0, v), all.1)
+      | Greater ↦ (all.0, fits_put key value ps k v all.1)
+    ]
+
+-- one pair more, or none
+one_more : (b : Bool) (n m : ℕ) → m ≡ cond b n (n + 1) → m ≤ n + 1
+one_more true n m e = omega (arith, e)
+one_more false n m e = omega (arith, e)
+
+with_pair : (service : Service) (key value : List ℕ) → length key ≤ 65536 → length value ≤ 1048576 → Follows service (reply.Ok, record service { pairs = insert service.pairs key value })
+with_pair service key value k v = record {
+  live = sym (append-nil service.live);
+  granted = λ caller words. refl;
+  forked = λ number e. absurd cc;
+  few = one_more (contains_key service.pairs key) (len service.pairs) _ (len-insert nat_list_cmp_total service.pairs key value);
+  each = λ all. subst (AllByRecursion FitsImage) (sym (entries-insert nat_list_cmp_total service.pairs key value)) (fits_put key value (entries service.pairs) k v all);
+}
+
+follows_set : (service : Service) (operands : List (List ℕ)) → AllByRecursion (λ word. length word ≤ 1048576) operands → Follows service (set_answer service operands)
+follows_set service [] short = same service (reply.Error kind.Arity) refl (λ caller words. refl)
+follows_set service (key ∷ []) short = same service (reply.Error kind.Arity) refl (λ caller words. refl)
+follows_set service (key ∷ value ∷ []) short =
+    elim (is_long key) as (λ b. is_long key ≡ b → Follows service (if b then refused service kind.LongKey else (reply.Ok, record service { pairs = insert service.pairs key value }))) [
+      | true ↦ λ e. same service (reply.Error kind.LongKey) refl (λ caller words. refl)
+      | false ↦ λ e. with_pair service key value (ltb-false _ _ e) short.1.0
+    ] refl
+follows_set service (key ∷ value ∷ more ∷ operands) short = same service (reply.Error kind.Arity) refl (λ caller words. refl)
+
+follows_value : (service : Service) (found : Option (List ℕ)) → Follows service (value_reply found, service)
+follows_value service None = same service reply.Null refl (λ caller words. refl)
+follows_value service (Some value) = same service (reply.Bulk value) refl (λ caller words. refl)
+
+follows_get : (service : Service) (operands : List (List ℕ)) → Follows service (get_answer service operands)
+follows_get service [] = same service (reply.Error kind.Arity) refl (λ caller words. refl)
+follows_get service (key ∷ []) =
+    elim (is_long key) as (λ b. Follows service (if b then refused service kind.LongKey else (value_reply (get service.pairs key), service))) [
+      | true ↦ same service (reply.Error kind.LongKey) refl (λ caller words. refl)
+      | false ↦ follows_value service (get service.pairs key)
+    ]
+follows_get service (key ∷ more ∷ operands) = same service (reply.Error kind.Arity) refl (λ caller words. refl)
+
+with_fork : (service : Service) → Follows service (reply.Started (service.last + 1), with_snapshot service)
+with_fork service = record {
+  live = refl;
+  granted = λ caller words. refl;
+  forked = λ number e. refl;
+  few = omega arith;
+  each = λ all. all;
+}
+
+follows_save : (service : Service) (operands : List (List ℕ)) → Follows service (save_answer service operands)
+follows_save service [] =
+    elim (nat_le service.limit (length service.live)) as (λ b. Follows service (if b then refused service kind.InProgress else if nat_le (2 ^ 32 - 1) service.last then refused service kind.Spent else (reply.Started (service.last + 1), with_snapshot service))) [
+      | true ↦ same service (reply.Error kind.InProgress) refl (λ caller words. refl)
+      | false ↦ elim (nat_le (2 ^ 32 - 1) service.last) as (λ b. Follows service (if b then refused service kind.Spent else (reply.Started (service.last + 1), with_snapshot service))) [
+        | true ↦ same service (reply.Error kind.Spent) refl (λ caller words. refl)
+        | false ↦ with_fork service
+      ]
+    ]
+follows_save service (more ∷ operands) = same service (reply.Error kind.Arity) refl (λ caller words. refl)
+
+follows_command : (service : Service) (command : Option Command) (operands : List (List ℕ)) → AllByRecursion (λ word. length word ≤ 1048576) operands → Follows service (command_answer service command operands)
+follows_command service None operands short = same service (reply.Error kind.Unknown) refl (λ caller words. refl)
+follows_command service (Some SetPair) operands short = follows_set service operands short
+follows_command service (Some GetValue) operands short = follows_get service operands
+follows_command service (Some StartSave) operands short = follows_save service operands
+
+pub follows : (service : Service) (words : List (List ℕ)) → AllByRecursion (λ word. length word ≤ 1048576) words → Follows service (answer service words)
+follows service [] short = same service (reply.Error kind.Unknown) refl (λ caller words. refl)
+follows service (name ∷ operands) short = follows_command service (command_of name) operands short.1

@@ -1,0 +1,6 @@
+-- What is defined of the service: its commands, its histories, and what is sent, reported and published.
+pub mod Commands
+pub mod MapMachine
+pub mod History
+pub mod SessionText
+pub mod SaveEnd

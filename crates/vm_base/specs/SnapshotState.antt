@@ -1,0 +1,96 @@
+-- What is known of a snapshot, and what reading and copying it answer and leave.
+use Rattle.std.specs.Prelude.{◌≡◌, ℕ, ◌≤◌, ◌<◌, Bool, IsTrue, IsFalse, List, [], ◌∷◌, length, Option, Some, None, Result, Ok, Err}
+use Rattle.std.specs.Option.{option_or}
+use Rattle.std.specs.FinMap.{get, empty}
+use Rattle.vm_base.specs.declared.faults.SnapFault.{SnapFault}
+use Rattle.vm_base.specs.declared.faults.SnapFault.TheVariants.{NoArea, Lost}
+use Rattle.vm_base.specs.declared.faults.CopyFault.{CopyFault}
+use Rattle.vm_base.specs.declared.faults.CopyFault.TheVariants.{Refused, Lost as CopyLost}
+use Rattle.vm_base.specs.declared.faults.Step.{Step}
+use Rattle.vm_base.specs.declared.faults.Step.TheVariants.{Copied, Skipped, AllDone}
+use Rattle.vm_base.specs.Counts.{next_count, Rose}
+use Rattle.vm_base.specs.Places.{page_of, page_count, cells_of_range, distinct}
+use Rattle.vm_base.specs.FlatMemory.{FlatMemory, bytes_at, cells_of}
+use Rattle.vm_base.specs.FlatStep.{outside}
+use Rattle.vm_base.specs.MemoryState.{IsListed}
+use Rattle.vm_base.specs.ProcessState.{Found}
+
+-- a snapshot
+pub record SnapshotState : Type 0 where
+  -- the memory at its fork
+  pub mem : FlatMemory
+  -- the cells that it was found to have lost, each with the count at which it was lost
+  pub found : Found
+  -- its refused copies
+  pub refused : ℕ
+  -- how many steps of copying may still come, at most
+  pub todo : ℕ
+  -- no cell of it waits to be copied any more
+  pub whole : Bool
+
+-- the count of the first of these cells that was found lost
+abbrev pub first_found : Found → List ℕ → Option ℕ
+first_found found [] = None
+first_found found (cell ∷ cells) = option_or (get found cell) (first_found found cells)
+
+-- the answer where nothing stands against it
+abbrev pub unless_fault : (ℕ → SnapFault) → Option ℕ → Result (List ℕ) SnapFault → Result (List ℕ) SnapFault
+unless_fault why None answer = answer
+unless_fault why (Some number) answer = Err (why number)
+
+-- the bytes of a range at the fork; or its lowest page that lay in no area then, or else its first lost cell
+abbrev pub snapshot_answer : SnapshotState → ℕ → ℕ → Result (List ℕ) SnapFault
+snapshot_answer snap address n =
+    unless_fault NoArea (outside snap.mem.areas (page_of address) (page_count address n))
+    (unless_fault Lost (first_found snap.found (cells_of_range address n)) (Ok (bytes_at snap.mem.present address n)))
+
+-- what each call on a snapshot keeps
+pub record KeepsSnapshot (old new : SnapshotState) : Type 0 where
+  pub mem : new.mem ≡ old.mem
+  -- what was found lost stays so, and only cells with a page are
+  pub found : (cell at : ℕ) → get old.found cell ≡ Some at → get new.found cell ≡ Some at
+  pub cells : (cell at : ℕ) → get new.found cell ≡ Some at → IsListed cell (cells_of new.mem)
+  pub counted : old.refused ≤ new.refused
+  pub todo : new.todo ≤ old.todo
+  pub whole : IsTrue old.whole → IsTrue new.whole
+
+-- no copy was refused and no cell was found lost
+pub record Quiet (old new : SnapshotState) : Type 0 where
+  pub found : new.found ≡ old.found
+  pub refused : new.refused ≡ old.refused
+
+-- a cell of the snapshot was copied, or left for later
+pub record Advances (old new : SnapshotState) (cell : ℕ) : Type 0 where
+  pub quiet : Quiet old new
+  pub waited : IsFalse old.whole
+  pub held : IsListed cell (cells_of old.mem)
+  pub todo : new.todo < old.todo
+
+-- a step that leaves a cell whose turn another has
+abbrev pub StepsNext : SnapshotState → SnapshotState → Step → Type 0
+StepsNext old new (Copied cell) = Advances old new cell
+StepsNext old new (Skipped cell holder) = Advances old new cell
+StepsNext old new AllDone = Quiet old new
+
+-- a step that waits for a cell's turn: where it answers that all is done, none waits to be copied
+abbrev pub StepsLeft : SnapshotState → SnapshotState → Step → Type 0
+StepsLeft old new (Copied cell) = Advances old new cell
+StepsLeft old new (Skipped cell holder) = ⊥
+StepsLeft old new AllDone = Quiet old new × IsTrue new.whole
+
+-- why a cell was not copied: a refused frame, where the count rose to `at`; or a cell that is found lost
+abbrev pub CopyFails : SnapshotState → SnapshotState → CopyFault → Type 0
+CopyFails old new (Refused at) =
+    (new.found ≡ old.found) × IsFalse old.whole × Rose old.refused new.refused × (at ≡ new.refused)
+CopyFails old new (CopyLost at) = (new.refused ≡ old.refused) × ((cell : ℕ) × (get new.found cell ≡ Some at))
+
+-- where no cell is lost, each count of a lost one lies above that of the fork and within that of the process
+abbrev pub IsFoundSince : ℕ → ℕ → SnapshotState → Type 0
+IsFoundSince born refused snap =
+    (cell at : ℕ) → get snap.found cell ≡ Some at → (next_count born ≤ at) × (at ≤ refused)
+
+-- a step on a child that lies in a nest: none is skipped; at most one for each cell comes; and where all is done, no cell is lost
+abbrev pub StepsNest : SnapshotState → SnapshotState → Step → Type 0
+StepsNest old new (Copied cell) = Advances old new cell × (old.todo ≤ length (distinct (cells_of old.mem)))
+StepsNest old new (Skipped cell holder) = ⊥
+StepsNest old new AllDone = Quiet old new × IsTrue new.whole × (new.found ≡ empty)

@@ -1,0 +1,44 @@
+//! A snapshot as its reader sees it.
+ghost use Rattle.std.specs.Prelude.{◌≡◌, ◌+◌, ◌≤◌, ◌^◌, length, OnOk, IfErr, Ok, Err};
+ghost use Rattle.vm_base.specs.SnapshotState.{SnapshotState, KeepsSnapshot, snapshot_answer};
+
+use crate::faults::SnapFault;
+
+/// A memory as it was at a fork. What its parent does later is not seen here.
+pub trait Frozen {
+    /// What stands beside the snapshot, plain data that no call changes: a child's number and home
+    /// are read from it.
+    ghost Aside: { Type 0 };
+
+    ghost aside: { Self → Aside };
+
+    ghost snapshot: { Self → SnapshotState };
+
+    /// Reads the bytes of a range. It looks at each cell of the range once, lowest first, and
+    /// answers `Lost` where one is lost then. After a refusal the buffer is left open.
+    fn read(&mut self, addr: u64, buf: &mut [u8]) -> Result<(), SnapFault>
+        requires { addr + length buf.old ≤ 2 ^ 48 }
+        ensures bytes { OnOk result (snapshot_answer (snapshot self.new) addr (length buf.old) ≡ Ok buf.new) }
+        ensures fault { IfErr result
+            (λ fault. snapshot_answer (snapshot self.new) addr (length buf.old) ≡ Err fault) }
+        ensures keeps { KeepsSnapshot (snapshot self.old) (snapshot self.new) }
+        ensures uncounted { (snapshot self.new).refused ≡ (snapshot self.old).refused }
+        ensures aside { aside self.new ≡ aside self.old };
+}
+
+/// Reads a range twice. What is read is the same both times.
+pub fn read_twice<Z: Frozen>(
+    z: &mut Z,
+    addr: u64,
+    first: &mut [u8],
+    again: &mut [u8],
+) -> Result<(), SnapFault>
+    requires within { addr + length first.old ≤ 2 ^ 48 }
+    requires length { length again.old ≡ length first.old }
+    ensures same { OnOk result (first.new ≡ again.new) }
+    ensures memory { (Z.snapshot z.new).mem ≡ (Z.snapshot z.old).mem }
+    ensures aside { Z.aside z.new ≡ Z.aside z.old }
+{
+    z.read(addr, first)?;
+    z.read(addr, again)
+}

@@ -1,0 +1,52 @@
+//! A process whose children lie in the same value.
+ghost use Rattle.std.specs.Prelude.{◌≡◌, ◌+◌, ◌≤◌, ◌^◌, ◌↔◌, IsTrue, length, OnOk, Ok, Some};
+ghost use Rattle.vm_base.specs.MemoryState.{IsListed};
+ghost use Rattle.vm_base.specs.SnapshotState.{snapshot_answer};
+
+use crate::faults::SnapFault;
+use crate::nest::Nest;
+use crate::process::Process;
+
+/// A process that is the nest of its own children. Its laws say what the two have to do with each
+/// other: reading and copying a child changes nothing of the process.
+pub trait Housing: Process + Nest<Child = <Self as Process>::Child> {
+    /// What stands beside a child has all that the process tells of its memory and of itself.
+    ghost state_beside: { (p q : Self) (c d : Self.Child) → Self.Nest.beside p c ≡ Self.Nest.beside q d
+        → Self.Memory.state p ≡ Self.Memory.state q };
+
+    ghost aside_beside: { (p q : Self) (c d : Self.Child) → Self.Nest.beside p c ≡ Self.Nest.beside q d
+        → Self.Memory.aside p ≡ Self.Memory.aside q };
+
+    /// The count that bounds those of lost cells is that of the process.
+    ghost refused_beside: { (p : Self) (c : Self.Child)
+        → Self.Nest.refused (Self.Nest.beside p c) ≡ (Self.Memory.state p).refused };
+
+    ghost born_beside: { (p : Self) (c : Self.Child)
+        → Self.Process.born (Self.Process.beside p) c ≡ Some (Self.Nest.born (Self.Nest.beside p c)) };
+
+    /// A child reads as the memory that was kept for it.
+    ghost kept_nested: { (p : Self) (c : Self.Child)
+        → (Self.Nest.nested p c).mem ≡ Self.Process.kept (Self.Process.beside p) c };
+
+    /// A child lives where its number does, in the process of its home.
+    ghost lives_numbered: { (p : Self) (c : Self.Child)
+        → (IsTrue (Self.Nest.lives (Self.Nest.beside p c)))
+        ↔ (IsListed (Self.Process.child_number c) (Self.Process.children (Self.Process.beside p)).numbers
+        × (Self.Process.child_home c ≡ Self.Process.home (Self.Process.beside p))) };
+}
+
+/// Reads a child of a process. The process is as it was.
+pub fn read_child<P: Housing>(
+    process: &mut P,
+    child: &mut <P as Process>::Child,
+    addr: u64,
+    buf: &mut [u8],
+) -> Result<(), SnapFault>
+    requires lives { IsTrue (P.lives (P.Nest.beside process.old child.old)) }
+    requires within { addr + length buf.old ≤ 2 ^ 48 }
+    ensures bytes { OnOk result (snapshot_answer (P.nested process.new child.new) addr (length buf.old) ≡ Ok buf.new) }
+    ensures state { P.state process.new ≡ P.state process.old }
+    ensures aside { P.aside process.new ≡ P.aside process.old }
+{
+    process.child_read(child, addr, buf)
+}
