@@ -20,4 +20,3 @@ pub mod SameShare
 pub mod HeldShare
 pub mod Releases
 pub mod DropMade
-pub mod LossMade

@@ -3,10 +3,7 @@ use Rattle.std.specs.Prelude.{◌≡◌, ℕ, ◌+◌, ◌<◌, ◌⊎◌, List,
 use Rattle.vm_base.specs.Deals.{Deal, Returned, LeadsAlong}
 use Rattle.vm_base.specs.Frames.{FrameView}
 use Rattle.kernel_meaning.specs.Leaves.{Versions, version_at, Leaf, is_own}
-use Rattle.leaf_cell.specs.Inside.{IsPlaceOf, leaf_value}
-use Rattle.leaf_cell.specs.declared.snapshot.Snapshot.{Snapshot}
-use Rattle.leaf_cell.specs.declared.snapshot.SnapshotLeaf.TheVariants as code
-use Rattle.std.specs.Option.{option_map}
+use Rattle.leaf_cell.specs.Inside.{IsPlaceOf}
 
 -- one frame where there is one
 abbrev pub one_if : Option FrameView → ℕ
@@ -48,16 +45,3 @@ pub record IsLeafReleased {State : Type 0} (goes : State → Deal → State → 
   pub each : (place : ℕ) → (slice_index_or new place None ≡ slice_index_or old place None) ⊎ (slice_index_or new place None ≡ None)
   pub kept : (page place : ℕ) → version_at other page ≡ Some place → slice_index_or new place None ≡ slice_index_or old place None
   pub gone : (page place : ℕ) → version_at own page ≡ Some place → (version_at other page ≡ Some place → ⊥) → slice_index_or new place None ≡ None
-
--- one table where the snapshot has its own
-abbrev pub own_in : Option Snapshot → ℕ
-own_in None = 0
-own_in (Some it) = own_if (leaf_value it.leaf)
-
--- the snapshot without its leaf
-abbrev pub lost_one : ℕ → Snapshot → Snapshot
-lost_one at it = record it { leaf = code.Lost at }
-
--- the same where there is one
-abbrev pub lost_snapshot : ℕ → Option Snapshot → Option Snapshot
-lost_snapshot at snapshot = option_map (lost_one at) snapshot

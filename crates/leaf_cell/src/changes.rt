@@ -1,46 +1,22 @@
-//! Clearing pages, forking and dropping.
+//! Forking and dropping.
 ghost use Rattle.std.specs.Prelude.{◌≡◌, ◌+◌, ◌≤◌, ℕ, [], true, is_some, None, OnErr};
 ghost use Rattle.vm_base.specs.declared.fork_mode.Mode.TheVariants as mode;
 ghost use Rattle.vm_base.specs.FlatMemory.{zero_page};
 ghost use Rattle.leaf_cell.specs.declared.snapshot.SnapshotLeaf.TheVariants as leaf;
 ghost use Rattle.leaf_cell.specs.Inside.{table_places, kept_values};
-ghost use Rattle.kernel_meaning.specs.Leaves.{has_present, has_pages, kept_by, no_versions};
-ghost use Rattle.kernel_meaning.specs.CellAccount.{Clear, Fork, Drop as DropAct};
-ghost use Rattle.leaf_cell.specs.CellView.{AreUnjoined, held_of};
+ghost use Rattle.kernel_meaning.specs.Leaves.{has_pages, kept_by, no_versions};
+ghost use Rattle.kernel_meaning.specs.CellAccount.{Fork, Drop as DropAct};
+ghost use Rattle.leaf_cell.specs.CellView.{held_of};
 ghost use Rattle.leaf_cell.specs.Standing.{MadeAct};
 ghost use Rattle.leaf_cell.specs.States.{refused_count};
 
 use crate::cell::Cell;
-use crate::leaf_table::{CELL_PAGES, LeafTable};
-use crate::lookups::own_place;
-use crate::release::{give_place, release_leaf};
+use crate::leaf_table::LeafTable;
+use crate::release::release_leaf;
 use crate::snapshot::{Snapshot, SnapshotLeaf};
 use vm_base::{Allot, Frame, Mode, Refused, Want};
 
 impl Cell {
-    /// Takes out pages of the parent. The frames that no snapshot names go back, and so does the
-    /// leaf table with the last page.
-    pub fn clear<A: Allot>(&mut self, first: u16, pages: u16, allot: &mut A)
-        requires range { first + pages ≤ CELL_PAGES }
-        requires unjoined { has_present self.old.leaves.parent first pages ≡ true → AreUnjoined self.old.leaves.kept }
-        requires held { held_of self.old ≤ A.out (A.state allot.old) }
-        requires untold { A.grants allot.old ≡ None }
-        ensures made { MadeAct A.goes (A.state allot.old) (A.state allot.new) (Clear first pages) self.old self.new None }
-        ensures held { A.out (A.state allot.new) + held_of self.old ≡ A.out (A.state allot.old) + held_of self.new }
-        ensures untold { A.grants allot.new ≡ None }
-    {
-        if let Some(mut table) = self.parent.take() {
-            for page in first..first + pages {
-                clear_page(&mut table, &self.snapshot, &mut self.frames, page, allot);
-            }
-            if table.covers(0, CELL_PAGES) {
-                self.parent = Some(table);
-            } else {
-                allot.give(table.into_frame());
-            }
-        }
-    }
-
     /// Gives a snapshot the cell as the parent has it now, with a leaf table of its own. After a
     /// refusal the cell is as before.
     pub fn fork_eager<A: Allot>(&mut self, number: u32, allot: &mut A) -> Result<(), Refused>
@@ -103,21 +79,5 @@ fn new_snapshot(number: u32, frame: Frame, parent: &Option<LeafTable>) -> Snapsh
         number,
         mode: Mode::Eager,
         leaf: SnapshotLeaf::Own(table),
-    }
-}
-
-/// Takes out one page, and gives its frame back where the snapshot does not name it.
-fn clear_page<A: Allot>(
-    table: &mut LeafTable,
-    snapshot: &Option<Snapshot>,
-    frames: &mut Vec<Option<Frame>>,
-    page: u16,
-    allot: &mut A,
-) {
-    if let Some(place) = table.get(page) {
-        table.clear(page);
-        if own_place(snapshot, page) != Some(place) {
-            give_place(frames, place, allot);
-        }
     }
 }

@@ -59,14 +59,6 @@ impl LeafTable {
         put_word(&mut self.frame, page, entry_word(place, Bits::PRESENT));
     }
 
-    /// The page is absent from now on.
-    pub(crate) fn clear(&mut self, page: u16)
-        requires { page < CELL_PAGES }
-        ensures { self.new ≡ slice_set self.old page None }
-    {
-        put_word(&mut self.frame, page, 0);
-    }
-
     /// Names the same frames as another table.
     pub(crate) fn copy_from(&mut self, other: &LeafTable)
         ensures { self.new ≡ other.now }

@@ -39,21 +39,6 @@ pub(crate) fn snapshot_place(
     }
 }
 
-/// The place of a page in the snapshot's own table.
-pub(crate) fn own_place(snapshot: &Option<Snapshot>, page: u16) -> Option<u32>
-    requires { page < CELL_PAGES }
-    ensures { result ≡ version_at (own_places snapshot.now) page }
-{
-    match snapshot {
-        Some(snapshot) => match &snapshot.leaf {
-            SnapshotLeaf::Own(table) => table.get(page),
-            SnapshotLeaf::Joined => None,
-            SnapshotLeaf::Lost(_) => None,
-        },
-        None => None,
-    }
-}
-
 /// Reads bytes of the page at a place, which are zeros where there is none.
 pub(crate) fn read_place(frames: &[Option<Frame>], place: Option<u32>, at: usize, buf: &mut [u8])
     requires { at + length buf.old ≤ 4096 }

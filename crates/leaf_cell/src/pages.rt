@@ -2,10 +2,8 @@
 ghost use Rattle.std.specs.Prelude.{◌≡◌, ◌⊎◌, ◌+◌, ◌<◌, ◌≤◌, length, slice_set, slice_index_or, Some, None, true, cond, is_some, OnOk, OnErr, IfOk, IfErr};
 ghost use Rattle.vm_base.specs.FlatMemory.{zero_page};
 ghost use Rattle.kernel_meaning.specs.Leaves.{with_version};
-ghost use Rattle.std.specs.Option.{option_map};
-ghost use Rattle.leaf_cell.specs.CellView.{frame_bytes, page_or_zeros};
 ghost use Rattle.leaf_cell.specs.Inside.{IsPlaceOf, table_places};
-ghost use Rattle.leaf_cell.specs.Adding.{IsPut, LedByAdding, LedByCopy, LedByTwo};
+ghost use Rattle.leaf_cell.specs.Adding.{IsPut, LedByAdding, LedByTwo};
 
 use crate::leaf_table::{CELL_PAGES, LeafTable};
 use vm_base::{Allot, Frame, Refused, Want};
@@ -50,61 +48,6 @@ pub(crate) fn add_page<A: Allot>(
     }
 }
 
-/// Copies a page into a frame of its own. After a refusal nothing has changed.
-pub(crate) fn copy_page<A: Allot>(
-    parent: &mut Option<LeafTable>,
-    frames: &mut Vec<Option<Frame>>,
-    page: u16,
-    place: u32,
-    allot: &mut A,
-) -> Result<(), Refused>
-    requires page { page < CELL_PAGES }
-    requires size { length frames.old.items ≡ 1024 }
-    requires free { (slice_index_or frames.old.items page None ≡ None) ⊎ (slice_index_or frames.old.items (page + 512) None ≡ None) }
-    requires table { is_some parent.old ≡ true }
-    requires untold { A.grants allot.old ≡ None }
-    ensures led { LedByCopy A.goes (A.state allot.old) (A.state allot.new) result }
-    ensures put { OnOk result (IsPut (page_or_zeros (frame_bytes frames.old.items place)) page (table_places parent.old) frames.old.items (table_places parent.new) frames.new.items × (is_some parent.new ≡ true)) }
-    ensures kept { OnErr result ((parent.new ≡ parent.old) × (frames.new.items ≡ frames.old.items)) }
-    ensures untold { A.grants allot.new ≡ None }
-    ensures taken { OnOk result (A.out (A.state allot.new) ≡ A.out (A.state allot.old) + 1) }
-    ensures returned { OnErr result (A.out (A.state allot.new) ≡ A.out (A.state allot.old)) }
-{
-    match allot.take(Want::Page) {
-        Ok(mut frame) => {
-            copy_place(frames, place, &mut frame);
-            let free = free_place(frames, page);
-            if let Some(table) = parent {
-                put_page(table, frames, page, free, frame);
-            }
-            Ok(())
-        }
-        Err(refused) => Err(refused),
-    }
-}
-
-/// Copies the bytes at a place into a frame of zeros.
-fn copy_place(frames: &[Option<Frame>], place: u32, frame: &mut Frame)
-    requires { frame.old.bytes ≡ zero_page }
-    ensures { frame.new.bytes ≡ page_or_zeros (frame_bytes frames.now place) }
-{
-    match frames.get(place as usize) {
-        Some(slot) => copy_slot(slot, frame),
-        None => {}
-    }
-}
-
-/// Copies the bytes of a frame, where there is one.
-fn copy_slot(slot: &Option<Frame>, frame: &mut Frame)
-    requires { frame.old.bytes ≡ zero_page }
-    ensures { frame.new.bytes ≡ page_or_zeros (option_map (λ it. it.bytes) slot.now) }
-{
-    match slot {
-        Some(old) => *frame.bytes_mut() = *old.bytes(),
-        None => {}
-    }
-}
-
 /// Takes a frame for a leaf table and one for its first page, or neither.
 fn take_both<A: Allot>(allot: &mut A) -> Result<(Frame, Frame), Refused>
     requires untold { A.grants allot.old ≡ None }
@@ -127,7 +70,7 @@ fn take_both<A: Allot>(allot: &mut A) -> Result<(Frame, Frame), Refused>
 }
 
 /// The one of a page's two places that is free.
-pub(crate) fn free_place(frames: &[Option<Frame>], page: u16) -> u32
+fn free_place(frames: &[Option<Frame>], page: u16) -> u32
     requires page { page < CELL_PAGES }
     requires size { length frames.now ≡ 1024 }
     requires free { (slice_index_or frames.now page None ≡ None) ⊎ (slice_index_or frames.now (page + 512) None ≡ None) }
@@ -142,7 +85,7 @@ pub(crate) fn free_place(frames: &[Option<Frame>], page: u16) -> u32
 }
 
 /// The page lies at this place from now on.
-pub(crate) fn put_page(
+fn put_page(
     table: &mut LeafTable,
     frames: &mut [Option<Frame>],
     page: u16,

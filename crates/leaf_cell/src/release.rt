@@ -2,37 +2,13 @@
 ghost use Rattle.std.specs.Prelude.{◌≡◌, ◌+◌, ◌<◌, ◌≤◌, length, slice_set, slice_index_or, replicate, count_by, is_some, Some, None};
 ghost use Rattle.vm_base.specs.Deals.{LeadsAlong, Returned};
 ghost use Rattle.kernel_meaning.specs.Leaves.{no_versions};
-ghost use Rattle.leaf_cell.specs.Inside.{table_places, own_places, snapshot_places, leaf_value};
-ghost use Rattle.leaf_cell.specs.Releasing.{own_in, lost_snapshot, one_if, own_if, IsLeafReleased, AreHome, Releasing, IsReleased};
+ghost use Rattle.leaf_cell.specs.Inside.{table_places, snapshot_places, leaf_value};
+ghost use Rattle.leaf_cell.specs.Releasing.{one_if, own_if, IsLeafReleased, AreHome, Releasing, IsReleased};
 
 use crate::leaf_table::{CELL_PAGES, LeafTable};
 use crate::lookups::place_in;
-use crate::snapshot::{Snapshot, SnapshotLeaf};
+use crate::snapshot::SnapshotLeaf;
 use vm_base::{Allot, Frame};
-
-/// The snapshot has lost the cell: its own table and the frames that only it names go back.
-pub(crate) fn lose_leaf<A: Allot>(
-    snapshot: &mut Option<Snapshot>,
-    at: u64,
-    parent: &Option<LeafTable>,
-    frames: &mut Vec<Option<Frame>>,
-    allot: &mut A,
-)
-    requires size { length frames.old.items ≡ 1024 }
-    requires home { AreHome (own_places snapshot.old) }
-    requires others { AreHome (table_places parent.now) }
-    requires out { count_by is_some frames.old.items + own_in snapshot.old ≤ A.out (A.state allot.old) }
-    requires untold { A.grants allot.old ≡ None }
-    ensures lost { snapshot.new ≡ lost_snapshot at snapshot.old }
-    ensures released { IsLeafReleased A.goes (A.state allot.old) (A.state allot.new) (own_places snapshot.old) (table_places parent.now) (own_in snapshot.old) frames.old.items frames.new.items }
-    ensures out { A.out (A.state allot.new) + count_by is_some frames.old.items + own_in snapshot.old ≡ A.out (A.state allot.old) + count_by is_some frames.new.items }
-    ensures untold { A.grants allot.new ≡ None }
-{
-    if let Some(it) = snapshot {
-        let leaf = std::mem::replace(&mut it.leaf, SnapshotLeaf::Lost(at));
-        release_leaf(leaf, parent, frames, allot);
-    }
-}
 
 /// Gives back what a snapshot's leaf alone names, and its own table.
 pub(crate) fn release_leaf<A: Allot>(
@@ -107,7 +83,7 @@ fn release_page<A: Allot>(
 }
 
 /// Gives back the frame at a place.
-pub(crate) fn give_place<A: Allot>(frames: &mut Vec<Option<Frame>>, place: u32, allot: &mut A)
+fn give_place<A: Allot>(frames: &mut Vec<Option<Frame>>, place: u32, allot: &mut A)
     requires place { place < length frames.old.items }
     requires out { one_if (slice_index_or frames.old.items place None) ≤ A.out (A.state allot.old) }
     requires untold { A.grants allot.old ≡ None }

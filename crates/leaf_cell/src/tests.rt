@@ -57,61 +57,14 @@ fn refusing(alloc: Global, refuses: u64) -> Counted {
 }
 
 #[test]
-fn both_sides_keep_their_bytes(rt: HostRuntime) -> Result<(), Fail> {
-    let mut allot = refusing(rt.alloc(), 0);
-    let mut cell = Cell::new(rt.alloc())?;
+fn a_new_cell_holds_nothing(rt: HostRuntime) -> Result<(), Fail> {
+    let cell = Cell::new(rt.alloc())?;
     assert_eq!(rt; cell.held(), 0);
-    assert_eq!(rt; cell.touch(0, &mut allot), Ok(()));
-    assert_eq!(rt; cell.held(), 2);
-    cell.store(0, 4094, b"ab");
-    assert_eq!(rt; cell.fork_eager(7, &mut allot), Ok(()));
-    assert_eq!(rt; cell.held(), 3);
-    assert_eq!(rt; cell.touch(0, &mut allot), Ok(()));
-    assert_eq!(rt; cell.held(), 4);
-    cell.store(0, 4094, b"z");
-    let mut buf = [9; 3];
-    cell.read(0, 4093, &mut buf);
-    assert_eq!(rt; &buf, b"\0zb");
-    assert_eq!(rt; cell.snap_read(7, 0, 4093, &mut buf), Ok(()));
-    assert_eq!(rt; &buf, b"\0ab");
-    assert_eq!(rt; cell.state(7), LeafState::Own);
-    assert_eq!(rt; cell.state(6), LeafState::Absent);
-    assert_eq!(rt; cell.snap(0), Some(7));
-    assert_eq!(rt; cell.snap(1), None);
-    cell.clear(0, 512, &mut allot);
-    assert_eq!(rt; cell.held(), 2);
     assert_eq!(rt; cell.pages(), 0);
-    cell.drop_snap(7, &mut allot);
-    assert_eq!(rt; cell.held(), 0);
-    assert_eq!(rt; allot.out, 0);
-    Ok(())
-}
-
-#[test]
-fn a_refused_request_has_its_stated_effect(rt: HostRuntime) -> Result<(), Fail> {
-    // The refused request, what the cell holds behind each call, and the snapshot's state.
-    let cases = [
-        (1, 0, 0, 0, LeafState::Absent),
-        (2, 0, 0, 0, LeafState::Absent),
-        (3, 2, 2, 2, LeafState::Absent),
-        (4, 2, 3, 2, LeafState::Lost(1)),
-        (5, 2, 3, 4, LeafState::Own),
-    ];
-    for (refuses, touched, forked, written, state) in cases {
-        let mut allot = refusing(rt.alloc(), refuses);
-        let mut cell = Cell::new(rt.alloc())?;
-        let first = cell.touch(511, &mut allot);
-        assert_eq!(rt; first.is_ok(), refuses > 2);
-        assert_eq!(rt; cell.held(), touched);
-        if first.is_ok() {
-            let fork = cell.fork_eager(1, &mut allot);
-            assert_eq!(rt; fork.is_ok(), refuses > 3);
-            assert_eq!(rt; cell.held(), forked);
-            assert_eq!(rt; cell.touch(511, &mut allot), Ok(()));
-            assert_eq!(rt; cell.held(), written);
-        }
-        assert_eq!(rt; cell.state(1), state);
-        assert_eq!(rt; allot.out, cell.held() as u64);
-    }
+    assert_eq!(rt; cell.state(7), LeafState::Absent);
+    assert_eq!(rt; cell.snap(0), None);
+    let mut buf = [9; 3];
+    cell.read(511, 4093, &mut buf);
+    assert_eq!(rt; &buf, b"\0\0\0");
     Ok(())
 }

@@ -1,8 +1,8 @@
-//! Touching and storing.
+//! Touching absent pages, and storing.
 ghost use Rattle.std.specs.Prelude.{◌≡◌, ◌+◌, ◌<◌, ◌≤◌, ℕ, [], length, slice_set, slice_index_or, None, Some, true, IsSome, OnErr};
 ghost use Rattle.vm_base.specs.FlatMemory.{spliced};
 ghost use Rattle.leaf_cell.specs.Adding.{stored_in, IsWholeFrame};
-ghost use Rattle.kernel_meaning.specs.Leaves.{version_at, is_named};
+ghost use Rattle.kernel_meaning.specs.Leaves.{version_at};
 ghost use Rattle.kernel_meaning.specs.CellAccount.{CellAccount, Touch, Store};
 ghost use Rattle.leaf_cell.specs.CellView.{AreUnjoined, held_of};
 ghost use Rattle.leaf_cell.specs.Renaming.{IsNamedBy};
@@ -10,19 +10,17 @@ ghost use Rattle.leaf_cell.specs.Standing.{MadeAct, StandsFor, TakesAccount};
 ghost use Rattle.leaf_cell.specs.States.{refused_count};
 
 use crate::cell::Cell;
-use crate::leaf_table::{CELL_PAGES, LeafTable, put_bytes};
-use crate::lookups::{own_place, place_in};
-use crate::pages::{add_page, copy_page};
-use crate::release::lose_leaf;
+use crate::leaf_table::{CELL_PAGES, put_bytes};
+use crate::lookups::place_in;
+use crate::pages::add_page;
 use vm_base::{Allot, Frame, Refused};
 
 impl Cell {
-    /// Makes a page of the parent present, and its own: where a snapshot's leaf names its frame,
-    /// it gets a copy. Where the frame for the copy is refused, that snapshot has lost the cell,
-    /// and the page stays where it is. Only an absent page can be refused, and then the cell is as
-    /// before.
-    pub fn touch<A: Allot>(&mut self, page: u16, allot: &mut A) -> Result<(), Refused>
+    /// Makes an absent page of the parent present, as zeros, and the leaf table too where it is the
+    /// first page. After a refusal the cell is as before.
+    pub fn touch_absent<A: Allot>(&mut self, page: u16, allot: &mut A) -> Result<(), Refused>
         requires page { page < CELL_PAGES }
+        requires absent { version_at self.old.leaves.parent page ≡ None }
         requires unjoined { AreUnjoined self.old.leaves.kept }
         requires held { held_of self.old ≤ A.out (A.state allot.old) }
         requires untold { A.grants allot.old ≡ None }
@@ -30,17 +28,8 @@ impl Cell {
         ensures held { A.out (A.state allot.new) + held_of self.old ≡ A.out (A.state allot.old) + held_of self.new }
         ensures untold { A.grants allot.new ≡ None }
         ensures refused { OnErr result (self.new ≡ self.old) }
-        ensures absent { OnErr result (version_at self.old.leaves.parent page ≡ None) }
     {
-        match place_in(&self.parent, page) {
-            Some(place) => {
-                if own_place(&self.snapshot, page) == Some(place) {
-                    self.unshare_page(page, place, allot);
-                }
-                Ok(())
-            }
-            None => add_page(&mut self.parent, &mut self.frames, page, allot),
-        }
+        add_page(&mut self.parent, &mut self.frames, page, allot)
     }
 
     /// Stores bytes in a page that no snapshot names.
@@ -53,32 +42,6 @@ impl Cell {
     {
         if let Some(place) = place_in(&self.parent, page) {
             store_place(&mut self.frames, place, at as usize, bytes);
-        }
-    }
-
-    /// Copies a present page that the snapshot names too, or loses the cell for the snapshot.
-    fn unshare_page<A: Allot>(&mut self, page: u16, place: u32, allot: &mut A)
-        requires page { page < CELL_PAGES }
-        requires unjoined { AreUnjoined self.old.leaves.kept }
-        requires held { held_of self.old ≤ A.out (A.state allot.old) }
-        requires untold { A.grants allot.old ≡ None }
-        requires there { version_at self.old.leaves.parent page ≡ Some place }
-        requires named { is_named self.old.leaves page place ≡ true }
-        ensures made { MadeAct A.goes (A.state allot.old) (A.state allot.new) (Touch page) self.old self.new None }
-        ensures held { A.out (A.state allot.new) + held_of self.old ≡ A.out (A.state allot.old) + held_of self.new }
-        ensures untold { A.grants allot.new ≡ None }
-    {
-        match copy_page(&mut self.parent, &mut self.frames, page, place, allot) {
-            Ok(()) => {}
-            Err(refused) => {
-                lose_leaf(
-                    &mut self.snapshot,
-                    refused.at,
-                    &self.parent,
-                    &mut self.frames,
-                    allot,
-                )
-            }
         }
     }
 }
