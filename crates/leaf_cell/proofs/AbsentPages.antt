@@ -1,12 +1,12 @@
 -- A table without a page, and counts of pages.
-use Rattle.std.proofs.Common.{◌≡◌, ℕ, zero, suc, ◌+◌, ◌-◌, ◌<◌, ◌≤◌, List, [], ◌∷◌, length, take, drop, replicate, get_or, Option, Some, None, refl, sym, ◌∙◌, ap, arith, inl, inr}
-use Rattle.std.specs.Prelude.{count_by, is_some, Bool, true, false, cond, ◌||◌}
+use Rattle.std.proofs.Common.{◌≡◌, ℕ, zero, suc, ◌+◌, ◌-◌, ◌<◌, ◌≤◌, List, [], ◌∷◌, take, drop, replicate, get_or, Option, None, refl, sym, ◌∙◌, ap, arith, inl, inr}
+use Rattle.std.specs.Prelude.{is_some, Bool, true, false, ◌||◌}
 use Rattle.std.specs.List.{list_any}
 use Rattle.std.proofs.lemmas.List.{get_or-replicate, get_or_past, length-replicate, drop-replicate, take-replicate, get_or-drop}
 use Rattle.std.proofs.lemmas.Bool.{cases_lt, cases_eq}
 use Rattle.vm_base.specs.FlatMemory.{zero_page}
 use Rattle.leaf_cell.specs.CellView.{part_of}
-use Rattle.kernel_meaning.specs.Leaves.{no_versions, version_at, has_pages, has_present}
+use Rattle.kernel_meaning.specs.Leaves.{no_versions, version_at, has_present}
 
 -- no page of it has a place
 pub version_at-none : (page : ℕ) → version_at no_versions page ≡ None

@@ -1,12 +1,12 @@
 -- Cells that are alike but for names stay so.
-use Rattle.std.proofs.Common.{◌≡◌, ◌≢◌, ℕ, zero, suc, ◌+◌, ◌<◌, ◌≤◌, List, [], ◌∷◌, length, get_or, Option, Some, None, refl, sym, ◌∙◌, ap, subst, arith, inl, inr, ◌⊎◌}
-use Rattle.std.specs.Prelude.{is_some, Bool, true, false, cond, unwrap_or, slice_set, slice_index_or, ◌==◌, ◌&&◌, ◌||◌}
+use Rattle.std.proofs.Common.{◌≡◌, ◌≢◌, ℕ, ◌<◌, List, [], ◌∷◌, length, Option, Some, None, refl, sym, ◌∙◌, ap, subst, inl, inr, ◌⊎◌}
+use Rattle.std.specs.Prelude.{unwrap_or}
 use Rattle.std.specs.Option.{option_map}
-use Rattle.std.proofs.lemmas.Bool.{cases_eq, false≢true}
+use Rattle.std.proofs.lemmas.Bool.{cases_eq}
 use Rattle.std.proofs.lemmas.List.{get_or-set_same, get_or-set_other}
-use Rattle.kernel_meaning.specs.Leaves.{Versions, version_at, with_version, is_lost, Kept, CellLeaves}
+use Rattle.kernel_meaning.specs.Leaves.{version_at, with_version, is_lost, Kept, CellLeaves}
 use Rattle.kernel_meaning.specs.CellActs.{with_parent_version}
-use Rattle.leaf_cell.specs.Renaming.{renamed, IsKeptAlike, AreKeptAlike, IsNamedBy, IsLive, IsRenaming, AreMade}
+use Rattle.leaf_cell.specs.Renaming.{AreKeptAlike, IsNamedBy, IsLive, IsRenaming}
 use Rattle.leaf_cell.proofs.Renamed.{with_name, with_name-here, with_name-other_page, with_name-other_version, renamed-with_version, renamed-with_name, version_at-renamed}
 
 -- snapshots that do not name the version that is named anew stay alike

@@ -1,31 +1,28 @@
 -- What a drop made.
-use Rattle.std.proofs.Common.{◌≡◌, ◌≢◌, ℕ, zero, suc, ◌+◌, ◌-◌, ◌<◌, ◌≤◌, List, [], ◌∷◌, ◌++◌, length, replicate, Option, Some, None, refl, sym, ◌∙◌, ap, subst, arith, inl, inr, ◌⊎◌}
-use Rattle.std.specs.Prelude.{is_some, IsSome, Bool, true, false, not, cond, unwrap_or, filter, nat_lt, ◌==◌, slice_index_or, count_by}
+use Rattle.std.proofs.Common.{◌≡◌, ◌≢◌, ℕ, zero, suc, ◌+◌, ◌-◌, ◌<◌, List, [], ◌∷◌, replicate, Option, Some, None, refl, sym, ◌∙◌, ap, subst, arith, inl, inr, ◌⊎◌}
+use Rattle.std.specs.Prelude.{is_some, Bool, true, false, not, cond, unwrap_or, nat_lt, ◌==◌, slice_index_or}
 use Rattle.std.specs.Option.{option_map, option_and_then}
-use Rattle.std.specs.FinMap.{get, remove, get-remove}
+use Rattle.std.specs.FinMap.{get, get-remove}
 use Rattle.std.specs.Cmp.{nat_cmp_total}
 use Rattle.std.specs.Ordering.{nat_cmp, eq_by_cmp, is_eq}
 use Rattle.std.proofs.Common.{Less, Equal, Greater}
 use Rattle.std.proofs.lemmas.Bool.{cases_eq, ne_eqb, false≢true}
 use Rattle.std.proofs.lemmas.List.{length-replicate}
 use Rattle.std.proofs.lemmas.List.Sums.{sum_by-cons}
-use Rattle.vm_base.specs.Deals.{Deal, Returned, LeadsAlong}
+use Rattle.vm_base.specs.Deals.{Deal, Returned}
 use Rattle.vm_base.specs.Frames.{FrameView}
-use Rattle.kernel_meaning.specs.Requests.{opening_requests, answers_of}
+use Rattle.kernel_meaning.specs.Requests.{answers_of}
 use Rattle.kernel_meaning.specs.Leaves.{Versions, no_versions, version_at, is_lost, is_own, Kept, CellLeaves, kept_by, without_kept, share}
-use Rattle.kernel_meaning.specs.CellAccount.{Drop, CellAccount, CellState}
+use Rattle.kernel_meaning.specs.CellAccount.{Drop, CellAccount}
 use Rattle.leaf_cell.specs.declared.snapshot.Snapshot.{Snapshot}
-use Rattle.leaf_cell.specs.declared.snapshot.SnapshotLeaf.{SnapshotLeaf}
-use Rattle.leaf_cell.specs.declared.snapshot.SnapshotLeaf.TheVariants as code
-use Rattle.leaf_cell.specs.CellView.{CellView, bytes_in, held_of}
-use Rattle.leaf_cell.specs.Inside.{AreInside, AreAtHome, IsPlaceOf, table_places, own_places, snapshot_places, leaf_value, kept_value, kept_values, cell_value}
-use Rattle.leaf_cell.specs.Renaming.{IsKeptAlike, AreKeptAlike, IsNamedBy, IsLive, IsRenaming, AreMade}
-use Rattle.leaf_cell.specs.Releasing.{AreHome, IsLeafReleased, own_if}
+use Rattle.leaf_cell.specs.CellView.{CellView, bytes_in}
+use Rattle.leaf_cell.specs.Inside.{AreInside, table_places, snapshot_places, leaf_value, kept_value, kept_values, cell_value}
+use Rattle.leaf_cell.specs.Renaming.{AreKeptAlike, IsNamedBy, IsLive, IsRenaming}
+use Rattle.leaf_cell.specs.Releasing.{IsLeafReleased, own_if}
 use Rattle.leaf_cell.specs.Standing.{StandsFor, TakesAccount, MadeAct}
 use Rattle.leaf_cell.proofs.NewCell.{none_is_not_some}
 use Rattle.leaf_cell.proofs.AbsentPages.{version_at-none}
 use Rattle.leaf_cell.proofs.Renamed.{eqb-refl}
-use Rattle.leaf_cell.proofs.InsideFacts.{page_below}
 use Rattle.leaf_cell.proofs.SameShare.{share-alike}
 use Rattle.leaf_cell.proofs.HeldShare.{held-share}
 

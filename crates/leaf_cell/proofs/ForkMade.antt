@@ -1,29 +1,26 @@
 -- What an eager fork made.
-use Rattle.std.proofs.Common.{◌≡◌, ◌≢◌, ℕ, ◌+◌, ◌<◌, ◌≤◌, List, [], ◌∷◌, length, Option, Some, None, refl, sym, ◌∙◌, ap, subst, arith, inl, inr, ◌⊎◌}
-use Rattle.std.specs.Prelude.{is_some, IsSome, Bool, true, false, cond, unwrap_or, ◌==◌, slice_index_or, count_by}
+use Rattle.std.proofs.Common.{◌≡◌, ℕ, ◌+◌, ◌<◌, List, [], ◌∷◌, length, Option, Some, None, refl, sym, ◌∙◌, ap, subst, arith, inl, inr}
+use Rattle.std.specs.Prelude.{is_some, Bool, true, false, cond, unwrap_or, ◌==◌}
 use Rattle.std.specs.Option.{option_and_then}
 use Rattle.std.specs.FinMap.{get, insert}
 use Rattle.std.proofs.lemmas.Bool.{cases_eq, ne_eqb, false≢true}
 use Rattle.vm_base.specs.declared.fork_mode.Mode.TheVariants.{Eager}
 use Rattle.vm_base.specs.declared.frame_request.Want.TheVariants as want
-use Rattle.vm_base.specs.Deals.{Deal, Granted, Denied, LeadsAlong}
+use Rattle.vm_base.specs.Deals.{Granted, Denied}
 use Rattle.vm_base.specs.Frames.{FrameView}
-use Rattle.vm_base.specs.FlatMemory.{PageMap}
 use Rattle.vm_base.proofs.NumberedMaps.{get_inserted_here}
-use Rattle.kernel_meaning.specs.Requests.{Yes, No, opening_requests}
-use Rattle.kernel_meaning.specs.Leaves.{Versions, no_versions, version_at, Own, Kept, CellLeaves, is_lost, kept_by, with_kept, has_pages}
-use Rattle.kernel_meaning.specs.CellActs.{with_fork}
-use Rattle.kernel_meaning.specs.CellAccount.{Fork, CellAccount, CellState}
+use Rattle.kernel_meaning.specs.Leaves.{Versions, no_versions, version_at, Own, Kept, CellLeaves, kept_by, with_kept}
+use Rattle.kernel_meaning.specs.CellAccount.{Fork, CellAccount}
 use Rattle.leaf_cell.specs.declared.snapshot.Snapshot.{Snapshot}
 use Rattle.leaf_cell.specs.declared.snapshot.SnapshotLeaf.TheVariants as code
-use Rattle.leaf_cell.specs.CellView.{CellView, bytes_in, kept_page, parent_page, held_of}
+use Rattle.leaf_cell.specs.CellView.{CellView, kept_page}
 use Rattle.leaf_cell.specs.Inside.{AreInside, table_places, own_places, kept_value, kept_values, cell_value}
-use Rattle.leaf_cell.specs.Renaming.{renamed, IsKeptAlike, AreKeptAlike, IsNamedBy, IsLive, IsRenaming, AreMade}
-use Rattle.leaf_cell.specs.Standing.{StandsFor, TakesAccount, MadeAct}
+use Rattle.leaf_cell.specs.Renaming.{AreKeptAlike, IsLive, IsRenaming}
+use Rattle.leaf_cell.specs.Standing.{StandsFor, TakesAccount}
 use Rattle.leaf_cell.proofs.NewCell.{none_is_not_some}
 use Rattle.leaf_cell.proofs.AbsentPages.{version_at-none}
 use Rattle.leaf_cell.proofs.Renamed.{eqb-refl}
-use Rattle.leaf_cell.proofs.TouchActs.{takes-by, stands-made}
+use Rattle.leaf_cell.proofs.TouchActs.{stands-made}
 
 -- no snapshot on one side, none on the other
 alike-none : (name : ℕ → ℕ → ℕ) (meant : List Kept) → AreKeptAlike name [] meant → meant ≡ []

@@ -1,8 +1,8 @@
 -- What a cell holds is its share.
-use Rattle.std.proofs.Common.{◌≡◌, ℕ, ◌+◌, List, length, Option, Some, None, refl, sym, ◌∙◌, ap, arith}
+use Rattle.std.proofs.Common.{◌≡◌, ℕ, ◌+◌, List, length, Option, Some, None, refl, ap, arith}
 use Rattle.std.specs.Prelude.{is_some, cond, count_by}
 use Rattle.vm_base.specs.Frames.{FrameView}
-use Rattle.kernel_meaning.specs.Leaves.{Versions, no_versions, share, is_own, has_pages, parent_leaves, own_leaves, named_pairs}
+use Rattle.kernel_meaning.specs.Leaves.{Versions, no_versions, share, is_own, parent_leaves, own_leaves, named_pairs}
 use Rattle.kernel_meaning.specs.CellAccount.{CellAccount, account_share}
 use Rattle.leaf_cell.specs.declared.snapshot.Snapshot.{Snapshot}
 use Rattle.leaf_cell.specs.CellView.{CellView}

@@ -1,20 +1,16 @@
 -- What the order of tables and frames in a cell gives.
-use Rattle.std.proofs.Common.{◌≡◌, ◌≢◌, ℕ, zero, suc, ◌+◌, ◌<◌, ◌≤◌, List, [], ◌∷◌, length, get_or, Option, Some, None, refl, sym, ◌∙◌, ap, subst, arith, inl, inr, ◌⊎◌}
-use Rattle.std.specs.Prelude.{is_some, IsSome, Bool, true, false, cond, unwrap_or, slice_set, slice_index_or, count_by}
-use Rattle.std.specs.List.{list_any}
-use Rattle.std.proofs.lemmas.Bool.{cases_eq, cases_lt, false≢true}
-use Rattle.std.proofs.lemmas.List.{get_or-set_same, get_or-set_other, get_or_past, length-set}
+use Rattle.std.proofs.Common.{◌≡◌, ℕ, zero, suc, ◌+◌, ◌<◌, List, [], ◌∷◌, length, Option, Some, None, refl, sym, ◌∙◌, ap, arith, inl, inr, ◌⊎◌}
+use Rattle.std.specs.Prelude.{is_some, IsSome, true, false, cond, unwrap_or, slice_set, slice_index_or, count_by}
+use Rattle.std.proofs.lemmas.Bool.{cases_lt, false≢true}
+use Rattle.std.proofs.lemmas.List.{get_or_past}
 use Rattle.std.proofs.lemmas.List.Sums.{sum_by-set}
 use Rattle.vm_base.specs.Frames.{FrameView}
-use Rattle.kernel_meaning.specs.Leaves.{Versions, no_versions, version_at, with_version, has_pages, is_lost, Kept, CellLeaves}
+use Rattle.kernel_meaning.specs.Leaves.{Versions, no_versions, version_at, has_pages, is_lost}
 use Rattle.leaf_cell.specs.declared.snapshot.Snapshot.{Snapshot}
 use Rattle.leaf_cell.specs.declared.snapshot.SnapshotLeaf.{SnapshotLeaf}
 use Rattle.leaf_cell.specs.declared.snapshot.SnapshotLeaf.TheVariants as code
-use Rattle.leaf_cell.specs.CellView.{CellView}
-use Rattle.leaf_cell.specs.Inside.{AreInside, AreAtHome, IsPlaceOf, table_places, own_places, snapshot_places, leaf_value, kept_value, kept_values, cell_value}
-use Rattle.leaf_cell.specs.Renaming.{IsLive, IsNamedBy}
-use Rattle.leaf_cell.specs.Adding.{IsPut}
-use Rattle.leaf_cell.proofs.NewCell.{none_is_some, none_is_not_some}
+use Rattle.leaf_cell.specs.Inside.{AreInside, IsPlaceOf, table_places, own_places, snapshot_places, leaf_value, cell_value}
+use Rattle.leaf_cell.proofs.NewCell.{none_is_not_some}
 use Rattle.leaf_cell.proofs.NewVersion.{AreFilled}
 
 pub same_some : (x y : ℕ) → ◌≡◌ {A = Option ℕ} (Some x) (Some y) → x ≡ y

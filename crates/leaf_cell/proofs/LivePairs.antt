@@ -1,9 +1,9 @@
 -- The pairs that live in a cell, and the frames that it holds.
-use Rattle.std.proofs.Common.{◌≡◌, ◌≢◌, ℕ, zero, suc, ◌+◌, ◌-◌, ◌<◌, ◌≤◌, List, [], ◌∷◌, ◌++◌, length, map, get_or, Option, Some, None, refl, sym, ◌∙◌, ap, subst, arith, inl, inr, ◌⊎◌}
+use Rattle.std.proofs.Common.{◌≡◌, ℕ, zero, suc, ◌+◌, ◌-◌, ◌<◌, List, [], ◌∷◌, ◌++◌, length, get_or, Option, Some, None, refl, sym, ◌∙◌, ap, subst, arith, inl, inr, ◌⊎◌}
 use Rattle.std.specs.Prelude.{is_some, IsSome, Bool, true, false, cond, unwrap_or, slice_index_or, count_by, flat_map}
 use Rattle.std.proofs.lemmas.Bool.{cases_lt, false≢true}
 use Rattle.vm_base.specs.Frames.{FrameView}
-use Rattle.kernel_meaning.specs.Leaves.{Versions, no_versions, version_at, pairs_from, pairs_of, distinct_pairs, named_pairs, is_lost, Kept, CellLeaves}
+use Rattle.kernel_meaning.specs.Leaves.{Versions, no_versions, version_at, pairs_from, pairs_of, named_pairs, is_lost, Kept, CellLeaves}
 use Rattle.leaf_cell.specs.declared.snapshot.Snapshot.{Snapshot}
 use Rattle.leaf_cell.specs.declared.snapshot.SnapshotLeaf.{SnapshotLeaf}
 use Rattle.leaf_cell.specs.declared.snapshot.SnapshotLeaf.TheVariants as code
@@ -11,7 +11,7 @@ use Rattle.leaf_cell.specs.Inside.{AreInside, IsPlaceOf, table_places, own_place
 use Rattle.leaf_cell.specs.Renaming.{IsNamedBy, IsLive}
 use Rattle.leaf_cell.proofs.NewCell.{none_is_not_some}
 use Rattle.leaf_cell.proofs.AbsentPages.{version_at-none}
-use Rattle.leaf_cell.proofs.InsideFacts.{are_filled, page_below, parent_filled}
+use Rattle.leaf_cell.proofs.InsideFacts.{are_filled, page_below}
 use Rattle.leaf_cell.proofs.PutPage.{one_page}
 use Rattle.leaf_cell.proofs.StoreMade.{at_home}
 use Rattle.leaf_cell.proofs.PairCounts.{IsIn, from-distinct, to-distinct, distinct-once, count-pairs, filled-below}

@@ -1,17 +1,16 @@
 -- A cell that nobody has is in order, and stands for the empty account.
-use Rattle.std.proofs.Common.{◌≡◌, ℕ, ◌+◌, ◌<◌, ◌≤◌, List, [], ◌∷◌, length, replicate, get_or, Option, Some, None, refl, sym, ◌∙◌, ap, subst, arith, inl, inr}
-use Rattle.std.specs.Prelude.{is_some, IsSome, Bool, true, false, slice_index_or, ◌⊎◌}
+use Rattle.std.proofs.Common.{◌≡◌, ℕ, List, length, replicate, Option, Some, None, refl, sym, ◌∙◌, ap, inl, inr}
+use Rattle.std.specs.Prelude.{is_some, IsSome, slice_index_or}
 use Rattle.std.proofs.lemmas.Bool.{false≢true, cases_lt}
 use Rattle.std.proofs.lemmas.List.{get_or-replicate, get_or_past, length-replicate}
 use Rattle.std.specs.Ordering.{nat_cmp}
-use Rattle.std.specs.FinMap.{get, get-empty}
-use Rattle.std.specs.Option.{option_and_then}
+use Rattle.std.specs.FinMap.{get-empty}
 use Rattle.vm_base.specs.Frames.{FrameView}
-use Rattle.kernel_meaning.specs.Leaves.{Versions, Kept, CellLeaves, no_versions, unused_cell, version_at, has_pages, is_lost}
+use Rattle.kernel_meaning.specs.Leaves.{no_versions, unused_cell, version_at}
 use Rattle.kernel_meaning.specs.CellAccount.{empty_account}
-use Rattle.leaf_cell.specs.CellView.{CellView, new_view, bytes_in, parent_page, kept_page}
-use Rattle.leaf_cell.specs.Inside.{AreInside, AreAtHome, IsPlaceOf}
-use Rattle.leaf_cell.specs.Renaming.{renamed, IsRenaming, IsLive, IsNamedBy}
+use Rattle.leaf_cell.specs.CellView.{new_view, bytes_in}
+use Rattle.leaf_cell.specs.Inside.{AreInside, AreAtHome}
+use Rattle.leaf_cell.specs.Renaming.{renamed, IsLive}
 use Rattle.leaf_cell.specs.Standing.{StandsFor}
 use Rattle.leaf_cell.proofs.AbsentPages.{version_at-none}
 

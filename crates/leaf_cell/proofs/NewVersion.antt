@@ -1,17 +1,17 @@
 -- A page of the parent gets a new version, at a place that was free.
-use Rattle.std.proofs.Common.{◌≡◌, ◌≢◌, ℕ, zero, suc, ◌+◌, ◌<◌, ◌≤◌, List, [], ◌∷◌, length, get_or, Option, Some, None, refl, sym, ◌∙◌, ap, subst, arith, inl, inr, ◌⊎◌}
+use Rattle.std.proofs.Common.{◌≡◌, ◌≢◌, ℕ, ◌<◌, ◌≤◌, List, [], ◌∷◌, length, Option, Some, None, refl, sym, ◌∙◌, ap, arith, inl, inr}
 use Rattle.std.specs.Prelude.{is_some, IsSome, Bool, true, false, cond, unwrap_or, ◌==◌, slice_set, slice_index_or}
-use Rattle.std.specs.Option.{option_map, option_and_then}
+use Rattle.std.specs.Option.{option_map}
 use Rattle.std.specs.FinMap.{get}
 use Rattle.std.proofs.lemmas.Bool.{cases_eq, false≢true}
 use Rattle.std.proofs.lemmas.List.{get_or-set_same, get_or-set_other}
 use Rattle.vm_base.specs.Frames.{FrameView}
 use Rattle.vm_base.specs.FlatMemory.{PageMap}
-use Rattle.kernel_meaning.specs.Leaves.{Versions, version_at, with_version, is_lost, Kept, CellLeaves, kept_by}
+use Rattle.kernel_meaning.specs.Leaves.{version_at, is_lost, Kept, kept_by}
 use Rattle.kernel_meaning.specs.CellActs.{with_parent_version}
-use Rattle.kernel_meaning.specs.CellAccount.{CellState, CellAccount}
-use Rattle.leaf_cell.specs.CellView.{CellView, bytes_in, frame_bytes, parent_page, kept_page}
-use Rattle.leaf_cell.specs.Renaming.{IsNamedBy, IsLive, IsRenaming, AreMade}
+use Rattle.kernel_meaning.specs.CellAccount.{CellAccount}
+use Rattle.leaf_cell.specs.CellView.{CellView, bytes_in, parent_page}
+use Rattle.leaf_cell.specs.Renaming.{IsNamedBy, IsLive}
 use Rattle.leaf_cell.specs.Standing.{StandsFor}
 use Rattle.leaf_cell.proofs.NewCell.{none_is_some}
 use Rattle.leaf_cell.proofs.Renamed.{with_name, length-renamed}

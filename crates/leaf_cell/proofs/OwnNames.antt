@@ -1,13 +1,13 @@
 -- What a snapshot's own table names.
-use Rattle.std.proofs.Common.{◌≡◌, ℕ, List, [], ◌∷◌, Option, Some, None, refl, sym, ◌∙◌, ap}
-use Rattle.std.specs.Prelude.{Bool, true, false, nat_eq, ◌||◌, ◌&&◌}
+use Rattle.std.proofs.Common.{◌≡◌, ℕ, List, Option, Some, None, refl, sym, ◌∙◌, ap}
+use Rattle.std.specs.Prelude.{Bool, true, false, nat_eq, ◌||◌}
 use Rattle.std.specs.Option.{option_eq}
 use Rattle.vm_base.specs.Frames.{FrameView}
 use Rattle.kernel_meaning.specs.Leaves.{Versions, no_versions, version_at, holds_number, is_named}
 use Rattle.leaf_cell.specs.declared.snapshot.Snapshot.{Snapshot}
 use Rattle.leaf_cell.specs.declared.snapshot.SnapshotLeaf.{SnapshotLeaf}
 use Rattle.leaf_cell.specs.declared.snapshot.SnapshotLeaf.TheVariants as code
-use Rattle.leaf_cell.specs.Inside.{cell_value, own_places, snapshot_places, kept_value, table_places}
+use Rattle.leaf_cell.specs.Inside.{cell_value, own_places, snapshot_places}
 use Rattle.leaf_cell.proofs.AbsentPages.{version_at-none}
 
 holds-eq : (o : Option ℕ) (place : ℕ) → holds_number o place ≡ option_eq nat_eq o (Some place)

@@ -1,22 +1,21 @@
 -- A touch of a page that is present.
-use Rattle.std.proofs.Common.{◌≡◌, ◌≢◌, ℕ, zero, suc, ◌+◌, ◌<◌, ◌≤◌, List, [], ◌∷◌, length, get_or, Option, Some, None, refl, sym, ◌∙◌, ap, subst, arith, inl, inr, ◌⊎◌}
-use Rattle.std.specs.Prelude.{is_some, IsSome, Bool, true, false, cond, unwrap_or, slice_set, slice_index_or, ◌==◌, ◌&&◌, ◌||◌}
+use Rattle.std.proofs.Common.{◌≡◌, ℕ, ◌+◌, ◌<◌, List, [], ◌∷◌, length, Option, Some, None, refl, sym, ◌∙◌, ap, subst, arith, inl, inr}
+use Rattle.std.specs.Prelude.{is_some, Bool, true, false, cond, unwrap_or, slice_set, slice_index_or, ◌==◌, ◌&&◌, ◌||◌}
 use Rattle.std.specs.Option.{option_map}
 use Rattle.std.specs.List.{list_any}
 use Rattle.std.specs.FinMap.{get}
 use Rattle.std.proofs.lemmas.Bool.{cases_eq, ne_eqb, false≢true}
 use Rattle.vm_base.specs.declared.frame_request.Want.TheVariants as want
-use Rattle.vm_base.specs.Deals.{Deal, Granted, Denied, Returned}
+use Rattle.vm_base.specs.Deals.{Granted}
 use Rattle.vm_base.specs.Frames.{FrameView}
-use Rattle.vm_base.specs.FlatMemory.{PageMap, zero_page}
 use Rattle.vm_base.specs.FlatStep.{with_page}
 use Rattle.vm_base.proofs.FlatPages.{with_page_there}
-use Rattle.kernel_meaning.specs.Requests.{Answer, Yes, No, opening_requests}
-use Rattle.kernel_meaning.specs.Leaves.{Versions, version_at, is_own, is_lost, Leaf, Own, Joined, Lost, holds_number, names_version, is_named, Kept, CellLeaves}
-use Rattle.kernel_meaning.specs.CellActs.{Course, opening_course, asking, coming_answer, page_copy_answered, present_touched, with_parent_version}
-use Rattle.kernel_meaning.specs.CellAccount.{CellAct, Touch, CellState, CellAccount, state_after}
-use Rattle.leaf_cell.specs.CellView.{CellView, AreUnjoined, bytes_in, parent_page}
-use Rattle.leaf_cell.specs.Renaming.{renamed, IsKeptAlike, AreKeptAlike, IsNamedBy, IsLive, IsRenaming}
+use Rattle.kernel_meaning.specs.Requests.{Yes, opening_requests}
+use Rattle.kernel_meaning.specs.Leaves.{version_at, is_own, is_lost, Leaf, Own, Joined, Lost, holds_number, names_version, is_named, Kept, CellLeaves}
+use Rattle.kernel_meaning.specs.CellActs.{Course, opening_course, asking, coming_answer, page_copy_answered, with_parent_version}
+use Rattle.kernel_meaning.specs.CellAccount.{Touch, CellAccount}
+use Rattle.leaf_cell.specs.CellView.{CellView, AreUnjoined, bytes_in}
+use Rattle.leaf_cell.specs.Renaming.{IsKeptAlike, AreKeptAlike, IsNamedBy, IsLive, IsRenaming}
 use Rattle.leaf_cell.specs.Standing.{StandsFor, TakesAccount}
 use Rattle.leaf_cell.proofs.Renamed.{version_at-renamed, eqb-refl}
 use Rattle.leaf_cell.proofs.NewVersion.{AreFilled, stands-new_version}

@@ -1,16 +1,15 @@
 -- A page that is put at a place of its own keeps the order of a cell.
-use Rattle.std.proofs.Common.{◌≡◌, ◌≢◌, ℕ, zero, suc, ◌+◌, ◌<◌, ◌≤◌, List, [], ◌∷◌, length, get_or, Option, Some, None, refl, sym, ◌∙◌, ap, subst, arith, inl, inr, ◌⊎◌}
-use Rattle.std.specs.Prelude.{is_some, IsSome, Bool, true, false, cond, unwrap_or, slice_set, slice_index_or, count_by}
-use Rattle.std.proofs.lemmas.Bool.{cases_eq, cases_lt, false≢true}
-use Rattle.std.proofs.lemmas.List.{get_or-set_same, get_or-set_other, get_or_past, length-set}
+use Rattle.std.proofs.Common.{◌≡◌, ◌≢◌, ℕ, ◌+◌, ◌<◌, List, length, Option, Some, None, sym, ◌∙◌, ap, subst, arith, inl, inr, ◌⊎◌}
+use Rattle.std.specs.Prelude.{is_some, IsSome, true, slice_set, slice_index_or, count_by}
+use Rattle.std.proofs.lemmas.Bool.{cases_eq}
+use Rattle.std.proofs.lemmas.List.{get_or-set_same, get_or-set_other, length-set}
 use Rattle.vm_base.specs.Frames.{FrameView}
-use Rattle.kernel_meaning.specs.Leaves.{Versions, no_versions, version_at, with_version, has_pages, parent_leaves, own_leaves, Kept, CellLeaves}
+use Rattle.kernel_meaning.specs.Leaves.{Versions, version_at, with_version, has_pages}
 use Rattle.leaf_cell.specs.declared.snapshot.Snapshot.{Snapshot}
-use Rattle.leaf_cell.specs.CellView.{CellView, held_of}
-use Rattle.leaf_cell.specs.Inside.{AreInside, AreAtHome, IsPlaceOf, table_places, own_places, cell_value, kept_values}
+use Rattle.leaf_cell.specs.Inside.{AreInside, AreAtHome, IsPlaceOf, table_places, own_places}
 use Rattle.leaf_cell.specs.Adding.{IsPut}
-use Rattle.leaf_cell.proofs.NewCell.{none_is_some, none_is_not_some}
-use Rattle.leaf_cell.proofs.InsideFacts.{same_some, page_below, has_pages-there, count-filled, parent_filled, own_filled}
+use Rattle.leaf_cell.proofs.NewCell.{none_is_some}
+use Rattle.leaf_cell.proofs.InsideFacts.{same_some, has_pages-there, count-filled}
 
 -- two pages of one place are one
 pub one_page : (p page place : ℕ) → p < 512 → page < 512 → IsPlaceOf p place → IsPlaceOf page place → p ≡ page

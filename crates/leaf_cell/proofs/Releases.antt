@@ -1,18 +1,15 @@
 -- Frames given back page after page.
-use Rattle.std.proofs.Common.{◌≡◌, ◌≢◌, ℕ, zero, suc, ◌+◌, ◌<◌, ◌≤◌, List, [], ◌∷◌, ◌++◌, length, replicate, Option, Some, None, refl, sym, ◌∙◌, ap, subst, arith, inl, inr, ◌⊎◌, nat_eq}
-use Rattle.std.specs.Prelude.{is_some, IsSome, Bool, true, false, cond, slice_set, slice_index_or, count_by}
-use Rattle.std.specs.Option.{option_eq}
-use Rattle.std.proofs.lemmas.Bool.{cases_eq, cases_lt, false≢true}
+use Rattle.std.proofs.Common.{◌≡◌, ℕ, zero, suc, ◌+◌, ◌<◌, List, [], ◌∷◌, ◌++◌, length, replicate, Option, Some, None, refl, sym, ◌∙◌, ap, subst, arith, inl, inr, ◌⊎◌}
+use Rattle.std.specs.Prelude.{slice_set, slice_index_or}
+use Rattle.std.proofs.lemmas.Bool.{cases_eq, cases_lt}
 use Rattle.std.proofs.lemmas.List.{get_or-set_same, get_or-set_other, length-set}
 use Rattle.vm_base.specs.Deals.{Deal, Returned, LeadsAlong}
 use Rattle.vm_base.specs.Frames.{FrameView}
 use Rattle.vm_base.proofs.DealLemmas.{LeadsAlong-append}
 use Rattle.kernel_meaning.specs.Leaves.{Versions, version_at}
-use Rattle.leaf_cell.specs.Inside.{IsPlaceOf}
 use Rattle.leaf_cell.specs.Releasing.{AreHome, Releasing, IsReleased, IsLeafReleased}
 use Rattle.leaf_cell.proofs.NewCell.{none_is_not_some}
 use Rattle.leaf_cell.proofs.PutPage.{one_page, place_room}
-use Rattle.leaf_cell.proofs.CopyMade.{eq-some}
 
 pub replicate-both : {X : Type 0} (x : X) (a b : ℕ) → replicate a x ++ replicate b x ≡ replicate (a + b) x
 replicate-both x zero b = ap (λ n. replicate n x) zero-sum

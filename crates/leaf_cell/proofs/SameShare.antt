@@ -1,12 +1,12 @@
 -- Cells that are alike but for names have the same share.
-use Rattle.std.proofs.Common.{◌≡◌, ℕ, zero, suc, ◌+◌, List, [], ◌∷◌, ◌++◌, length, map, Option, Some, None, refl, sym, ◌∙◌, ap, subst, arith, inl, inr, ◌⊎◌}
+use Rattle.std.proofs.Common.{◌≡◌, ℕ, suc, ◌+◌, List, [], ◌∷◌, ◌++◌, length, map, Some, None, refl, sym, ◌∙◌, ap, subst, arith, inl, inr}
 use Rattle.std.specs.Prelude.{Bool, true, false, cond, ◌||◌, count_by, flat_map}
 use Rattle.std.specs.List.{list_any}
 use Rattle.std.proofs.lemmas.Bool.{false≢true}
 use Rattle.std.proofs.lemmas.List.{map-append}
 use Rattle.std.proofs.lemmas.List.Sums.{sum_by-cons}
 use Rattle.kernel_meaning.specs.Leaves.{Versions, pairs_from, pairs_of, is_same_pair, distinct_pairs, named_pairs, is_lost, is_own, has_pages, share, parent_leaves, own_leaves, Kept, CellLeaves}
-use Rattle.leaf_cell.specs.Renaming.{renamed_from, IsKeptAlike, AreKeptAlike, IsLive, IsRenaming}
+use Rattle.leaf_cell.specs.Renaming.{renamed_from, AreKeptAlike, IsLive, IsRenaming}
 use Rattle.leaf_cell.proofs.Renamed.{has_pages-renamed}
 use Rattle.leaf_cell.proofs.PairCounts.{IsIn, same-pair, pair-same}
 use Rattle.leaf_cell.proofs.LivePairs.{all_pairs, in-live}

@@ -1,8 +1,8 @@
 -- What a store made.
-use Rattle.std.proofs.Common.{◌≡◌, ◌≢◌, ℕ, zero, suc, ◌+◌, ◌*◌, ◌/◌, ◌%◌, ◌<◌, ◌≤◌, List, [], ◌∷◌, ◌++◌, length, take, drop, Option, Some, None, refl, sym, ◌∙◌, ap, subst, arith, inl, inr, ◌⊎◌}
-use Rattle.std.specs.Prelude.{is_some, IsSome, Bool, true, false, slice_set, slice_index_or}
-use Rattle.std.specs.Option.{option_map, ForSome}
-use Rattle.std.specs.FinMap.{get, insert}
+use Rattle.std.proofs.Common.{◌≡◌, ◌≢◌, ℕ, zero, ◌+◌, ◌*◌, ◌/◌, ◌%◌, ◌<◌, ◌≤◌, List, [], ◌∷◌, ◌++◌, length, take, drop, Option, Some, None, refl, sym, ◌∙◌, ap, subst, arith, inl, inr}
+use Rattle.std.specs.Prelude.{is_some, IsSome, false, slice_set, slice_index_or}
+use Rattle.std.specs.Option.{option_map}
+use Rattle.std.specs.FinMap.{get}
 use Rattle.std.proofs.lemmas.Bool.{cases_eq, false≢true}
 use Rattle.std.proofs.lemmas.List.{get_or-set_same, get_or-set_other, length-set, append-nil, take-append-drop}
 use Rattle.vm_base.specs.Frames.{FrameView}
@@ -16,12 +16,11 @@ use Rattle.kernel_meaning.specs.CellAccount.{Store, CellAccount}
 use Rattle.leaf_cell.specs.declared.snapshot.Snapshot.{Snapshot}
 use Rattle.leaf_cell.specs.declared.snapshot.SnapshotLeaf.{SnapshotLeaf}
 use Rattle.leaf_cell.specs.declared.snapshot.SnapshotLeaf.TheVariants as code
-use Rattle.leaf_cell.specs.CellView.{CellView, bytes_in}
+use Rattle.leaf_cell.specs.CellView.{bytes_in}
 use Rattle.leaf_cell.specs.Inside.{AreInside, IsPlaceOf, table_places, own_places, snapshot_places, leaf_value, cell_value}
 use Rattle.leaf_cell.specs.Adding.{stored_in, IsWholeFrame}
 use Rattle.leaf_cell.specs.Renaming.{IsNamedBy, IsLive}
 use Rattle.leaf_cell.specs.Standing.{StandsFor, TakesAccount}
-use Rattle.leaf_cell.proofs.NewCell.{none_is_some}
 use Rattle.leaf_cell.proofs.NewVersion.{named-kept}
 use Rattle.leaf_cell.proofs.InsideFacts.{page_below, parent_filled}
 use Rattle.leaf_cell.proofs.PutPage.{one_page}

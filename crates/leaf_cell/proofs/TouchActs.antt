@@ -1,26 +1,25 @@
 -- A touch takes each account that a cell stands for to the account with that touch.
-use Rattle.std.proofs.Common.{◌≡◌, ◌≢◌, ℕ, zero, suc, ◌+◌, ◌<◌, ◌≤◌, List, [], ◌∷◌, length, get_or, Option, Some, None, refl, sym, ◌∙◌, ap, subst, arith, inl, inr, ◌⊎◌}
-use Rattle.std.specs.Prelude.{is_some, IsSome, Bool, true, false, cond, unwrap_or, slice_set, slice_index_or, Ok, Err}
+use Rattle.std.proofs.Common.{◌≡◌, ◌≢◌, ℕ, ◌+◌, ◌<◌, ◌≤◌, List, [], ◌∷◌, length, Option, Some, None, refl, sym, ◌∙◌, ap, subst, arith}
+use Rattle.std.specs.Prelude.{is_some, true, false, slice_set, slice_index_or}
 use Rattle.std.specs.Option.{option_map}
-use Rattle.std.specs.FinMap.{get, insert}
+use Rattle.std.specs.FinMap.{get}
 use Rattle.std.proofs.lemmas.Bool.{false≢true}
 use Rattle.vm_base.specs.declared.frame_request.Want.TheVariants as want
 use Rattle.vm_base.specs.Deals.{Deal, Granted, Denied, Returned}
 use Rattle.vm_base.specs.Frames.{FrameView}
 use Rattle.vm_base.specs.FlatMemory.{PageMap, zero_page}
 use Rattle.vm_base.specs.FlatStep.{with_page}
-use Rattle.vm_base.proofs.FlatPages.{with_page_there, with_page_absent}
+use Rattle.vm_base.proofs.FlatPages.{with_page_absent}
 use Rattle.vm_base.proofs.NumberedMaps.{get_inserted_here, get_inserted_apart}
-use Rattle.kernel_meaning.specs.Requests.{Answer, Yes, No, opening_requests, answers_of}
-use Rattle.kernel_meaning.specs.Leaves.{Versions, version_at, has_pages, Kept, CellLeaves}
-use Rattle.kernel_meaning.specs.CellActs.{Course, opening_course, asking, coming_answer, before_change, new_page_asked, parent_leaf_answered, with_parent_version}
-use Rattle.kernel_meaning.specs.CellAccount.{CellAct, Touch, CellState, CellAccount, state_after}
-use Rattle.leaf_cell.specs.CellView.{CellView, AreUnjoined, bytes_in, parent_page}
-use Rattle.leaf_cell.specs.Renaming.{renamed, AreKeptAlike}
-use Rattle.leaf_cell.specs.Standing.{StandsFor, TakesAccount, course_behind, account_behind_act}
+use Rattle.kernel_meaning.specs.Requests.{Answer, Yes, No, opening_requests}
+use Rattle.kernel_meaning.specs.Leaves.{version_at, has_pages}
+use Rattle.kernel_meaning.specs.CellActs.{Course, opening_course, asking, new_page_asked, parent_leaf_answered, with_parent_version}
+use Rattle.kernel_meaning.specs.CellAccount.{CellAct, Touch, CellAccount, state_after}
+use Rattle.leaf_cell.specs.CellView.{CellView, AreUnjoined, bytes_in}
+use Rattle.leaf_cell.specs.Standing.{StandsFor, TakesAccount, course_behind}
 use Rattle.leaf_cell.proofs.Renamed.{version_at-renamed, has_pages-renamed}
-use Rattle.leaf_cell.proofs.NewVersion.{AreFilled, stands-new_version, view_then}
-use Rattle.leaf_cell.proofs.TouchCourses.{unjoined-alike, before_change-none, touched-absent, touched-first, touched-present}
+use Rattle.leaf_cell.proofs.NewVersion.{AreFilled, stands-new_version}
+use Rattle.leaf_cell.proofs.TouchCourses.{unjoined-alike, before_change-none, touched-absent, touched-first}
 
 -- the account behind a course
 abbrev pub account_of_course : CellAct → CellAccount → Course → CellAccount

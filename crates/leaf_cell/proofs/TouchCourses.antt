@@ -1,10 +1,9 @@
 -- The course of a touch where no leaf is joined, path by path.
-use Rattle.std.proofs.Common.{◌≡◌, ◌≢◌, ℕ, zero, suc, ◌+◌, ◌<◌, ◌≤◌, List, [], ◌∷◌, length, Option, Some, None, refl, sym, ◌∙◌, ap, subst, arith, inl, inr}
-use Rattle.std.specs.Prelude.{is_some, Bool, true, false, cond, not, ◌&&◌, filter, map}
+use Rattle.std.proofs.Common.{◌≡◌, ℕ, List, [], ◌∷◌, Some, None, refl, sym, ◌∙◌, ap}
+use Rattle.std.specs.Prelude.{Bool, true, false, cond, not, ◌&&◌, filter, map}
 use Rattle.vm_base.specs.declared.frame_request.Want.TheVariants as want
-use Rattle.kernel_meaning.specs.Requests.{Answer, Yes, No, opening_requests}
-use Rattle.kernel_meaning.specs.Leaves.{version_at, has_pages, is_joined, is_async, is_shared, is_marked, is_named, Kept, CellLeaves}
-use Rattle.kernel_meaning.specs.CellActs.{Course, opening_course, asking, coming_answer, numbers_where, leaves_copied, before_change, touched, touched_as, absent_touched, present_touched, new_page_asked, parent_leaf_answered, page_copy_answered}
+use Rattle.kernel_meaning.specs.Leaves.{version_at, has_pages, is_joined, is_async, is_shared, is_marked, Kept}
+use Rattle.kernel_meaning.specs.CellActs.{Course, asking, coming_answer, numbers_where, leaves_copied, before_change, touched, touched_as, present_touched, new_page_asked, parent_leaf_answered}
 use Rattle.leaf_cell.specs.CellView.{AreUnjoined}
 use Rattle.leaf_cell.specs.Renaming.{AreKeptAlike}
 

@@ -1,23 +1,23 @@
 -- What a touch of an absent page made.
-use Rattle.std.proofs.Common.{◌≡◌, ◌≢◌, ℕ, zero, suc, ◌+◌, ◌<◌, ◌≤◌, List, [], ◌∷◌, length, get_or, Option, Some, None, refl, sym, ◌∙◌, ap, subst, arith, inl, inr, ◌⊎◌}
-use Rattle.std.specs.Prelude.{is_some, IsSome, Bool, true, false, cond, Result, Ok, Err, OnOk, OnErr, slice_set, slice_index_or, count_by}
+use Rattle.std.proofs.Common.{◌≡◌, ℕ, ◌+◌, ◌<◌, List, [], ◌∷◌, Option, Some, None, refl, sym, ap, subst, arith, inl, inr}
+use Rattle.std.specs.Prelude.{is_some, Bool, true, false, cond, Result, Ok, Err, OnOk, OnErr, slice_set, count_by}
 use Rattle.std.proofs.lemmas.Bool.{false≢true}
 use Rattle.vm_base.specs.declared.frame_request.Want.TheVariants as want
 use Rattle.vm_base.specs.declared.refusals.Refused.{Refused as RefusedRequest}
-use Rattle.vm_base.specs.Deals.{Deal, Granted, Denied, Returned, LeadsAlong}
+use Rattle.vm_base.specs.Deals.{Deal, Granted, Denied}
 use Rattle.vm_base.specs.Frames.{FrameView}
 use Rattle.vm_base.specs.FlatMemory.{zero_page}
-use Rattle.kernel_meaning.specs.Leaves.{Versions, no_versions, version_at, has_pages, Kept, CellLeaves, parent_leaves, own_leaves, is_joined, is_own}
+use Rattle.kernel_meaning.specs.Leaves.{Versions, no_versions, version_at, has_pages, parent_leaves, own_leaves, is_joined, is_own}
 use Rattle.kernel_meaning.specs.CellActs.{with_parent_version}
-use Rattle.kernel_meaning.specs.CellAccount.{Touch, CellAccount}
+use Rattle.kernel_meaning.specs.CellAccount.{Touch}
 use Rattle.leaf_cell.specs.declared.snapshot.Snapshot.{Snapshot}
 use Rattle.leaf_cell.specs.declared.snapshot.SnapshotLeaf.{SnapshotLeaf}
 use Rattle.leaf_cell.specs.declared.snapshot.SnapshotLeaf.TheVariants as code
 use Rattle.leaf_cell.specs.CellView.{CellView, AreUnjoined, held_of}
-use Rattle.leaf_cell.specs.Inside.{AreInside, table_places, own_places, snapshot_places, leaf_value, kept_value, kept_values, cell_value}
+use Rattle.leaf_cell.specs.Inside.{AreInside, table_places, own_places, snapshot_places, leaf_value, kept_values, cell_value}
 use Rattle.leaf_cell.specs.Adding.{IsPut, LedByAdding}
 use Rattle.leaf_cell.specs.States.{refused_count}
-use Rattle.leaf_cell.specs.Standing.{StandsFor, TakesAccount, MadeAct}
+use Rattle.leaf_cell.specs.Standing.{TakesAccount, MadeAct}
 use Rattle.leaf_cell.proofs.NewCell.{none_is_not_some}
 use Rattle.leaf_cell.proofs.InsideFacts.{are_filled}
 use Rattle.leaf_cell.proofs.PutPage.{room, inside_put, count_put, has_pages_put}

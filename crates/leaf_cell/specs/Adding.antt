@@ -1,5 +1,5 @@
 -- What it is to add a page, or to copy one: a frame at a place that was free, and the deals of it.
-use Rattle.std.specs.Prelude.{◌≡◌, ℕ, ◌+◌, ◌⊎◌, length, Bool, true, false, List, [], ◌∷◌, Option, Some, None, Result, Ok, Err, slice_set, slice_index_or}
+use Rattle.std.specs.Prelude.{◌≡◌, ℕ, ◌⊎◌, length, Bool, true, false, List, [], ◌∷◌, Option, Some, None, Result, Ok, Err, slice_set, slice_index_or}
 use Rattle.vm_base.specs.declared.frame_request.Want.TheVariants as want
 use Rattle.vm_base.specs.declared.refusals.Refused.{Refused as RefusedRequest}
 use Rattle.vm_base.specs.Deals.{Deal, Granted, Denied, Returned, LeadsAlong}

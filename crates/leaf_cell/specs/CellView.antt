@@ -1,5 +1,5 @@
 -- A cell as its contracts see it. A page is named by the place of its frame, where the definitions name it by its version.
-use Rattle.std.specs.Prelude.{◌≡◌, ℕ, ◌+◌, false, List, [], ◌∷◌, take, drop, replicate, count_by, Option, Some, None, is_some, unwrap_or, slice_index_or}
+use Rattle.std.specs.Prelude.{◌≡◌, ℕ, ◌+◌, false, List, [], ◌∷◌, take, drop, replicate, count_by, Option, None, is_some, unwrap_or, slice_index_or}
 use Rattle.std.specs.Option.{option_map, option_and_then}
 use Rattle.vm_base.specs.Frames.{FrameView}
 use Rattle.vm_base.specs.FlatMemory.{zero_page}

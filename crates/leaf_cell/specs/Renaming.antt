@@ -1,5 +1,5 @@
 -- Two cells that are alike but for the names of versions: those that live at one moment correspond one to one, page by page.
-use Rattle.std.specs.Prelude.{◌≡◌, ℕ, ◌+◌, ◌≤◌, ◌⊎◌, false, List, [], ◌∷◌, Option, Some, None}
+use Rattle.std.specs.Prelude.{◌≡◌, ℕ, ◌+◌, ◌≤◌, ◌⊎◌, false, List, [], ◌∷◌, Some, None}
 use Rattle.kernel_meaning.specs.Leaves.{Versions, version_at, is_lost, Kept, CellLeaves}
 
 -- versions under other names, where the first of these pages has this number

@@ -1,12 +1,12 @@
 -- When a cell stands for an account, and what a call over an allot tells.
-use Rattle.std.specs.Prelude.{◌≡◌, ℕ, ◌<◌, false, List, length, Option, Some, None}
+use Rattle.std.specs.Prelude.{◌≡◌, ℕ, ◌<◌, false, List, Option, Some}
 use Rattle.std.specs.FinMap.{get}
 use Rattle.std.specs.Option.{option_and_then}
 use Rattle.vm_base.specs.Deals.{Deal, LeadsAlong}
-use Rattle.kernel_meaning.specs.Requests.{Answer, opening_requests, answers_of}
-use Rattle.kernel_meaning.specs.Leaves.{Kept, CellLeaves, version_at, is_lost, kept_by}
+use Rattle.kernel_meaning.specs.Requests.{answers_of}
+use Rattle.kernel_meaning.specs.Leaves.{Kept, is_lost, kept_by}
 use Rattle.kernel_meaning.specs.CellActs.{Course}
-use Rattle.kernel_meaning.specs.CellAccount.{CellAct, CellState, CellAccount, course_of, state_after}
+use Rattle.kernel_meaning.specs.CellAccount.{CellAct, CellAccount, course_of, state_after}
 use Rattle.leaf_cell.specs.CellView.{CellView, parent_page, kept_page}
 use Rattle.leaf_cell.specs.Renaming.{IsRenaming, AreMade}
 

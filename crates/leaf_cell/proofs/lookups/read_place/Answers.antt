@@ -1,4 +1,4 @@
-use Rattle.std.proofs.Common.{sym, ap, ◌∙◌, length, Bor, List, ℕ}
+use Rattle.std.proofs.Common.{sym, ap, ◌∙◌, length}
 use Rattle.std.specs.Option.{option_map}
 use Rattle.leaf_cell.specs.CellView.{part_of}
 use Rattle.leaf_cell.proofs.AbsentPages.{part_of-none}

@@ -1,4 +1,4 @@
-use Rattle.std.proofs.Common.{refl, inl, inr, [], ◌∷◌, subst, sym}
+use Rattle.std.proofs.Common.{refl, [], ◌∷◌, subst, sym}
 use Rattle.std.specs.Prelude.{Ok, Err, is_some}
 use Rattle.vm_base.specs.declared.frame_request.Want.TheVariants as want
 use Rattle.vm_base.specs.Deals.{Granted, Denied}

@@ -1,4 +1,4 @@
-use Rattle.std.proofs.Common.{◌≡◌, sym, subst}
+use Rattle.std.proofs.Common.{sym, subst}
 use Rattle.kernel_meaning.specs.Leaves.{no_versions}
 use Rattle.leaf_cell.specs.Inside.{table_places, snapshot_places, leaf_value}
 use Rattle.leaf_cell.specs.Releasing.{own_if, IsLeafReleased, AreHome}

@@ -1,4 +1,4 @@
-use Rattle.std.proofs.Common.{◌≡◌, ◌∙◌, sym, ap, refl, nat_eq, Some}
+use Rattle.std.proofs.Common.{◌≡◌, ◌∙◌, sym, refl, nat_eq, Some}
 use Rattle.std.specs.Prelude.{Bool, true, false, not}
 use Rattle.std.specs.Option.{option_eq}
 use Rattle.std.proofs.lemmas.Bool.{false≢true}

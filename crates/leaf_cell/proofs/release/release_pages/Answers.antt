@@ -1,4 +1,4 @@
-use Rattle.std.proofs.Common.{◌≡◌, ◌∙◌, ◌+◌, sym, ap, arith, length}
+use Rattle.std.proofs.Common.{arith}
 use Rattle.leaf_cell.specs.Inside.{table_places}
 use Rattle.leaf_cell.proofs.Releases.{releasing-more}
 use Rattle.leaf_cell.proofs.release.release_pages.Goals as goal

@@ -1,4 +1,4 @@
-use Rattle.std.proofs.Common.{◌≡◌, ◌+◌, None, length}
+use Rattle.std.proofs.Common.{◌≡◌, ◌+◌, None}
 use Rattle.std.specs.Prelude.{count_by, is_some}
 use Rattle.leaf_cell.specs.Inside.{table_places}
 use Rattle.leaf_cell.specs.Releasing.{Releasing}

@@ -1,11 +1,11 @@
-use Rattle.std.proofs.Common.{◌≡◌, ◌∙◌, ℕ, sym, subst, ap, Option, Some, None, inl, inr}
-use Rattle.std.specs.Prelude.{is_some, true, false, cond}
+use Rattle.std.proofs.Common.{◌≡◌, ◌∙◌, ℕ, sym, subst, ap, Some, None, inl, inr}
+use Rattle.std.specs.Prelude.{is_some, true, cond}
 use Rattle.std.proofs.lemmas.Bool.{cases_eq, ne_eqb, false≢true}
 use Rattle.kernel_meaning.specs.Leaves.{no_versions, kept_by}
 use Rattle.kernel_meaning.specs.CellAccount.{Drop as DropAct}
 use Rattle.leaf_cell.specs.declared.snapshot.Snapshot.{Snapshot}
 use Rattle.leaf_cell.specs.Inside.{AreInside, table_places, snapshot_places, leaf_value, kept_value, kept_values, cell_value}
-use Rattle.leaf_cell.specs.Releasing.{AreHome, own_if}
+use Rattle.leaf_cell.specs.Releasing.{own_if}
 use Rattle.leaf_cell.specs.Standing.{MadeAct}
 use Rattle.leaf_cell.proofs.InsideFacts.{page_below}
 use Rattle.leaf_cell.proofs.DropMade.{inside-dropped, made-dropped, made-unmet, without-other}

@@ -1,11 +1,11 @@
-use Rattle.std.proofs.Common.{◌≡◌, ◌∙◌, sym, subst, None, Some, ap, refl, [], ◌∷◌, ℕ}
+use Rattle.std.proofs.Common.{◌∙◌, subst, None, Some, ap, refl, [], ◌∷◌}
 use Rattle.vm_base.specs.declared.fork_mode.Mode.TheVariants as mode
 use Rattle.vm_base.specs.declared.frame_request.Want.TheVariants as want
 use Rattle.vm_base.specs.Deals.{Granted, Denied}
 use Rattle.kernel_meaning.specs.CellAccount.{Fork, CellAccount}
 use Rattle.leaf_cell.specs.CellView.{CellView}
 use Rattle.leaf_cell.specs.Inside.{cell_value}
-use Rattle.leaf_cell.specs.Standing.{MadeAct, StandsFor, TakesAccount}
+use Rattle.leaf_cell.specs.Standing.{StandsFor, TakesAccount}
 use Rattle.leaf_cell.proofs.ForkMade.{inside-forked, forked-view, fork-granted, fork-denied}
 use Rattle.leaf_cell.proofs.cell.Cell.fork_eager.Goals as goal
 

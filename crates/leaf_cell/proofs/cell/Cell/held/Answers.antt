@@ -1,7 +1,6 @@
-use Rattle.std.proofs.Common.{◌≡◌, ◌∙◌, ◌+◌, ℕ, ap, sym, arith}
-use Rattle.std.specs.Prelude.{count_by, is_some, cond}
-use Rattle.kernel_meaning.specs.Leaves.{share, is_own, no_versions}
-use Rattle.leaf_cell.specs.Inside.{kept_values}
+use Rattle.std.proofs.Common.{◌≡◌, ◌∙◌, ◌+◌, ap}
+use Rattle.std.specs.Prelude.{count_by, is_some}
+use Rattle.kernel_meaning.specs.Leaves.{share}
 use Rattle.leaf_cell.proofs.HeldShare.{held-share, share-stands}
 use Rattle.leaf_cell.proofs.cell.Cell.held.Goals as goal
 

@@ -1,4 +1,4 @@
-use Rattle.std.proofs.Common.{◌≡◌, ◌∙◌, sym, subst, None, Some, ap, [], ℕ}
+use Rattle.std.proofs.Common.{◌∙◌, sym, subst, None, ap, []}
 use Rattle.kernel_meaning.specs.Leaves.{version_at}
 use Rattle.kernel_meaning.specs.CellAccount.{Store, CellAccount}
 use Rattle.leaf_cell.specs.CellView.{CellView}

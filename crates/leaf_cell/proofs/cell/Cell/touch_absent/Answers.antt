@@ -1,4 +1,4 @@
-use Rattle.std.proofs.Common.{◌≡◌, ◌∙◌, ◌+◌, sym, subst, None, ap}
+use Rattle.std.proofs.Common.{◌∙◌, ◌+◌, sym, subst, ap}
 use Rattle.kernel_meaning.specs.Leaves.{version_at}
 use Rattle.kernel_meaning.specs.CellAccount.{Touch}
 use Rattle.leaf_cell.specs.CellView.{AreUnjoined, held_of}

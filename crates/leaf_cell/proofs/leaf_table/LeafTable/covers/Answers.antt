@@ -1,4 +1,4 @@
-use Rattle.std.proofs.Common.{sym, ap, ◌∙◌, ◌≡◌, ◌+◌, ◌-◌, ◌<◌, arith}
+use Rattle.std.proofs.Common.{sym, ap, ◌∙◌, ◌≡◌, ◌+◌, ◌-◌, arith}
 use Rattle.std.specs.Prelude.{is_some}
 use Rattle.kernel_meaning.specs.Leaves.{version_at, has_present}
 use Rattle.leaf_cell.proofs.AbsentPages.{has_present-there, has_present-none}

@@ -1,4 +1,4 @@
-use Rattle.std.proofs.Common.{◌∙◌, ap, sym}
+use Rattle.std.proofs.Common.{◌∙◌, ap}
 use Rattle.std.specs.Prelude.{slice_set, Some}
 use Rattle.leaf_cell.specs.Places.{places_of}
 use Rattle.leaf_cell.proofs.TableWords.{places_of-with_word, place_in-entry}
