@@ -1,0 +1,119 @@
+-- What an eager fork made.
+use Rattle.std.proofs.Common.{◌≡◌, ℕ, ◌+◌, ◌<◌, List, [], ◌∷◌, length, Option, Some, None, refl, sym, ◌∙◌, ap, subst, arith, inl, inr}
+use Rattle.std.specs.Prelude.{is_some, Bool, true, false, cond, unwrap_or, ◌==◌}
+use Rattle.std.specs.Option.{option_and_then}
+use Rattle.std.specs.FinMap.{get, insert}
+use Rattle.std.proofs.lemmas.Bool.{cases_eq, ne_eqb, false≢true}
+use Rattle.vm_base.specs.declared.fork_mode.Mode.TheVariants.{Eager}
+use Rattle.vm_base.specs.declared.frame_request.Want.TheVariants as want
+use Rattle.vm_base.specs.Deals.{Granted, Denied}
+use Rattle.vm_base.specs.Frames.{FrameView}
+use Rattle.vm_base.proofs.NumberedMaps.{get_inserted_here}
+use Rattle.kernel_meaning.specs.Leaves.{Versions, no_versions, version_at, Own, Kept, CellLeaves, kept_by, with_kept}
+use Rattle.kernel_meaning.specs.CellAccount.{Fork, CellAccount}
+use Rattle.leaf_cell.specs.declared.snapshot.Snapshot.{Snapshot}
+use Rattle.leaf_cell.specs.declared.snapshot.SnapshotLeaf.TheVariants as code
+use Rattle.leaf_cell.specs.CellView.{CellView, kept_page}
+use Rattle.leaf_cell.specs.Inside.{AreInside, table_places, own_places, kept_value, kept_values, cell_value}
+use Rattle.leaf_cell.specs.Renaming.{AreKeptAlike, IsLive, IsRenaming}
+use Rattle.leaf_cell.specs.Standing.{StandsFor, TakesAccount}
+use Rattle.leaf_cell.proofs.NewCell.{none_is_not_some}
+use Rattle.leaf_cell.proofs.AbsentPages.{version_at-none}
+use Rattle.leaf_cell.proofs.Renamed.{eqb-refl}
+use Rattle.leaf_cell.proofs.TouchActs.{stands-made}
+
+-- no snapshot on one side, none on the other
+alike-none : (name : ℕ → ℕ → ℕ) (meant : List Kept) → AreKeptAlike name [] meant → meant ≡ []
+alike-none name [] alike = refl
+alike-none name (it ∷ others) alike = absurd alike
+
+not_nil : (it : Kept) (others : List Kept) → ((it ∷ others) ≡ []) → ⊥
+not_nil it others e = absurd (false≢true (ap is_nil (sym (sym e))))
+  where
+    is_nil : List Kept → Bool
+    is_nil [] = true
+    is_nil (x ∷ xs) = false
+
+-- the snapshot of an eager fork
+abbrev pub fork_of : ℕ → Versions → Kept
+fork_of n places = record { number = n; mode = Eager; versions = places; leaf = Own }
+
+module _ (view : CellView) (account : CellAccount) (stands : StandsFor view account) (n : ℕ) (alone : view.leaves.kept ≡ []) where
+  none_meant : account.state.leaves.kept ≡ []
+  none_meant = alike-none stands.name account.state.leaves.kept (subst (λ kept. AreKeptAlike stands.name kept account.state.leaves.kept) alone stands.leaves.kept)
+
+  abbrev view_forked : CellView
+  view_forked = record view { leaves = record view.leaves { kept = fork_of n view.leaves.parent ∷ [] } }
+
+  meant_kept : with_kept (fork_of n account.state.leaves.parent) account.state.leaves.kept ≡ fork_of n account.state.leaves.parent ∷ []
+  meant_kept = ap (with_kept (fork_of n account.state.leaves.parent)) none_meant
+
+  abbrev leaves_then : CellLeaves
+  leaves_then = record account.state.leaves { kept = fork_of n account.state.leaves.parent ∷ [] }
+
+  -- nothing lives that did not
+  lived : (page version : ℕ) → IsLive leaves_then page version → IsLive account.state.leaves page version
+  lived page version (inl there) = inl there
+  lived page version (inr (inl named)) = inl named.1
+  lived page version (inr (inr named)) = absurd named
+
+  renaming : IsRenaming stands.name view_forked.leaves leaves_then
+  renaming = record {
+    parent = stands.leaves.parent;
+    kept = (record { number = refl; mode = refl; leaf = refl; versions = λ unlost. stands.leaves.parent }, tt);
+    apart = λ page a b la lb. stands.leaves.apart page a b (lived page a la) (lived page b lb);
+  }
+
+  -- the one snapshot is that of the fork
+  forked_one : (number page : ℕ) (kept : Kept) → kept_by (fork_of n view.leaves.parent ∷ []) number ≡ Some kept → page < 512
+      → kept_page view_forked kept page ≡ option_and_then (λ pages. get pages page) (get (insert account.state.snapshots n account.state.pages) number)
+  forked_one number page kept found small = elim (cases_eq n number) [
+    | inl same ↦
+        let one : fork_of n view.leaves.parent ≡ kept = ap (λ o. unwrap_or o (fork_of n view.leaves.parent)) (sym (ap (λ b. cond b (Some (fork_of n view.leaves.parent)) None) (ap (λ x. n == x) (sym same) ∙ eqb-refl n)) ∙ found) in
+        ap (λ k. kept_page view_forked k page) (sym one) ∙ stands.pages page small
+        ∙ sym (ap (option_and_then (λ pages. get pages page)) (get_inserted_here account.state.snapshots n account.state.pages number (sym same)))
+    | inr apart ↦ absurd (false≢true (ap is_some (sym (ap (λ b. cond b (Some (fork_of n view.leaves.parent)) None) (ne_eqb n number apart)) ∙ found)))
+  ]
+
+  stands_forked : StandsFor view_forked (record {
+    state = record { leaves = record account.state.leaves { kept = with_kept (fork_of n account.state.leaves.parent) account.state.leaves.kept }; pages = account.state.pages; snapshots = insert account.state.snapshots n account.state.pages };
+    made = account.made + 1;
+  })
+  stands_forked = record {
+    name = stands.name;
+    leaves = subst (λ kept. IsRenaming stands.name view_forked.leaves (record account.state.leaves { kept = kept })) (sym meant_kept) renaming;
+    made = λ page version live. omega (arith, stands.made page version (lived page version (subst (λ kept. IsLive (record account.state.leaves { kept = kept }) page version) meant_kept live)));
+    pages = stands.pages;
+    snapshots = λ number page kept found unlost small. forked_one number page kept found small;
+  }
+
+  pub fork-granted : (seat : ℕ) → TakesAccount (Fork n Eager seat) view view_forked (Granted want.Leaf ∷ []) None account
+  fork-granted seat = record { stands = stands_forked; asked = refl; ended = refl }
+
+  pub fork-denied : (seat at : ℕ) → TakesAccount (Fork n Eager seat) view view (Denied want.Leaf at ∷ []) (Some at) account
+  fork-denied seat at = record { stands = stands-made view account (account.made + 1) stands (omega arith); asked = refl; ended = refl }
+
+-- the order of the cell afterwards
+pub inside-forked : (parent : Option Versions) (snapshot : Option Snapshot) (frames : List (Option FrameView)) (it : Snapshot) → AreInside parent snapshot frames
+    → kept_values (table_places parent) snapshot ≡ [] → it.leaf ≡ code.Own (table_places parent) → AreInside parent (Some it) frames
+inside-forked parent (Some other) frames it inside alone leaf = absurd (not_nil (kept_value (table_places parent) other) [] alone)
+inside-forked parent None frames it inside alone leaf =
+    let own : own_places (Some it) ≡ table_places parent = ap (λ l. own_places (Some (record it { leaf = l }))) leaf in
+    record {
+      room = inside.room;
+      parent_home = inside.parent_home;
+      own_home = λ page place small named. inside.parent_home page place small (ap (λ vs. version_at vs page) (sym own) ∙ named);
+      named = λ page place small home there. elim (inside.named page place small home there) [
+        | inl named ↦ inl named
+        | inr named ↦ none_is_not_some (version_at no_versions page) place (version_at-none page) named
+      ];
+      used = inside.used;
+      parent_size = inside.parent_size;
+      own_size = ap length own ∙ inside.parent_size;
+    }
+
+-- a forked cell as contracts see it
+pub forked-view : (parent : Option Versions) (snapshot : Option Snapshot) (frames : List (Option FrameView)) (it : Snapshot) (n : ℕ)
+    → it.number ≡ n → it.mode ≡ Eager → it.leaf ≡ code.Own (table_places parent)
+    → record (cell_value parent snapshot frames) { leaves = record (cell_value parent snapshot frames).leaves { kept = fork_of n (table_places parent) ∷ [] } } ≡ cell_value parent (Some it) frames
+forked-view parent snapshot frames it n number mode leaf = λ i. cell_value parent (Some (record { number = sym number i; mode = sym mode i; leaf = sym leaf i })) frames

@@ -1,0 +1,126 @@
+-- Frames given back page after page.
+use Rattle.std.proofs.Common.{◌≡◌, ℕ, zero, suc, ◌+◌, ◌<◌, List, [], ◌∷◌, ◌++◌, length, replicate, Option, Some, None, refl, sym, ◌∙◌, ap, subst, arith, inl, inr, ◌⊎◌}
+use Rattle.std.specs.Prelude.{slice_set, slice_index_or}
+use Rattle.std.proofs.lemmas.Bool.{cases_eq, cases_lt}
+use Rattle.std.proofs.lemmas.List.{get_or-set_same, get_or-set_other, length-set}
+use Rattle.vm_base.specs.Deals.{Deal, Returned, LeadsAlong}
+use Rattle.vm_base.specs.Frames.{FrameView}
+use Rattle.vm_base.proofs.DealLemmas.{LeadsAlong-append}
+use Rattle.kernel_meaning.specs.Leaves.{Versions, version_at}
+use Rattle.leaf_cell.specs.Releasing.{AreHome, Releasing, IsReleased, IsLeafReleased}
+use Rattle.leaf_cell.proofs.NewCell.{none_is_not_some}
+use Rattle.leaf_cell.proofs.PutPage.{one_page, place_room}
+
+pub replicate-both : {X : Type 0} (x : X) (a b : ℕ) → replicate a x ++ replicate b x ≡ replicate (a + b) x
+replicate-both x zero b = ap (λ n. replicate n x) zero-sum
+  where
+    zero-sum : b ≡ zero + b
+    zero-sum = omega arith
+replicate-both x (suc a) b = ap (λ xs. x ∷ xs) (replicate-both x a b) ∙ ap (λ n. replicate n x) next
+  where
+    next : suc (a + b) ≡ suc a + b
+    next = omega arith
+
+-- no page was looked at
+pub releasing-none : {State : Type 0} (goes : State → Deal → State → Type 0) (state : State) (own other : Versions) (frames : List (Option FrameView)) → Releasing goes state state own other frames frames 0
+releasing-none goes state own other frames = record {
+  count = 0;
+  led = refl;
+  taken = omega arith;
+  room = refl;
+  each = λ place. inl refl;
+  kept = λ page place named. refl;
+  gone = λ page place small. absurd (omega (arith, small));
+}
+
+module _ {State : Type 0} (goes : State → Deal → State → Type 0) (from middle to : State) (own other : Versions) (old now new : List (Option FrameView)) (page : ℕ)
+    (small : page < 512) (size : length old ≡ 1024) (home : AreHome own) (home_too : AreHome other)
+    (before : Releasing goes from middle own other old now page) (step : IsReleased goes middle to own other now new page) where
+  -- a place is as it was before this page, or is given back by it
+  at_step : (q : ℕ) → (slice_index_or new q None ≡ slice_index_or now q None) ⊎ ((q ≡ step.place) × (slice_index_or new q None ≡ None) × (version_at own page ≡ Some q) × (version_at other page ≡ Some q → ⊥))
+  at_step q = elim step.frames [
+    | inl same ↦ inl (ap (λ fs. slice_index_or fs q None) same)
+    | inr set ↦ elim (cases_eq q step.place) [
+      | inl here ↦
+          let room : step.place < length now = omega (arith, size, before.room, place_room page step.place small (home page step.place set.1).1) in
+          inr (
+            here,
+            ap (λ fs. slice_index_or fs q None) set.0 ∙ ap (λ i. slice_index_or (slice_set now step.place None) i None) here ∙ get_or-set_same now step.place None None room,
+            set.1 ∙ ap Some (sym here),
+            λ named. set.2 (named ∙ ap Some here),
+          )
+      | inr apart ↦ inl (ap (λ fs. slice_index_or fs q None) set.0 ∙ get_or-set_other now step.place q None None apart)
+    ]
+  ]
+
+  pub releasing-more : Releasing goes from to own other old new (page + 1)
+  releasing-more = record {
+    count = before.count + step.number;
+    led = subst (λ deals. LeadsAlong goes from deals to) (replicate-both Returned before.count step.number)
+        (LeadsAlong-append goes (replicate before.count Returned) (replicate step.number Returned) from middle to before.led step.led);
+    taken = omega (arith, before.taken, step.taken);
+    room = new_room ∙ before.room;
+    each = λ q. elim (at_step q) [
+      | inl same ↦ elim (before.each q) [ inl e ↦ inl (same ∙ e) | inr e ↦ inr (same ∙ e) ]
+      | inr set ↦ inr set.1
+    ];
+    kept = λ p q named. elim (at_step q) [
+      | inl same ↦ same ∙ before.kept p q named
+      | inr set ↦ absurd (set.3 (subst (λ i. version_at other i ≡ Some q) (one_page p page q (home_too p q named).0 small (home_too p q named).1 (home page q set.2).1) named))
+    ];
+    gone = λ p q below named unnamed. elim (cases_lt p page) [
+      | inl earlier ↦ elim (at_step q) [
+        | inl same ↦ same ∙ before.gone p q earlier named unnamed
+        | inr set ↦ set.1
+      ]
+      | inr here ↦
+          let is : p ≡ page = omega (arith, below, here) in
+          let own_here : version_at own page ≡ Some q = ap (version_at own) (sym is) ∙ named in
+          let room : q < length now = omega (arith, size, before.room, place_room page q small (home page q own_here).1) in
+          ap (λ fs. slice_index_or fs q None) (step.gone q own_here (λ o. unnamed (ap (version_at other) is ∙ o))) ∙ get_or-set_same now q None None room
+    ];
+  }
+    where
+      new_room : length new ≡ length now
+      new_room = elim step.frames [
+        | inl same ↦ ap length same
+        | inr set ↦ ap length set.0 ∙ length-set now step.place None
+      ]
+
+-- the other table names the same place: nothing is given back
+pub not-released : {State : Type 0} (goes : State → Deal → State → Type 0) (state : State) (own other : Versions) (frames : List (Option FrameView)) (page place : ℕ)
+    → version_at own page ≡ Some place → version_at other page ≡ Some place → IsReleased goes state state own other frames frames page
+not-released goes state own other frames page place named named_too = record {
+  place = place;
+  number = 0;
+  led = refl;
+  taken = omega arith;
+  frames = inl refl;
+  gone = λ q own_q unnamed. absurd (unnamed (named_too ∙ sym named ∙ own_q));
+}
+
+-- the pages of a table, and then the table itself
+pub leaf-released : {State : Type 0} (goes : State → Deal → State → Type 0) (from middle to : State) (own other : Versions) (old new : List (Option FrameView)) → AreHome own
+    → Releasing goes from middle own other old new 512 → goes middle Returned to → IsLeafReleased goes from to own other 1 old new
+leaf-released goes from middle to own other old new home pages table = record {
+  count = pages.count + 1;
+  led = subst (λ deals. LeadsAlong goes from deals to) (replicate-both Returned pages.count 1)
+      (LeadsAlong-append goes (replicate pages.count Returned) (Returned ∷ []) from middle to pages.led (to, (table, refl)));
+  taken = omega (arith, pages.taken);
+  room = pages.room;
+  each = pages.each;
+  kept = pages.kept;
+  gone = λ page place named unnamed. pages.gone page place (home page place named).0 named unnamed;
+}
+
+-- a leaf without a table
+pub leaf-kept : {State : Type 0} (goes : State → Deal → State → Type 0) (state : State) (own other : Versions) (frames : List (Option FrameView)) → ((page : ℕ) → version_at own page ≡ None) → IsLeafReleased goes state state own other 0 frames frames
+leaf-kept goes state own other frames none = record {
+  count = 0;
+  led = refl;
+  taken = omega arith;
+  room = refl;
+  each = λ place. inl refl;
+  kept = λ page place named. refl;
+  gone = λ page place named. none_is_not_some (version_at own page) place (none page) named;
+}

@@ -1,0 +1,115 @@
+-- The words of a table, and the places that they hold.
+use Rattle.std.proofs.Common.{◌≡◌, ◌≢◌, ℕ, zero, suc, ◌+◌, ◌-◌, ◌*◌, ◌^◌, ◌<◌, ◌≤◌, List, [], ◌++◌, length, take, drop, get_or, Option, Some, None, refl, sym, ◌∙◌, ap, arith, inl, inr, append_assoc}
+use Rattle.std.specs.Prelude.{slice_set, slice_index, cond}
+use Rattle.std.proofs.Math.ListN.{get_or-append}
+use Rattle.std.proofs.Math.Seq.{get_or-append_right, drop-append_seam}
+use Rattle.std.proofs.lemmas.Bool.{cases_eq, cases_lt, ne_eqb}
+use Rattle.std.proofs.lemmas.List.{length-take-le, length-set, get_or-set_same, get_or-set_other, get_or-replicate, length-replicate, get_or-take, get_or-drop, get_or_past}
+use Rattle.std.proofs.lemmas.List.FromFn.{length-map-range_with_len, get_or-map-range_with_len, fill_by_all}
+use Rattle.byteorder.specs.Endian.{little_from, little_number, little_bytes}
+use Rattle.byteorder.specs.Numbers.{little_number-reads_back, length-bytes_low_first}
+use Rattle.vm_base.specs.Entries.{entry_of, number_of}
+use Rattle.vm_base.specs.FlatMemory.{spliced, zero_page}
+use Rattle.kernel_meaning.specs.Leaves.{no_versions, version_at}
+use Rattle.leaf_cell.specs.Places.{word_at, with_word, place_in, places_of}
+
+-- a number depends on its bytes alone
+little_from-same : (xs ys : List ℕ) (i n : ℕ) → ((j : ℕ) → i ≤ j → j < i + n → slice_index xs j ≡ slice_index ys j) → little_from i n xs ≡ little_from i n ys
+little_from-same xs ys i zero same = refl
+little_from-same xs ys i (suc n) same =
+    let first : slice_index xs i ≡ slice_index ys i = same i (omega arith) (omega arith) in
+    let rest : little_from (suc i) n xs ≡ little_from (suc i) n ys = little_from-same xs ys (suc i) n (λ j above below. same j (omega arith) (omega arith)) in
+    ap (λ b. b + 256 * little_from (suc i) n xs) first ∙ ap (λ r. slice_index ys i + 256 * r) rest
+
+module _ (bytes : List ℕ) (at : ℕ) (new : List ℕ) (fits : at + length new ≤ length bytes) where
+  -- where the front of a spliced list ends
+  front : length (take at bytes) ≡ at
+  front = length-take-le at bytes (omega arith)
+
+  parts : spliced bytes at new ≡ take at bytes ++ (new ++ drop (at + length new) bytes)
+  parts = append_assoc (take at bytes) new (drop (at + length new) bytes)
+
+  drop-front : drop at (spliced bytes at new) ≡ new ++ drop (at + length new) bytes
+  drop-front = ap (λ n. drop n (spliced bytes at new)) (sym front) ∙ ap (drop (length (take at bytes))) parts ∙ drop-append_seam (take at bytes) (new ++ drop (at + length new) bytes)
+
+  spliced-below : (k : ℕ) → k < at → slice_index (spliced bytes at new) k ≡ slice_index bytes k
+  spliced-below k below =
+      let small : k < length (take at bytes) = omega (arith, front) in
+      ap (λ xs. slice_index xs k) parts ∙ get_or-append (take at bytes) (new ++ drop (at + length new) bytes) 0 k small ∙ get_or-take at bytes k 0 below
+
+  spliced-above : (k : ℕ) → at + length new ≤ k → slice_index (spliced bytes at new) k ≡ slice_index bytes k
+  spliced-above k above =
+      let far : length (take at bytes) ≤ k = omega (arith, front) in
+      let far_too : length new ≤ k - length (take at bytes) = omega (arith, front) in
+      let place : at + length new + (k - length (take at bytes) - length new) ≡ k = omega (arith, front) in
+      ap (λ xs. slice_index xs k) parts ∙ get_or-append_right (take at bytes) (new ++ drop (at + length new) bytes) k 0 far
+      ∙ get_or-append_right new (drop (at + length new) bytes) (k - length (take at bytes)) 0 far_too
+      ∙ get_or-drop (at + length new) bytes (k - length (take at bytes) - length new) 0
+      ∙ ap (λ i. get_or bytes i 0) place
+
+-- the word that was put is there
+word_at-here : (bytes : List ℕ) (i word : ℕ) → length bytes ≡ 4096 → i < 512 → word < 2 ^ 64 → word_at (with_word bytes i word) i ≡ word
+word_at-here bytes i word whole small fits =
+    let size : length (little_bytes 8 word) ≡ 8 = length-bytes_low_first 0 8 word in
+    let room : 8 * i + length (little_bytes 8 word) ≤ length bytes = omega (arith, size) in
+    ap (little_number 8) (drop-front bytes (8 * i) (little_bytes 8 word) room)
+    ∙ little_number-reads_back 8 word (drop (8 * i + length (little_bytes 8 word)) bytes) fits
+
+-- and no other word has changed
+word_at-apart : (bytes : List ℕ) (i word k : ℕ) → length bytes ≡ 4096 → i < 512 → k < 512 → k ≢ i → word_at (with_word bytes i word) k ≡ word_at bytes k
+word_at-apart bytes i word k whole small small_too apart =
+    let size : length (little_bytes 8 word) ≡ 8 = length-bytes_low_first 0 8 word in
+    let room : 8 * i + length (little_bytes 8 word) ≤ length bytes = omega (arith, size) in
+    little_from-same (drop (8 * k) (with_word bytes i word)) (drop (8 * k) bytes) 0 8 (λ j above below.
+    get_or-drop (8 * k) (with_word bytes i word) j 0
+    ∙ elim (cases_lt k i) [
+      | inl less ↦ spliced-below bytes (8 * i) (little_bytes 8 word) room (8 * k + j) (omega arith)
+      | inr more ↦ spliced-above bytes (8 * i) (little_bytes 8 word) room (8 * k + j) (omega (arith, size, apart))
+    ]
+    ∙ sym (get_or-drop (8 * k) bytes j 0))
+
+-- the place of a page that a table holds
+pub version_at-places_of : (bytes : List ℕ) (page : ℕ) → page < 512 → version_at (places_of bytes) page ≡ place_in (word_at bytes page)
+unfolding places_of
+version_at-places_of bytes page small = get_or-map-range_with_len (λ i. place_in (word_at bytes i)) 0 512 page page None small (omega arith)
+
+pub length-places_of : (bytes : List ℕ) → length (places_of bytes) ≡ 512
+unfolding places_of
+length-places_of bytes = length-map-range_with_len (λ i. place_in (word_at bytes i)) 0 512
+
+-- a list that holds the places of a table, page by page, is that of the table
+filled : (bytes : List ℕ) (places : List (Option ℕ)) → length places ≡ 512 → ((page : ℕ) → page < 512 → get_or places page None ≡ place_in (word_at bytes page)) → places ≡ places_of bytes
+unfolding places_of
+filled bytes places size each = fill_by_all (λ i. place_in (word_at bytes i)) places 512 None size each
+
+-- a word that was put changes the place of its page alone
+pub places_of-with_word : (bytes : List ℕ) (page word : ℕ) → length bytes ≡ 4096 → page < 512 → word < 2 ^ 64 → places_of (with_word bytes page word) ≡ slice_set (places_of bytes) page (place_in word)
+places_of-with_word bytes page word whole small fits = sym (filled (with_word bytes page word) (slice_set (places_of bytes) page (place_in word))
+    (length-set (places_of bytes) page (place_in word) ∙ length-places_of bytes)
+    (λ k below. elim (cases_eq k page) [
+      | inl here ↦ ap (λ i. get_or (slice_set (places_of bytes) page (place_in word)) i None) here
+          ∙ get_or-set_same (places_of bytes) page (place_in word) None (rw (length-places_of bytes) small)
+          ∙ sym (ap (λ i. place_in (word_at (with_word bytes page word) i)) here ∙ ap place_in (word_at-here bytes page word whole small fits))
+      | inr apart ↦ get_or-set_other (places_of bytes) page k (place_in word) None apart
+          ∙ version_at-places_of bytes k below
+          ∙ sym (ap place_in (word_at-apart bytes page word k whole small below apart))
+    ]))
+
+-- zeros hold no place
+zero_byte : (i : ℕ) → slice_index zero_page i ≡ 0
+zero_byte i = elim (cases_lt i 4096) [
+  | inl small ↦ get_or-replicate 4096 i 0 0 small
+  | inr large ↦ get_or_past zero_page i 0 large
+]
+
+zero_word : (i : ℕ) → word_at zero_page i ≡ 0
+zero_word i = little_from-same (drop (8 * i) zero_page) [] 0 8 (λ j above below. get_or-drop (8 * i) zero_page j 0 ∙ zero_byte (8 * i + j))
+
+pub places_of-zeros : places_of zero_page ≡ no_versions
+places_of-zeros = sym (filled zero_page no_versions (length-replicate {A = Option ℕ} 512 None) (λ page small. get_or-replicate 512 page None None small ∙ sym (ap place_in (zero_word page))))
+
+-- the entry of a place is not 0, and holds the place
+pub place_in-entry : (word place : ℕ) → word ≡ entry_of place 1 → number_of word ≡ place → place_in word ≡ Some place
+place_in-entry word place is number =
+    let not_zero : word ≡ 0 → ⊥ = λ zero. absurd (omega (arith, is, zero)) in
+    ap (λ b. cond b None (Some (number_of word))) (ne_eqb word 0 not_zero) ∙ ap Some number

@@ -1,0 +1,55 @@
+use Rattle.std.proofs.Common.{◌≡◌, ◌∙◌, ℕ, sym, subst, ap, Some, None, inl, inr}
+use Rattle.std.specs.Prelude.{is_some, true, cond}
+use Rattle.std.proofs.lemmas.Bool.{cases_eq, ne_eqb, false≢true}
+use Rattle.kernel_meaning.specs.Leaves.{no_versions, kept_by}
+use Rattle.kernel_meaning.specs.CellAccount.{Drop as DropAct}
+use Rattle.leaf_cell.specs.declared.snapshot.Snapshot.{Snapshot}
+use Rattle.leaf_cell.specs.Inside.{AreInside, table_places, snapshot_places, leaf_value, kept_value, kept_values, cell_value}
+use Rattle.leaf_cell.specs.Releasing.{own_if}
+use Rattle.leaf_cell.specs.Standing.{MadeAct}
+use Rattle.leaf_cell.proofs.InsideFacts.{page_below}
+use Rattle.leaf_cell.proofs.DropMade.{inside-dropped, made-dropped, made-unmet, without-other}
+use Rattle.leaf_cell.proofs.cell.Cell.drop_snap.Goals as goal
+
+-- the snapshot that is found has the number that was looked for
+number-of : (it : Snapshot) (n : ℕ) → is_some (kept_by (kept_values no_versions (Some it)) n) ≡ true → it.number ≡ n
+number-of it n found = elim (cases_eq it.number n) [
+  | inl same ↦ same
+  | inr apart ↦ absurd (false≢true (sym (ap (λ b. is_some (cond b (Some (kept_value no_versions it)) None)) (ne_eqb it.number n apart)) ∙ found))
+]
+
+pub release_leaf-requires-clause-home : goal.release_leaf-requires-clause-home
+release_leaf-requires-clause-home g c =
+    let inside : AreInside c.self.inside.parent (Some c.in-Some.snapshot) c.self.inside.frames.items = subst (λ it. AreInside c.self.inside.parent it c.self.inside.frames.items) (sym c.take.ensures.value ∙ c.in-Some.is) c.self.invariant in
+    λ page place named. (page_below (snapshot_places no_versions c.in-Some.snapshot.leaf) page place inside.own_size named, (inside.own_home page place (page_below (snapshot_places no_versions c.in-Some.snapshot.leaf) page place inside.own_size named) named).0)
+
+pub release_leaf-requires-clause-others : goal.release_leaf-requires-clause-others
+release_leaf-requires-clause-others g c = λ page place named.
+    (page_below (table_places c.self.inside.parent) page place c.self.invariant.parent_size named, (c.self.invariant.parent_home page place (page_below (table_places c.self.inside.parent) page place c.self.invariant.parent_size named) named).0)
+
+pub invariant_of-self : goal.invariant_of-self
+invariant_of-self g c =
+    let inside : AreInside c.self.inside.parent (Some c.in-Some.snapshot) c.self.inside.frames.items = subst (λ it. AreInside c.self.inside.parent it c.self.inside.frames.items) (sym c.take.ensures.value ∙ c.in-Some.is) c.self.invariant in
+    subst (λ it. AreInside c.self.inside.parent it c.release_leaf.new.frames.items) (sym c.take.ensures.after)
+    (inside-dropped g.A.Allot.goes (g.A.Allot.state c.args.allot.now) (g.A.Allot.state c.release_leaf.new.allot) c.self.inside.parent c.in-Some.snapshot c.self.inside.frames.items c.release_leaf.new.frames.items
+    (own_if (leaf_value c.in-Some.snapshot.leaf)) inside c.release_leaf.ensures.released)
+
+pub returns-in-Some-clause-made : goal.returns-in-Some-clause-made
+returns-in-Some-clause-made g c =
+    let there : c.self.inside.snapshot ≡ Some c.in-Some.snapshot = sym c.take.ensures.value ∙ c.in-Some.is in
+    let inside : AreInside c.self.inside.parent (Some c.in-Some.snapshot) c.self.inside.frames.items = subst (λ it. AreInside c.self.inside.parent it c.self.inside.frames.items) there c.self.invariant in
+    let number : c.in-Some.snapshot.number ≡ c.args.number = number-of c.in-Some.snapshot c.args.number
+    (ap (λ it. is_some (kept_by (kept_values no_versions it) c.args.number)) (sym there) ∙ sym c.is_snapshot.ensures ∙ c.if-is_snapshot.true) in
+    subst (λ view. MadeAct g.A.Allot.goes (g.A.Allot.state c.args.allot.now) (g.A.Allot.state c.release_leaf.new.allot) (DropAct c.args.number) view
+    (cell_value c.self.inside.parent c.take.new.self c.release_leaf.new.frames.items) None)
+    (ap (λ it. cell_value c.self.inside.parent it c.self.inside.frames.items) (sym there) ∙ c.self.view_is)
+    (subst (λ it. MadeAct g.A.Allot.goes (g.A.Allot.state c.args.allot.now) (g.A.Allot.state c.release_leaf.new.allot) (DropAct c.args.number)
+    (cell_value c.self.inside.parent (Some c.in-Some.snapshot) c.self.inside.frames.items) (cell_value c.self.inside.parent it c.release_leaf.new.frames.items) None) (sym c.take.ensures.after)
+    (made-dropped g.A.Allot.goes (g.A.Allot.state c.args.allot.now) (g.A.Allot.state c.release_leaf.new.allot) c.self.inside.parent c.in-Some.snapshot c.self.inside.frames.items c.release_leaf.new.frames.items c.args.number
+    inside number c.release_leaf.ensures.released))
+
+pub returns-else-is_snapshot-clause-made : goal.returns-else-is_snapshot-clause-made
+returns-else-is_snapshot-clause-made g c =
+    subst (λ view. MadeAct g.A.Allot.goes (g.A.Allot.state c.args.allot.now) (g.A.Allot.state c.args.allot.now) (DropAct c.args.number) view view None) c.self.view_is
+    (made-unmet g.A.Allot.goes (g.A.Allot.state c.args.allot.now) (cell_value c.self.inside.parent c.self.inside.snapshot c.self.inside.frames.items) c.args.number
+    (without-other c.self.inside.parent c.self.inside.snapshot c.self.inside.frames.items c.args.number (sym c.is_snapshot.ensures ∙ c.if-is_snapshot.false)))

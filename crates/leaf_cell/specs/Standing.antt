@@ -1,0 +1,43 @@
+-- When a cell stands for an account, and what a call over an allot tells.
+use Rattle.std.specs.Prelude.{◌≡◌, ℕ, ◌<◌, false, List, Option, Some}
+use Rattle.std.specs.FinMap.{get}
+use Rattle.std.specs.Option.{option_and_then}
+use Rattle.vm_base.specs.Deals.{Deal, LeadsAlong}
+use Rattle.kernel_meaning.specs.Requests.{answers_of}
+use Rattle.kernel_meaning.specs.Leaves.{Kept, is_lost, kept_by}
+use Rattle.kernel_meaning.specs.CellActs.{Course}
+use Rattle.kernel_meaning.specs.CellAccount.{CellAct, CellAccount, course_of, state_after}
+use Rattle.leaf_cell.specs.CellView.{CellView, parent_page, kept_page}
+use Rattle.leaf_cell.specs.Renaming.{IsRenaming, AreMade}
+
+-- the cell has the leaves of the account under other names, and the bytes of both sides, but for snapshots that have lost it
+pub record StandsFor (view : CellView) (account : CellAccount) : Type 0 where
+  pub name : ℕ → ℕ → ℕ
+  pub leaves : IsRenaming name view.leaves account.state.leaves
+  pub made : AreMade account.made account.state.leaves
+  pub pages : (page : ℕ) → page < 512 → parent_page view page ≡ get account.state.pages page
+  pub snapshots : (n page : ℕ) (kept : Kept) → kept_by view.leaves.kept n ≡ Some kept → is_lost kept.leaf ≡ false → page < 512
+      → kept_page view kept page ≡ option_and_then (λ pages. get pages page) (get account.state.snapshots n)
+
+-- what an act on an account ran, behind its requests and with these deals' answers
+abbrev pub course_behind : CellAct → CellAccount → List Deal → Course
+course_behind act account deals = course_of act account.state account.made (answers_of deals)
+
+-- the account after that
+abbrev pub account_behind_act : CellAct → CellAccount → List Deal → CellAccount
+account_behind_act act account deals = record {
+  state = state_after act (course_behind act account deals) account.state;
+  made = (course_behind act account deals).requests.made;
+}
+
+-- an act took an account that the cell stood for to the one that it stands for: it made these deals, and was refused at this count, or not
+pub record TakesAccount (act : CellAct) (old new : CellView) (deals : List Deal) (refused : Option ℕ) (account : CellAccount) : Type 0 where
+  pub stands : StandsFor new (account_behind_act act account deals)
+  pub asked : (course_behind act account deals).requests.deals ≡ deals
+  pub ended : (course_behind act account deals).refused ≡ refused
+
+-- a call made an act: its deals led from one state of the allot to the other, and it took each account that the cell stood for to the account with this act
+pub record MadeAct {State : Type 0} (goes : State → Deal → State → Type 0) (from to : State) (act : CellAct) (old new : CellView) (refused : Option ℕ) : Type 0 where
+  pub deals : List Deal
+  pub led : LeadsAlong goes from deals to
+  pub follows : (account : CellAccount) → StandsFor old account → TakesAccount act old new deals refused account

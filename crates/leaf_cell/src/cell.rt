@@ -1,0 +1,163 @@
+//! A cell, and what is read of it.
+ghost use Rattle.std.specs.Prelude.{◌≡◌, ◌+◌, ◌<◌, ◌≤◌, ℕ, length, IfOk, Ok, Err, OnOk, OnErr, IfErr, replicate, None, Some, is_some, count_by};
+ghost use Rattle.kernel_meaning.specs.Leaves.{has_present, kept_by, version_at};
+ghost use Rattle.kernel_meaning.specs.CellAccount.{CellAccount, empty_account, account_share};
+ghost use Rattle.leaf_cell.specs.CellView.{new_view, parent_page, part_of, held_of};
+ghost use Rattle.leaf_cell.specs.Standing.{StandsFor};
+ghost use Rattle.leaf_cell.specs.States.{state_of, nth_number, snapshot_part};
+
+use crate::leaf_table::{CELL_PAGES, LeafTable};
+use crate::lookups::{
+    count_frames, count_own, count_table, leaf_state, place_in, read_place, snapshot_place,
+};
+use crate::snapshot::{LeafState, Snapshot};
+use std::alloc::Global;
+use std::marker::Model;
+use vm_base::{Frame, Lost, NoMemory};
+
+/// Places for frames: two for each page, so that a page and the copy that a snapshot keeps of it
+/// have one each.
+pub(crate) const PLACES: usize = 1024;
+
+/// The leaf tables and pages of 512 pages of addresses, on the parent's side and on that of its
+/// snapshots. It is made once, with all its room, and no other call takes memory.
+#[derive(Debug, Drop)]
+pub struct Cell {
+    pub(crate) parent: Option<LeafTable>,
+    pub(crate) snapshot: Option<Snapshot>,
+    pub(crate) frames: Vec<Option<Frame>>,
+}
+
+impl Model for Cell {
+    ghost use Rattle.leaf_cell.specs.CellView.{CellView};
+    ghost use Rattle.leaf_cell.specs.Inside.{cell_value, AreInside};
+    ghost use Rattle.leaf_cell.specs.Codes.{cell_view_code};
+
+    ghost Value = { CellView };
+
+    ghost coded = { cell_view_code };
+
+    ghost view = { λ cell. cell_value cell.parent cell.snapshot cell.frames.items };
+
+    ghost invariant = { λ cell. AreInside cell.parent cell.snapshot cell.frames.items };
+}
+
+impl Cell {
+    /// A cell that nobody has.
+    pub fn new(alloc: Global) -> Result<Cell, NoMemory>
+        ensures empty { IfOk result (λ cell. cell ≡ new_view) }
+        ensures stands { IfOk result (λ cell. StandsFor cell empty_account) }
+    {
+        let frames = no_frames(alloc)?;
+        Ok(Cell {
+            parent: None,
+            snapshot: None,
+            frames,
+        })
+    }
+
+    /// Reads bytes of the parent's page, which are zeros where it is absent.
+    pub fn read(&self, page: u16, at: u16, buf: &mut [u8])
+        requires page { page < CELL_PAGES }
+        requires room { at + length buf.old ≤ 4096 }
+        ensures { buf.new ≡ part_of (parent_page self.now page) at (length buf.old) }
+    {
+        let place = place_in(&self.parent, page);
+        read_place(&self.frames, place, at as usize, buf);
+    }
+
+    /// Reads bytes of a snapshot's page, whatever its leaf is. A snapshot that does not have the
+    /// cell has no page here, and so reads zeros.
+    pub fn snap_read(&self, number: u32, page: u16, at: u16, buf: &mut [u8]) -> Result<(), Lost>
+        requires page { page < CELL_PAGES }
+        requires room { at + length buf.old ≤ 4096 }
+        ensures ok { OnOk result (snapshot_part self.now number page at (length buf.old) ≡ Ok buf.new) }
+        ensures lost { IfErr result (λ lost. snapshot_part self.now number page at (length buf.old) ≡ Err lost.at) }
+    {
+        match &self.snapshot {
+            Some(snapshot) => {
+                if snapshot.number == number {
+                    let place = snapshot_place(&self.parent, &snapshot.leaf, page)?;
+                    read_place(&self.frames, place, at as usize, buf);
+                    return Ok(());
+                }
+            }
+            None => {}
+        }
+        read_place(&self.frames, None, at as usize, buf);
+        Ok(())
+    }
+
+    /// What the snapshot has here.
+    pub fn state(&self, number: u32) -> LeafState
+        ensures { result ≡ state_of (kept_by self.now.leaves.kept number) }
+    {
+        match &self.snapshot {
+            Some(snapshot) => {
+                if snapshot.number == number {
+                    leaf_state(snapshot)
+                } else {
+                    LeafState::Absent
+                }
+            }
+            None => LeafState::Absent,
+        }
+    }
+
+    /// How many pages the parent has here.
+    pub fn pages(&self) -> u32
+        ensures { result ≡ count_by is_some self.now.leaves.parent }
+    {
+        match &self.parent {
+            Some(table) => table.pages(),
+            None => 0,
+        }
+    }
+
+    /// How many frames the cell holds.
+    pub fn held(&self) -> u32
+        ensures held { result ≡ held_of self.now }
+        ensures share { (account : CellAccount) → StandsFor self.now account → result ≡ account_share account }
+    {
+        let tables = count_table(&self.parent) + count_own(&self.snapshot);
+        tables + count_frames(&self.frames)
+    }
+
+    /// Whether the parent has a page in a range of pages.
+    pub fn covers(&self, first: u16, pages: u16) -> bool
+        requires { first + pages ≤ CELL_PAGES }
+        ensures { result ≡ has_present self.now.leaves.parent first pages }
+    {
+        match &self.parent {
+            Some(table) => table.covers(first, pages),
+            None => false,
+        }
+    }
+
+    /// The number of the nth snapshot here, counted from 0 in rising order.
+    pub fn snap(&self, nth: u32) -> Option<u32>
+        ensures { result ≡ nth_number self.now.leaves.kept nth }
+    {
+        match &self.snapshot {
+            Some(snapshot) => {
+                if nth == 0 {
+                    Some(snapshot.number)
+                } else {
+                    None
+                }
+            }
+            None => None,
+        }
+    }
+}
+
+/// Room for the frames of a cell, with none there.
+fn no_frames(alloc: Global) -> Result<Vec<Option<Frame>>, NoMemory>
+    ensures { IfOk result (λ frames. frames.items ≡ replicate 1024 None) }
+{
+    let mut frames = Vec::with_capacity(alloc, PLACES)?;
+    for _ in 0..PLACES {
+        frames.push(None)?;
+    }
+    Ok(frames)
+}

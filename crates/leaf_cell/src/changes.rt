@@ -1,0 +1,83 @@
+//! Forking and dropping.
+ghost use Rattle.std.specs.Prelude.{◌≡◌, ◌+◌, ◌≤◌, ℕ, [], true, is_some, None, OnErr};
+ghost use Rattle.vm_base.specs.declared.fork_mode.Mode.TheVariants as mode;
+ghost use Rattle.vm_base.specs.FlatMemory.{zero_page};
+ghost use Rattle.leaf_cell.specs.declared.snapshot.SnapshotLeaf.TheVariants as leaf;
+ghost use Rattle.leaf_cell.specs.Inside.{table_places, kept_values};
+ghost use Rattle.kernel_meaning.specs.Leaves.{has_pages, kept_by, no_versions};
+ghost use Rattle.kernel_meaning.specs.CellAccount.{Fork, Drop as DropAct};
+ghost use Rattle.leaf_cell.specs.CellView.{held_of};
+ghost use Rattle.leaf_cell.specs.Standing.{MadeAct};
+ghost use Rattle.leaf_cell.specs.States.{refused_count};
+
+use crate::cell::Cell;
+use crate::leaf_table::LeafTable;
+use crate::release::release_leaf;
+use crate::snapshot::{Snapshot, SnapshotLeaf};
+use vm_base::{Allot, Frame, Mode, Refused, Want};
+
+impl Cell {
+    /// Gives a snapshot the cell as the parent has it now, with a leaf table of its own. After a
+    /// refusal the cell is as before.
+    pub fn fork_eager<A: Allot>(&mut self, number: u32, allot: &mut A) -> Result<(), Refused>
+        requires present { has_pages self.old.leaves.parent ≡ true }
+        requires alone { self.old.leaves.kept ≡ [] }
+        requires held { held_of self.old ≤ A.out (A.state allot.old) }
+        requires untold { A.grants allot.old ≡ None }
+        ensures made { (seat : ℕ) → MadeAct A.goes (A.state allot.old) (A.state allot.new) (Fork number mode.Eager seat) self.old self.new (refused_count result) }
+        ensures held { A.out (A.state allot.new) + held_of self.old ≡ A.out (A.state allot.old) + held_of self.new }
+        ensures untold { A.grants allot.new ≡ None }
+        ensures refused { OnErr result (self.new ≡ self.old) }
+    {
+        match allot.take(Want::Leaf) {
+            Ok(frame) => {
+                self.snapshot = Some(new_snapshot(number, frame, &self.parent));
+                Ok(())
+            }
+            Err(refused) => Err(refused),
+        }
+    }
+
+    /// Takes a snapshot out, with its own table and the frames that only it names.
+    pub fn drop_snap<A: Allot>(&mut self, number: u32, allot: &mut A)
+        requires held { held_of self.old ≤ A.out (A.state allot.old) }
+        requires untold { A.grants allot.old ≡ None }
+        ensures made { MadeAct A.goes (A.state allot.old) (A.state allot.new) (DropAct number) self.old self.new None }
+        ensures held { A.out (A.state allot.new) + held_of self.old ≡ A.out (A.state allot.old) + held_of self.new }
+        ensures untold { A.grants allot.new ≡ None }
+    {
+        if is_snapshot(&self.snapshot, number) {
+            if let Some(snapshot) = self.snapshot.take() {
+                release_leaf(snapshot.leaf, &self.parent, &mut self.frames, allot);
+            }
+        }
+    }
+}
+
+/// Whether the snapshot has this number.
+fn is_snapshot(snapshot: &Option<Snapshot>, number: u32) -> bool
+    ensures { result ≡ is_some (kept_by (kept_values no_versions snapshot.now) number) }
+{
+    match snapshot {
+        Some(snapshot) => snapshot.number == number,
+        None => false,
+    }
+}
+
+/// A snapshot with a table of its own, which names what the parent's does.
+fn new_snapshot(number: u32, frame: Frame, parent: &Option<LeafTable>) -> Snapshot
+    requires { frame.bytes ≡ zero_page }
+    ensures number { result.number ≡ number }
+    ensures mode { result.mode ≡ mode.Eager }
+    ensures leaf { result.leaf ≡ leaf.Own (table_places parent.now) }
+{
+    let mut table = LeafTable::new(frame);
+    if let Some(parent) = parent {
+        table.copy_from(parent);
+    }
+    Snapshot {
+        number,
+        mode: Mode::Eager,
+        leaf: SnapshotLeaf::Own(table),
+    }
+}

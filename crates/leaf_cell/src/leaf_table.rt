@@ -1,0 +1,171 @@
+//! A leaf table: the places of the frames of 512 pages, in a frame of its own.
+ghost use Rattle.std.specs.Prelude.{◌≡◌, ◌<◌, ◌*◌, ◌+◌, ◌≤◌, slice_set, Some, None, length, count_by, is_some};
+ghost use Rattle.byteorder.specs.Endian.{little_bytes};
+ghost use Rattle.vm_base.specs.FlatMemory.{zero_page, spliced};
+ghost use Rattle.kernel_meaning.specs.Leaves.{no_versions, version_at, with_version, has_present};
+ghost use Rattle.leaf_cell.specs.Places.{word_at, place_in, with_word};
+
+use byteorder::{ByteOrder, LittleEndian};
+use std::marker::Model;
+use vm_base::{Bits, Frame, entry_parts, entry_word};
+
+/// Pages that a leaf table maps.
+pub(crate) const CELL_PAGES: u16 = 512;
+
+/// Bytes of a table entry.
+const ENTRY_BYTES: usize = 8;
+
+/// For each page of a cell the place of its frame, or none. It is in a frame, with an entry for
+/// each page.
+#[derive(Debug, Drop)]
+pub(crate) struct LeafTable {
+    frame: Frame,
+}
+
+impl Model for LeafTable {
+    ghost use Rattle.std.specs.Prelude.{◌≡◌, length};
+    ghost use Rattle.kernel_meaning.specs.Leaves.{Versions};
+    ghost use Rattle.leaf_cell.specs.Places.{places_of};
+
+    ghost Value = { Versions };
+
+    ghost view = { λ table. places_of table.frame.bytes };
+
+    ghost invariant = { λ table. length table.frame.bytes ≡ 4096 };
+}
+
+impl LeafTable {
+    /// A table without a page, in a frame of zeros.
+    pub(crate) fn new(frame: Frame) -> LeafTable
+        requires { frame.bytes ≡ zero_page }
+        ensures { result ≡ no_versions }
+    {
+        LeafTable { frame }
+    }
+
+    /// The place of the frame of a page.
+    pub(crate) fn get(&self, page: u16) -> Option<u32>
+        requires { page < CELL_PAGES }
+        ensures { result ≡ version_at self.now page }
+    {
+        place_of(word_of(self.frame.bytes(), page))
+    }
+
+    /// The page's frame is at this place from now on.
+    pub(crate) fn set(&mut self, page: u16, place: u32)
+        requires { page < CELL_PAGES }
+        ensures { self.new ≡ with_version self.old page place }
+    {
+        put_word(&mut self.frame, page, entry_word(place, Bits::PRESENT));
+    }
+
+    /// Names the same frames as another table.
+    pub(crate) fn copy_from(&mut self, other: &LeafTable)
+        ensures { self.new ≡ other.now }
+    {
+        copy_bytes(&mut self.frame, &other.frame);
+    }
+
+    /// As many entries as the frame has room for, which is one for each page.
+    pub(crate) fn entries(&self) -> u16
+        ensures count { result ≡ 512 }
+        ensures size { length self.now ≡ 512 }
+    {
+        let bytes: &[u8] = self.frame.bytes();
+        (bytes.len() / ENTRY_BYTES) as u16
+    }
+
+    /// How many pages are present.
+    pub(crate) fn pages(&self) -> u32
+        ensures { result ≡ count_by is_some self.now }
+    {
+        let mut pages = 0;
+        for page in 0..self.entries() {
+            if self.get(page).is_some() {
+                pages += 1;
+            }
+        }
+        pages
+    }
+
+    /// Whether one of some pages is present.
+    pub(crate) fn covers(&self, first: u16, pages: u16) -> bool
+        requires { first + pages ≤ CELL_PAGES }
+        ensures { result ≡ has_present self.now first pages }
+    {
+        for page in first..first + pages {
+            if self.get(page).is_some() {
+                return true;
+            }
+        }
+        false
+    }
+
+    /// The frame that the table was in.
+    pub(crate) fn into_frame(self) -> Frame {
+        self.frame
+    }
+}
+
+/// The place that an entry holds.
+fn place_of(word: u64) -> Option<u32>
+    ensures { result ≡ place_in word }
+{
+    if word == 0 {
+        None
+    } else {
+        Some(entry_parts(word).0)
+    }
+}
+
+/// The entry of a page.
+fn word_of(bytes: &[u8], page: u16) -> u64
+    requires size { length bytes.now ≡ 4096 }
+    requires page { page < CELL_PAGES }
+    ensures { result ≡ word_at bytes.now page }
+{
+    let at = ENTRY_BYTES * page as usize;
+    LittleEndian::read_u64(&bytes[at..])
+}
+
+/// Puts the entry of a page.
+fn put_word(frame: &mut Frame, page: u16, word: u64)
+    requires page { page < CELL_PAGES }
+    ensures { frame.new ≡ record frame.old { bytes = with_word frame.old.bytes page word } }
+{
+    let bytes: &mut [u8] = frame.bytes_mut();
+    set_word(bytes, page, word);
+}
+
+fn set_word(bytes: &mut [u8], page: u16, word: u64)
+    requires size { length bytes.old ≡ 4096 }
+    requires page { page < CELL_PAGES }
+    ensures { bytes.new ≡ with_word bytes.old page word }
+{
+    put_bytes(bytes, ENTRY_BYTES * page as usize, &entry_bytes(word));
+}
+
+/// An entry as it stands in a table.
+fn entry_bytes(word: u64) -> [u8; 8]
+    ensures bytes { result ≡ little_bytes 8 word }
+    ensures size { length result ≡ 8 }
+{
+    let mut bytes = [0; 8];
+    LittleEndian::write_u64(&mut bytes, word);
+    bytes
+}
+
+/// Puts bytes from a place on.
+pub(crate) fn put_bytes(target: &mut [u8], at: usize, bytes: &[u8])
+    requires { at + length bytes.now ≤ length target.old }
+    ensures { target.new ≡ spliced target.old at bytes.now }
+{
+    target[at..at + bytes.len()].copy_from_slice(bytes);
+}
+
+/// Puts the bytes of one frame into another.
+fn copy_bytes(frame: &mut Frame, other: &Frame)
+    ensures { frame.new ≡ record frame.old { bytes = other.now.bytes } }
+{
+    *frame.bytes_mut() = *other.bytes();
+}

@@ -1,0 +1,102 @@
+//! Pages that come into a cell.
+ghost use Rattle.std.specs.Prelude.{◌≡◌, ◌⊎◌, ◌+◌, ◌<◌, ◌≤◌, length, slice_set, slice_index_or, Some, None, true, cond, is_some, OnOk, OnErr, IfOk, IfErr};
+ghost use Rattle.vm_base.specs.FlatMemory.{zero_page};
+ghost use Rattle.kernel_meaning.specs.Leaves.{with_version};
+ghost use Rattle.leaf_cell.specs.Inside.{IsPlaceOf, table_places};
+ghost use Rattle.leaf_cell.specs.Adding.{IsPut, LedByAdding, LedByTwo};
+
+use crate::leaf_table::{CELL_PAGES, LeafTable};
+use vm_base::{Allot, Frame, Refused, Want};
+
+/// Adds a page of zeros, and the leaf table where it is the first page. After a refusal nothing
+/// has changed.
+pub(crate) fn add_page<A: Allot>(
+    parent: &mut Option<LeafTable>,
+    frames: &mut Vec<Option<Frame>>,
+    page: u16,
+    allot: &mut A,
+) -> Result<(), Refused>
+    requires page { page < CELL_PAGES }
+    requires size { length frames.old.items ≡ 1024 }
+    requires free { (slice_index_or frames.old.items page None ≡ None) ⊎ (slice_index_or frames.old.items (page + 512) None ≡ None) }
+    requires untold { A.grants allot.old ≡ None }
+    ensures led { LedByAdding A.goes (A.state allot.old) (A.state allot.new) (is_some parent.old) result }
+    ensures put { OnOk result (IsPut zero_page page (table_places parent.old) frames.old.items (table_places parent.new) frames.new.items × (is_some parent.new ≡ true)) }
+    ensures kept { OnErr result ((parent.new ≡ parent.old) × (frames.new.items ≡ frames.old.items)) }
+    ensures untold { A.grants allot.new ≡ None }
+    ensures taken { OnOk result (A.out (A.state allot.new) ≡ A.out (A.state allot.old) + cond (is_some parent.old) 1 2) }
+    ensures returned { OnErr result (A.out (A.state allot.new) ≡ A.out (A.state allot.old)) }
+{
+    let place = free_place(frames, page);
+    match parent {
+        Some(table) => match allot.take(Want::Page) {
+            Ok(frame) => {
+                put_page(table, frames, page, place, frame);
+                Ok(())
+            }
+            Err(refused) => Err(refused),
+        },
+        None => match take_both(allot) {
+            Ok((leaf, frame)) => {
+                let mut table = LeafTable::new(leaf);
+                put_page(&mut table, frames, page, place, frame);
+                *parent = Some(table);
+                Ok(())
+            }
+            Err(refused) => Err(refused),
+        },
+    }
+}
+
+/// Takes a frame for a leaf table and one for its first page, or neither.
+fn take_both<A: Allot>(allot: &mut A) -> Result<(Frame, Frame), Refused>
+    requires untold { A.grants allot.old ≡ None }
+    ensures led { LedByTwo A.goes (A.state allot.old) (A.state allot.new) result }
+    ensures zeros { IfOk result (λ frames. (frames.0.bytes ≡ zero_page) × (frames.1.bytes ≡ zero_page)) }
+    ensures taken { OnOk result (A.out (A.state allot.new) ≡ A.out (A.state allot.old) + 2) }
+    ensures kept { OnErr result (A.out (A.state allot.new) ≡ A.out (A.state allot.old)) }
+    ensures untold { A.grants allot.new ≡ None }
+{
+    match allot.take(Want::Leaf) {
+        Ok(table) => match allot.take(Want::Page) {
+            Ok(page) => Ok((table, page)),
+            Err(refused) => {
+                allot.give(table);
+                Err(refused)
+            }
+        },
+        Err(refused) => Err(refused),
+    }
+}
+
+/// The one of a page's two places that is free.
+fn free_place(frames: &[Option<Frame>], page: u16) -> u32
+    requires page { page < CELL_PAGES }
+    requires size { length frames.now ≡ 1024 }
+    requires free { (slice_index_or frames.now page None ≡ None) ⊎ (slice_index_or frames.now (page + 512) None ≡ None) }
+    ensures home { IsPlaceOf page result }
+    ensures free { slice_index_or frames.now result None ≡ None }
+{
+    if frames[page as usize].is_none() {
+        u32::from(page)
+    } else {
+        u32::from(page) + u32::from(CELL_PAGES)
+    }
+}
+
+/// The page lies at this place from now on.
+fn put_page(
+    table: &mut LeafTable,
+    frames: &mut [Option<Frame>],
+    page: u16,
+    place: u32,
+    frame: Frame,
+)
+    requires page { page < CELL_PAGES }
+    requires place { place < length frames.old }
+    ensures table { table.new ≡ with_version table.old page place }
+    ensures frames { frames.new ≡ slice_set frames.old place (Some frame) }
+{
+    table.set(page, place);
+    frames[place as usize] = Some(frame);
+}

@@ -1,0 +1,111 @@
+//! Frames that go back.
+ghost use Rattle.std.specs.Prelude.{◌≡◌, ◌+◌, ◌<◌, ◌≤◌, length, slice_set, slice_index_or, replicate, count_by, is_some, Some, None};
+ghost use Rattle.vm_base.specs.Deals.{LeadsAlong, Returned};
+ghost use Rattle.kernel_meaning.specs.Leaves.{no_versions};
+ghost use Rattle.leaf_cell.specs.Inside.{table_places, snapshot_places, leaf_value};
+ghost use Rattle.leaf_cell.specs.Releasing.{one_if, own_if, IsLeafReleased, AreHome, Releasing, IsReleased};
+
+use crate::leaf_table::{CELL_PAGES, LeafTable};
+use crate::lookups::place_in;
+use crate::snapshot::SnapshotLeaf;
+use vm_base::{Allot, Frame};
+
+/// Gives back what a snapshot's leaf alone names, and its own table.
+pub(crate) fn release_leaf<A: Allot>(
+    leaf: SnapshotLeaf,
+    parent: &Option<LeafTable>,
+    frames: &mut Vec<Option<Frame>>,
+    allot: &mut A,
+)
+    requires size { length frames.old.items ≡ 1024 }
+    requires home { AreHome (snapshot_places no_versions leaf) }
+    requires others { AreHome (table_places parent.now) }
+    requires out { count_by is_some frames.old.items + own_if (leaf_value leaf) ≤ A.out (A.state allot.old) }
+    requires untold { A.grants allot.old ≡ None }
+    ensures released { IsLeafReleased A.goes (A.state allot.old) (A.state allot.new) (snapshot_places no_versions leaf) (table_places parent.now) (own_if (leaf_value leaf)) frames.old.items frames.new.items }
+    ensures out { A.out (A.state allot.new) + count_by is_some frames.old.items + own_if (leaf_value leaf) ≡ A.out (A.state allot.old) + count_by is_some frames.new.items }
+    ensures untold { A.grants allot.new ≡ None }
+{
+    match leaf {
+        SnapshotLeaf::Own(table) => {
+            release_pages(&table, parent, frames, allot);
+            allot.give(table.into_frame());
+        }
+        SnapshotLeaf::Joined => {}
+        SnapshotLeaf::Lost(_) => {}
+    }
+}
+
+/// Gives back the frames that a table names and the other does not.
+fn release_pages<A: Allot>(
+    table: &LeafTable,
+    other: &Option<LeafTable>,
+    frames: &mut Vec<Option<Frame>>,
+    allot: &mut A,
+)
+    requires size { length frames.old.items ≡ 1024 }
+    requires home { AreHome table.now }
+    requires others { AreHome (table_places other.now) }
+    requires out { count_by is_some frames.old.items ≤ A.out (A.state allot.old) }
+    requires untold { A.grants allot.old ≡ None }
+    ensures released { Releasing A.goes (A.state allot.old) (A.state allot.new) table.now (table_places other.now) frames.old.items frames.new.items 512 }
+    ensures out { A.out (A.state allot.new) + count_by is_some frames.old.items ≡ A.out (A.state allot.old) + count_by is_some frames.new.items }
+    ensures untold { A.grants allot.new ≡ None }
+{
+    for page in 0..CELL_PAGES {
+        release_page(table, other, frames, page, allot);
+    }
+}
+
+/// Gives back the frame of one page of a table, where the other table does not name it.
+fn release_page<A: Allot>(
+    table: &LeafTable,
+    other: &Option<LeafTable>,
+    frames: &mut Vec<Option<Frame>>,
+    page: u16,
+    allot: &mut A,
+)
+    requires page { page < CELL_PAGES }
+    requires size { length frames.old.items ≡ 1024 }
+    requires home { AreHome table.now }
+    requires others { AreHome (table_places other.now) }
+    requires out { count_by is_some frames.old.items ≤ A.out (A.state allot.old) }
+    requires untold { A.grants allot.old ≡ None }
+    ensures released { IsReleased A.goes (A.state allot.old) (A.state allot.new) table.now (table_places other.now) frames.old.items frames.new.items page }
+    ensures out { A.out (A.state allot.new) + count_by is_some frames.old.items ≡ A.out (A.state allot.old) + count_by is_some frames.new.items }
+    ensures untold { A.grants allot.new ≡ None }
+{
+    if let Some(place) = table.get(page) {
+        if place_in(other, page) != Some(place) {
+            give_place(frames, place, allot);
+        }
+    }
+}
+
+/// Gives back the frame at a place.
+fn give_place<A: Allot>(frames: &mut Vec<Option<Frame>>, place: u32, allot: &mut A)
+    requires place { place < length frames.old.items }
+    requires out { one_if (slice_index_or frames.old.items place None) ≤ A.out (A.state allot.old) }
+    requires untold { A.grants allot.old ≡ None }
+    ensures frames { frames.new.items ≡ slice_set frames.old.items place None }
+    ensures led { LeadsAlong A.goes (A.state allot.old) (replicate (one_if (slice_index_or frames.old.items place None)) Returned) (A.state allot.new) }
+    ensures out { A.out (A.state allot.new) + one_if (slice_index_or frames.old.items place None) ≡ A.out (A.state allot.old) }
+    ensures untold { A.grants allot.new ≡ None }
+{
+    let taken = frames[place as usize].take();
+    give_taken(taken, allot);
+}
+
+/// Gives back a frame that was there.
+fn give_taken<A: Allot>(taken: Option<Frame>, allot: &mut A)
+    requires out { one_if taken ≤ A.out (A.state allot.old) }
+    requires untold { A.grants allot.old ≡ None }
+    ensures led { LeadsAlong A.goes (A.state allot.old) (replicate (one_if taken) Returned) (A.state allot.new) }
+    ensures out { A.out (A.state allot.new) + one_if taken ≡ A.out (A.state allot.old) }
+    ensures untold { A.grants allot.new ≡ None }
+{
+    match taken {
+        Some(frame) => allot.give(frame),
+        None => {}
+    }
+}

@@ -1,0 +1,78 @@
+//! Touching absent pages, and storing.
+ghost use Rattle.std.specs.Prelude.{◌≡◌, ◌+◌, ◌<◌, ◌≤◌, ℕ, [], length, slice_set, slice_index_or, None, Some, true, IsSome, OnErr};
+ghost use Rattle.vm_base.specs.FlatMemory.{spliced};
+ghost use Rattle.leaf_cell.specs.Adding.{stored_in, IsWholeFrame};
+ghost use Rattle.kernel_meaning.specs.Leaves.{version_at};
+ghost use Rattle.kernel_meaning.specs.CellAccount.{CellAccount, Touch, Store};
+ghost use Rattle.leaf_cell.specs.CellView.{AreUnjoined, held_of};
+ghost use Rattle.leaf_cell.specs.Renaming.{IsNamedBy};
+ghost use Rattle.leaf_cell.specs.Standing.{MadeAct, StandsFor, TakesAccount};
+ghost use Rattle.leaf_cell.specs.States.{refused_count};
+
+use crate::cell::Cell;
+use crate::leaf_table::{CELL_PAGES, put_bytes};
+use crate::lookups::place_in;
+use crate::pages::add_page;
+use vm_base::{Allot, Frame, Refused};
+
+impl Cell {
+    /// Makes an absent page of the parent present, as zeros, and the leaf table too where it is the
+    /// first page. After a refusal the cell is as before.
+    pub fn touch_absent<A: Allot>(&mut self, page: u16, allot: &mut A) -> Result<(), Refused>
+        requires page { page < CELL_PAGES }
+        requires absent { version_at self.old.leaves.parent page ≡ None }
+        requires unjoined { AreUnjoined self.old.leaves.kept }
+        requires held { held_of self.old ≤ A.out (A.state allot.old) }
+        requires untold { A.grants allot.old ≡ None }
+        ensures made { MadeAct A.goes (A.state allot.old) (A.state allot.new) (Touch page) self.old self.new (refused_count result) }
+        ensures held { A.out (A.state allot.new) + held_of self.old ≡ A.out (A.state allot.old) + held_of self.new }
+        ensures untold { A.grants allot.new ≡ None }
+        ensures refused { OnErr result (self.new ≡ self.old) }
+    {
+        add_page(&mut self.parent, &mut self.frames, page, allot)
+    }
+
+    /// Stores bytes in a page that no snapshot names.
+    pub fn store(&mut self, page: u16, at: u16, bytes: &[u8])
+        requires page { page < CELL_PAGES }
+        requires room { at + length bytes.now ≤ 4096 }
+        requires present { IsSome (version_at self.old.leaves.parent page) }
+        requires unnamed { (place : ℕ) → version_at self.old.leaves.parent page ≡ Some place → IsNamedBy page place self.old.leaves.kept → ⊥ }
+        ensures stored { (account : CellAccount) → StandsFor self.old account → TakesAccount (Store page at bytes.now) self.old self.new [] None account }
+    {
+        if let Some(place) = place_in(&self.parent, page) {
+            store_place(&mut self.frames, place, at as usize, bytes);
+        }
+    }
+}
+
+/// Stores bytes in the frame at a place.
+fn store_place(frames: &mut Vec<Option<Frame>>, place: u32, at: usize, bytes: &[u8])
+    requires place { place < length frames.old.items }
+    requires room { at + length bytes.now ≤ 4096 }
+    ensures stored { frames.new.items ≡ slice_set frames.old.items place (stored_in (slice_index_or frames.old.items place None) at bytes.now) }
+    ensures whole { IsWholeFrame (slice_index_or frames.old.items place None) }
+{
+    store_slot(&mut frames[place as usize], at, bytes);
+}
+
+/// Stores bytes in a frame that is there.
+fn store_slot(slot: &mut Option<Frame>, at: usize, bytes: &[u8])
+    requires { at + length bytes.now ≤ 4096 }
+    ensures stored { slot.new ≡ stored_in slot.old at bytes.now }
+    ensures whole { IsWholeFrame slot.old }
+{
+    if let Some(frame) = slot {
+        store_frame(frame, at, bytes);
+    }
+}
+
+/// Stores bytes in a frame.
+fn store_frame(frame: &mut Frame, at: usize, bytes: &[u8])
+    requires { at + length bytes.now ≤ 4096 }
+    ensures stored { frame.new ≡ record frame.old { bytes = spliced frame.old.bytes at bytes.now } }
+    ensures whole { length frame.old.bytes ≡ 4096 }
+{
+    let target: &mut [u8] = frame.bytes_mut();
+    put_bytes(target, at, bytes);
+}
