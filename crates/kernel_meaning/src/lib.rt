@@ -5,8 +5,8 @@
 //! each snapshot has there. `touched page course` of `specs/CellActs.antt` is one act on it. A
 //! caller may rely on `held_frames` of `specs/FrameLaw.antt`: the frames that are out of the pool
 //! are those that it counts, and no others. [`is_forced`] is the one definition that code shares:
-//! `is_forced(frames, out, number, named)` tells a request that no policy is asked about. The README beside this crate says which definition is
-//! in which file.
+//! `is_forced(frames, out, number, named)` tells a request that no policy is asked about. The
+//! README beside this crate says which definition is in which file.
 #![tactic(auto)]
 
 mod forced;
