@@ -1,6 +1,7 @@
 //! Forking and dropping.
-ghost use Rattle.std.specs.Prelude.{◌≡◌, ◌+◌, ◌≤◌, ℕ, [], true, is_some, None, OnErr};
+ghost use Rattle.std.specs.Prelude.{◌≡◌, ◌+◌, ◌≤◌, ℕ, [], true, is_some, None, IfErr, OnErr, OnOk};
 ghost use Rattle.vm_base.specs.declared.fork_mode.Mode.TheVariants as mode;
+ghost use Rattle.vm_base.specs.Counts.{next_count};
 ghost use Rattle.vm_base.specs.FlatMemory.{zero_page};
 ghost use Rattle.leaf_cell.specs.declared.snapshot.SnapshotLeaf.TheVariants as leaf;
 ghost use Rattle.leaf_cell.specs.Inside.{table_places, kept_values};
@@ -28,6 +29,10 @@ impl Cell {
         ensures held { A.out (A.state allot.new) + held_of self.old ≡ A.out (A.state allot.old) + held_of self.new }
         ensures untold { A.grants allot.new ≡ None }
         ensures refused { OnErr result (self.new ≡ self.old) }
+
+        // Refused only where the allot's count rose, and the answer carries it.
+        ensures unrefused { OnOk result (A.refused (A.state allot.new) ≡ A.refused (A.state allot.old)) }
+        ensures counted { IfErr result (λ e. (A.refused (A.state allot.new) ≡ next_count (A.refused (A.state allot.old))) × (e.at ≡ A.refused (A.state allot.new))) }
     {
         match allot.take(Want::Leaf) {
             Ok(frame) => {
@@ -45,6 +50,7 @@ impl Cell {
         ensures made { MadeAct A.goes (A.state allot.old) (A.state allot.new) (DropAct number) self.old self.new None }
         ensures held { A.out (A.state allot.new) + held_of self.old ≡ A.out (A.state allot.old) + held_of self.new }
         ensures untold { A.grants allot.new ≡ None }
+        ensures unrefused { A.refused (A.state allot.new) ≡ A.refused (A.state allot.old) }
     {
         if is_snapshot(&self.snapshot, number) {
             if let Some(snapshot) = self.snapshot.take() {

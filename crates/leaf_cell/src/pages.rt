@@ -1,5 +1,6 @@
 //! Pages that come into a cell.
 ghost use Rattle.std.specs.Prelude.{◌≡◌, ◌⊎◌, ◌+◌, ◌<◌, ◌≤◌, length, slice_set, slice_index_or, Some, None, true, cond, is_some, OnOk, OnErr, IfOk, IfErr};
+ghost use Rattle.vm_base.specs.Counts.{next_count};
 ghost use Rattle.vm_base.specs.FlatMemory.{zero_page};
 ghost use Rattle.kernel_meaning.specs.Leaves.{with_version};
 ghost use Rattle.leaf_cell.specs.Inside.{IsPlaceOf, table_places};
@@ -26,6 +27,8 @@ pub(crate) fn add_page<A: Allot>(
     ensures untold { A.grants allot.new ≡ None }
     ensures taken { OnOk result (A.out (A.state allot.new) ≡ A.out (A.state allot.old) + cond (is_some parent.old) 1 2) }
     ensures returned { OnErr result (A.out (A.state allot.new) ≡ A.out (A.state allot.old)) }
+    ensures unrefused { OnOk result (A.refused (A.state allot.new) ≡ A.refused (A.state allot.old)) }
+    ensures counted { IfErr result (λ e. (A.refused (A.state allot.new) ≡ next_count (A.refused (A.state allot.old))) × (e.at ≡ A.refused (A.state allot.new))) }
 {
     let place = free_place(frames, page);
     match parent {
@@ -55,6 +58,8 @@ fn take_both<A: Allot>(allot: &mut A) -> Result<(Frame, Frame), Refused>
     ensures zeros { IfOk result (λ frames. (frames.0.bytes ≡ zero_page) × (frames.1.bytes ≡ zero_page)) }
     ensures taken { OnOk result (A.out (A.state allot.new) ≡ A.out (A.state allot.old) + 2) }
     ensures kept { OnErr result (A.out (A.state allot.new) ≡ A.out (A.state allot.old)) }
+    ensures unrefused { OnOk result (A.refused (A.state allot.new) ≡ A.refused (A.state allot.old)) }
+    ensures counted { IfErr result (λ e. (A.refused (A.state allot.new) ≡ next_count (A.refused (A.state allot.old))) × (e.at ≡ A.refused (A.state allot.new))) }
     ensures untold { A.grants allot.new ≡ None }
 {
     match allot.take(Want::Leaf) {

@@ -25,6 +25,7 @@ pub(crate) fn release_leaf<A: Allot>(
     ensures released { IsLeafReleased A.goes (A.state allot.old) (A.state allot.new) (snapshot_places no_versions leaf) (table_places parent.now) (own_if (leaf_value leaf)) frames.old.items frames.new.items }
     ensures out { A.out (A.state allot.new) + count_by is_some frames.old.items + own_if (leaf_value leaf) ≡ A.out (A.state allot.old) + count_by is_some frames.new.items }
     ensures untold { A.grants allot.new ≡ None }
+    ensures unrefused { A.refused (A.state allot.new) ≡ A.refused (A.state allot.old) }
 {
     match leaf {
         SnapshotLeaf::Own(table) => {
@@ -51,6 +52,7 @@ fn release_pages<A: Allot>(
     ensures released { Releasing A.goes (A.state allot.old) (A.state allot.new) table.now (table_places other.now) frames.old.items frames.new.items 512 }
     ensures out { A.out (A.state allot.new) + count_by is_some frames.old.items ≡ A.out (A.state allot.old) + count_by is_some frames.new.items }
     ensures untold { A.grants allot.new ≡ None }
+    ensures unrefused { A.refused (A.state allot.new) ≡ A.refused (A.state allot.old) }
 {
     for page in 0..CELL_PAGES {
         release_page(table, other, frames, page, allot);
@@ -74,6 +76,7 @@ fn release_page<A: Allot>(
     ensures released { IsReleased A.goes (A.state allot.old) (A.state allot.new) table.now (table_places other.now) frames.old.items frames.new.items page }
     ensures out { A.out (A.state allot.new) + count_by is_some frames.old.items ≡ A.out (A.state allot.old) + count_by is_some frames.new.items }
     ensures untold { A.grants allot.new ≡ None }
+    ensures unrefused { A.refused (A.state allot.new) ≡ A.refused (A.state allot.old) }
 {
     if let Some(place) = table.get(page) {
         if place_in(other, page) != Some(place) {
@@ -91,6 +94,7 @@ fn give_place<A: Allot>(frames: &mut Vec<Option<Frame>>, place: u32, allot: &mut
     ensures led { LeadsAlong A.goes (A.state allot.old) (replicate (one_if (slice_index_or frames.old.items place None)) Returned) (A.state allot.new) }
     ensures out { A.out (A.state allot.new) + one_if (slice_index_or frames.old.items place None) ≡ A.out (A.state allot.old) }
     ensures untold { A.grants allot.new ≡ None }
+    ensures unrefused { A.refused (A.state allot.new) ≡ A.refused (A.state allot.old) }
 {
     let taken = frames[place as usize].take();
     give_taken(taken, allot);
@@ -103,6 +107,7 @@ fn give_taken<A: Allot>(taken: Option<Frame>, allot: &mut A)
     ensures led { LeadsAlong A.goes (A.state allot.old) (replicate (one_if taken) Returned) (A.state allot.new) }
     ensures out { A.out (A.state allot.new) + one_if taken ≡ A.out (A.state allot.old) }
     ensures untold { A.grants allot.new ≡ None }
+    ensures unrefused { A.refused (A.state allot.new) ≡ A.refused (A.state allot.old) }
 {
     match taken {
         Some(frame) => allot.give(frame),

@@ -1,5 +1,6 @@
 //! Touching absent pages, and storing.
-ghost use Rattle.std.specs.Prelude.{◌≡◌, ◌+◌, ◌<◌, ◌≤◌, ℕ, [], length, slice_set, slice_index_or, None, Some, true, IsSome, OnErr};
+ghost use Rattle.std.specs.Prelude.{◌≡◌, ◌+◌, ◌<◌, ◌≤◌, ℕ, [], length, slice_set, slice_index_or, None, Some, true, IfErr, IsSome, OnErr, OnOk};
+ghost use Rattle.vm_base.specs.Counts.{next_count};
 ghost use Rattle.vm_base.specs.FlatMemory.{spliced};
 ghost use Rattle.leaf_cell.specs.Adding.{stored_in, IsWholeFrame};
 ghost use Rattle.kernel_meaning.specs.Leaves.{version_at};
@@ -28,6 +29,10 @@ impl Cell {
         ensures held { A.out (A.state allot.new) + held_of self.old ≡ A.out (A.state allot.old) + held_of self.new }
         ensures untold { A.grants allot.new ≡ None }
         ensures refused { OnErr result (self.new ≡ self.old) }
+
+        // Refused only where the allot's count rose, and the answer carries it.
+        ensures unrefused { OnOk result (A.refused (A.state allot.new) ≡ A.refused (A.state allot.old)) }
+        ensures counted { IfErr result (λ e. (A.refused (A.state allot.new) ≡ next_count (A.refused (A.state allot.old))) × (e.at ≡ A.refused (A.state allot.new))) }
     {
         add_page(&mut self.parent, &mut self.frames, page, allot)
     }

@@ -1,4 +1,4 @@
-use Rattle.std.proofs.Common.{arith}
+use Rattle.std.proofs.Common.{◌∙◌, arith}
 use Rattle.leaf_cell.specs.Inside.{table_places}
 use Rattle.leaf_cell.proofs.Releases.{releasing-more}
 use Rattle.leaf_cell.proofs.release.release_pages.Goals as goal
@@ -10,4 +10,5 @@ loop-page-preserved g c = record {
       c.loop-page-test.true c.requires.size c.requires.home c.requires.others c.loop-page.invariant.released c.release_page.ensures.released;
   out = omega (arith, c.loop-page.invariant.out, c.release_page.ensures.out);
   untold = c.release_page.ensures.untold;
+  unrefused = c.release_page.ensures.unrefused ∙ c.loop-page.invariant.unrefused;
 }
