@@ -20,3 +20,5 @@ pub mod SameShare
 pub mod HeldShare
 pub mod Releases
 pub mod DropMade
+pub mod LossMade
+pub mod Touched
