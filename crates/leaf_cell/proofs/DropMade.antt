@@ -118,7 +118,7 @@ takes-dropped old new account n count stands leaves pages kept less =
     }
 
 -- whether a table names a place
-names-or : (places : Versions) (page place : ℕ) → (version_at places page ≡ Some place) ⊎ (version_at places page ≡ Some place → ⊥)
+pub names-or : (places : Versions) (page place : ℕ) → (version_at places page ≡ Some place) ⊎ (version_at places page ≡ Some place → ⊥)
 names-or places page place = by (version_at places page) refl
   where
     by : (o : Option ℕ) → version_at places page ≡ o → (version_at places page ≡ Some place) ⊎ (version_at places page ≡ Some place → ⊥)

@@ -22,3 +22,6 @@ pub mod Releases
 pub mod DropMade
 pub mod LossMade
 pub mod Touched
+pub mod SameReads
+pub mod Without
+pub mod ClearMade

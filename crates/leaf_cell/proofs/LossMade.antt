@@ -1,17 +1,15 @@
 -- What the refused copy of a page made: the snapshot that names it too has lost the cell.
 use Rattle.std.proofs.Common.{◌≡◌, ℕ, ◌+◌, ◌-◌, ◌<◌, List, [], ◌∷◌, replicate, Option, Some, None, refl, sym, ◌∙◌, ap, subst, arith, inl, inr}
 use Rattle.std.specs.Prelude.{is_some, Bool, true, false, cond, unwrap_or, ◌==◌, ◌||◌, slice_index_or}
-use Rattle.std.specs.List.{list_any}
 use Rattle.std.specs.FinMap.{get}
 use Rattle.std.specs.Option.{option_map}
 use Rattle.std.proofs.lemmas.Bool.{false≢true}
 use Rattle.std.proofs.lemmas.List.Sums.{sum_by-cons}
 use Rattle.vm_base.specs.declared.frame_request.Want.TheVariants as want
-use Rattle.vm_base.specs.Deals.{Deal, Denied, Returned, LeadsAlong}
+use Rattle.vm_base.specs.Deals.{Deal, Denied, Returned}
 use Rattle.vm_base.specs.Frames.{FrameView}
-use Rattle.vm_base.specs.FlatStep.{with_page}
 use Rattle.vm_base.proofs.FlatPages.{with_page_there}
-use Rattle.kernel_meaning.specs.Requests.{Answer, No, opening_requests, answers_of}
+use Rattle.kernel_meaning.specs.Requests.{No, opening_requests}
 use Rattle.kernel_meaning.specs.Leaves.{Versions, no_versions, version_at, is_lost, is_own, Lost, Kept, CellLeaves, names_version, is_named, with_leaf, share, kept_by}
 use Rattle.kernel_meaning.specs.CellActs.{Course, opening_course, asking, coming_answer, page_copy_answered, with_leaf_where, touched}
 use Rattle.kernel_meaning.specs.CellAccount.{Touch, CellAccount}
@@ -54,7 +52,7 @@ module _ (name : ℕ → ℕ → ℕ) (view meant : CellLeaves) (alike : IsRenam
   kept_lost (i ∷ is) [] same lives = absurd same
   kept_lost (i ∷ is) (o ∷ os) same lives = (
     subst (λ b. IsKeptAlike name (cond b (record i { leaf = Lost at }) i) (cond (names_version page version o) (record o { leaf = Lost at }) o))
-    (sym (names_alike name view meant alike page version live i o same.0 (λ w h. lives w (inl h)))) (by (names_version page version o)),
+        (sym (names_alike name view meant alike page version live i o same.0 (λ w h. lives w (inl h)))) (by (names_version page version o)),
     kept_lost is os same.1 (λ w h. lives w (inr h)),
   )
     where
@@ -99,8 +97,14 @@ module _ {State : Type 0} (goes : State → Deal → State → Type 0) (from to 
 
   -- as many frames go back as the share shrinks by
   less : share (cell_value parent (Some it) frames).leaves ≡ share (cell_value parent (Some (lost_at at it)) new).leaves + released.count
-  less = omega (arith, released.taken, sym (held-share parent (Some it) frames inside), sym (held-share parent (Some (lost_at at it)) new inside-lost),
-      sum_by-cons (λ k. cond (is_own k.leaf) 1 0) (kept_value no_versions it) [], sum_by-cons (λ k. cond (is_own k.leaf) 1 0) (kept_value no_versions (lost_at at it)) [])
+  less = omega (
+    arith,
+    released.taken,
+    sym (held-share parent (Some it) frames inside),
+    sym (held-share parent (Some (lost_at at it)) new inside-lost),
+    sum_by-cons (λ k. cond (is_own k.leaf) 1 0) (kept_value no_versions it) [],
+    sum_by-cons (λ k. cond (is_own k.leaf) 1 0) (kept_value no_versions (lost_at at it)) [],
+  )
 
   module _ (page place : ℕ) (small : page < 512) (there : version_at (table_places parent) page ≡ Some place)
       (named : is_named (cell_value parent (Some it) frames).leaves page place ≡ true) (unjoined : AreUnjoined (kept_values (table_places parent) (Some it))) where

@@ -1,6 +1,6 @@
 -- What a touch leaves of the pages and the snapshots of a cell.
-use Rattle.std.proofs.Common.{◌≡◌, ◌≢◌, ℕ, ◌<◌, List, [], ◌∷◌, Option, Some, None, refl, sym, ◌∙◌, ap, subst, arith, inl, inr, ◌⊎◌}
-use Rattle.std.specs.Prelude.{is_some, IsSome, Bool, true, false, cond, ◌==◌, ◌&&◌, ◌||◌, slice_index_or, Result, Ok, Err, OnOk}
+use Rattle.std.proofs.Common.{◌≡◌, ◌≢◌, ℕ, ◌<◌, List, [], ◌∷◌, Option, Some, None, refl, sym, ◌∙◌, ap, subst, inl, inr}
+use Rattle.std.specs.Prelude.{is_some, Bool, true, false, cond, ◌==◌, ◌&&◌, ◌||◌, slice_index_or, Result, Ok, Err, OnOk}
 use Rattle.std.specs.List.{list_any}
 use Rattle.std.specs.Option.{option_map}
 use Rattle.std.proofs.lemmas.Bool.{cases_eq, false≢true}
@@ -14,10 +14,10 @@ use Rattle.kernel_meaning.specs.CellAccount.{Touch}
 use Rattle.leaf_cell.specs.declared.snapshot.Snapshot.{Snapshot}
 use Rattle.leaf_cell.specs.declared.snapshot.LeafState.TheVariants as state
 use Rattle.leaf_cell.specs.CellView.{CellView, AreUnjoined, bytes_in, parent_page, page_or_zeros}
-use Rattle.leaf_cell.specs.Inside.{AreInside, table_places, own_places, snapshot_places, leaf_value, kept_value, kept_values, cell_value}
+use Rattle.leaf_cell.specs.Inside.{AreInside, table_places, own_places, snapshot_places, kept_value, kept_values, cell_value}
 use Rattle.leaf_cell.specs.Adding.{IsPut}
 use Rattle.leaf_cell.specs.Losing.{lost_at}
-use Rattle.leaf_cell.specs.Releasing.{IsLeafReleased, own_if}
+use Rattle.leaf_cell.specs.Releasing.{IsLeafReleased}
 use Rattle.leaf_cell.specs.Renaming.{IsNamedBy, IsLive}
 use Rattle.leaf_cell.specs.Standing.{MadeAct}
 use Rattle.leaf_cell.specs.States.{state_of}
@@ -25,7 +25,7 @@ use Rattle.leaf_cell.specs.Touching.{IsAlone, IsTouched, IsKeptOrLost, needs_cop
 use Rattle.leaf_cell.proofs.NewCell.{none_is_some, none_is_not_some}
 use Rattle.leaf_cell.proofs.Renamed.{eqb-refl}
 use Rattle.leaf_cell.proofs.InsideFacts.{same_some, are_filled}
-use Rattle.leaf_cell.proofs.PutPage.{room, table_here, table_apart, frame_here, frame_apart}
+use Rattle.leaf_cell.proofs.PutPage.{table_here, table_apart, frame_here, frame_apart}
 use Rattle.leaf_cell.proofs.TouchMade.{kept-unjoined}
 use Rattle.leaf_cell.proofs.PresentPage.{touch-in_place}
 use Rattle.leaf_cell.proofs.DropMade.{bytes-kept}
@@ -103,9 +103,9 @@ module _ (parent : Option Versions) (snapshot : Option Snapshot) (frames : List 
   still_alone p alone = elim (cases_eq p page) [
     | inl same ↦ subst (IsAlone after.leaves) (sym same) page_alone
     | inr apart ↦ record {
-        present = ap is_some (apart_table p apart) ∙ alone.present;
-        unnamed = λ version is named. alone.unnamed version (sym (apart_table p apart) ∙ is) (subst (IsNamedBy p version) same_kept named);
-      }
+      present = ap is_some (apart_table p apart) ∙ alone.present;
+      unnamed = λ version is named. alone.unnamed version (sym (apart_table p apart) ∙ is) (subst (IsNamedBy p version) same_kept named);
+    }
   ]
 
   still_reads : page_or_zeros (parent_page before page) ≡ bytes → (p : ℕ) → page_or_zeros (parent_page after p) ≡ page_or_zeros (parent_page before p)

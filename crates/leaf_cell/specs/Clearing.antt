@@ -1,5 +1,5 @@
 -- What is left of a table whose pages were taken out.
-use Rattle.std.specs.Prelude.{◌≡◌, ℕ, List, [], ◌∷◌, length, replicate, Option, Some, None, is_some, true, false, cond}
+use Rattle.std.specs.Prelude.{◌≡◌, ℕ, replicate, Option, Some, None, is_some, cond}
 use Rattle.vm_base.specs.Deals.{Deal, Returned, LeadsAlong}
 use Rattle.kernel_meaning.specs.Leaves.{Versions, without_versions, has_pages}
 

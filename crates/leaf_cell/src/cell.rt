@@ -9,7 +9,8 @@ ghost use Rattle.leaf_cell.specs.States.{state_of, nth_number, snapshot_part};
 
 use crate::leaf_table::{CELL_PAGES, LeafTable};
 use crate::lookups::{
-    count_frames, count_own, count_table, leaf_state, place_in, read_place, snapshot_place,
+    count_frames, count_own, count_table, covers_in, leaf_state, place_in, read_place,
+    snapshot_place,
 };
 use crate::snapshot::{LeafState, Snapshot};
 use std::alloc::Global;
@@ -134,10 +135,7 @@ impl Cell {
         ensures covers { result ≡ has_present self.now.leaves.parent first pages }
         ensures account { (account : CellAccount) → StandsFor self.now account → result ≡ has_present account.state.leaves.parent first pages }
     {
-        match &self.parent {
-            Some(table) => table.covers(first, pages),
-            None => false,
-        }
+        covers_in(&self.parent, first, pages)
     }
 
     /// The number of the nth snapshot here, counted from 0 in rising order.

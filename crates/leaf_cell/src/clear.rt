@@ -1,14 +1,16 @@
 //! Pages that leave the parent's side of a cell.
-ghost use Rattle.std.specs.Prelude.{◌≡◌, ◌+◌, ◌≤◌, None, false, true};
+ghost use Rattle.std.specs.Prelude.{◌≡◌, ◌+◌, ◌≤◌, None, IsSome, false, true};
 ghost use Rattle.kernel_meaning.specs.Leaves.{has_present};
 ghost use Rattle.kernel_meaning.specs.CellAccount.{Clear};
 ghost use Rattle.leaf_cell.specs.CellView.{AreUnjoined, held_of};
 ghost use Rattle.leaf_cell.specs.Clearing.{IsLeft, gone_if};
+ghost use Rattle.leaf_cell.specs.Inside.{table_places};
 ghost use Rattle.leaf_cell.specs.Standing.{MadeAct};
 ghost use Rattle.leaf_cell.specs.Touching.{IsCleared};
 
 use crate::cell::Cell;
 use crate::leaf_table::{CELL_PAGES, LeafTable};
+use crate::lookups::covers_in;
 use crate::release::release_range;
 use vm_base::Allot;
 
@@ -27,7 +29,7 @@ impl Cell {
         ensures cleared { IsCleared first pages self.old self.new }
         ensures unchanged { has_present self.old.leaves.parent first pages ≡ false → (self.new ≡ self.old) × (A.state allot.new ≡ A.state allot.old) }
     {
-        if self.covers(first, pages) {
+        if covers_in(&self.parent, first, pages) {
             self.clear_present(first, pages, allot);
         }
     }
@@ -45,17 +47,31 @@ impl Cell {
         ensures unrefused { A.refused (A.state allot.new) ≡ A.refused (A.state allot.old) }
         ensures cleared { IsCleared first pages self.old self.new }
     {
-        if let Some(table) = self.parent.take() {
-            release_range(
-                &table,
-                &self.snapshot,
-                &mut self.frames,
-                first,
-                pages,
-                allot,
-            );
-            self.parent = left_table(table, first, pages, allot);
-        }
+        release_range(
+            &self.parent,
+            &self.snapshot,
+            &mut self.frames,
+            first,
+            pages,
+            allot,
+        );
+        clear_table(&mut self.parent, first, pages, allot);
+    }
+}
+
+/// Takes the pages of a range out of the table, and the table too where it has no page left.
+fn clear_table<A: Allot>(parent: &mut Option<LeafTable>, first: u16, pages: u16, allot: &mut A)
+    requires range { first + pages ≤ CELL_PAGES }
+    requires there { IsSome parent.old }
+    requires out { 1 ≤ A.out (A.state allot.old) }
+    requires untold { A.grants allot.old ≡ None }
+    ensures left { IsLeft A.goes (A.state allot.old) (A.state allot.new) (table_places parent.old) first pages parent.new }
+    ensures out { A.out (A.state allot.new) + gone_if parent.new ≡ A.out (A.state allot.old) }
+    ensures untold { A.grants allot.new ≡ None }
+    ensures unrefused { A.refused (A.state allot.new) ≡ A.refused (A.state allot.old) }
+{
+    if let Some(table) = parent.take() {
+        *parent = left_table(table, first, pages, allot);
     }
 }
 

@@ -1,7 +1,7 @@
 //! Where the pages of a cell are.
 ghost use Rattle.std.specs.Prelude.{◌≡◌, ◌+◌, ◌<◌, ◌≤◌, length, count_by, is_some, take, drop, cond, [], Some, Ok, Err, OnOk, IfOk, IfErr, nat_eq};
 ghost use Rattle.std.specs.Option.{option_map, option_eq};
-ghost use Rattle.kernel_meaning.specs.Leaves.{version_at, no_versions, is_own, Joined};
+ghost use Rattle.kernel_meaning.specs.Leaves.{version_at, has_present, no_versions, is_own, Joined};
 ghost use Rattle.leaf_cell.specs.CellView.{bytes_in, part_of};
 ghost use Rattle.leaf_cell.specs.Inside.{table_places, snapshot_places, own_places, leaf_value, kept_values};
 ghost use Rattle.leaf_cell.specs.States.{unless_lost, leaf_state as leaf_state_of};
@@ -18,6 +18,17 @@ pub(crate) fn place_in(table: &Option<LeafTable>, page: u16) -> Option<u32>
     match table {
         Some(table) => table.get(page),
         None => None,
+    }
+}
+
+/// Whether a table, where there is one, has a page in a range of pages.
+pub(crate) fn covers_in(table: &Option<LeafTable>, first: u16, pages: u16) -> bool
+    requires { first + pages ≤ CELL_PAGES }
+    ensures { result ≡ has_present (table_places table.now) first pages }
+{
+    match table {
+        Some(table) => table.covers(first, pages),
+        None => false,
     }
 }
 

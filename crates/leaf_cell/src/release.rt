@@ -59,9 +59,10 @@ fn release_pages<A: Allot>(
     }
 }
 
-/// Gives back the frames of a range of pages that a table names and the snapshot's own does not.
+/// Gives back the frames of a range of pages that the parent names and the snapshot's own
+/// table does not.
 pub(crate) fn release_range<A: Allot>(
-    table: &LeafTable,
+    parent: &Option<LeafTable>,
     snapshot: &Option<Snapshot>,
     frames: &mut Vec<Option<Frame>>,
     first: u16,
@@ -70,17 +71,22 @@ pub(crate) fn release_range<A: Allot>(
 )
     requires range { first + pages ≤ CELL_PAGES }
     requires size { length frames.old.items ≡ 1024 }
-    requires home { AreHome table.now }
+    requires home { AreHome (table_places parent.now) }
     requires others { AreHome (own_places snapshot.now) }
     requires out { count_by is_some frames.old.items ≤ A.out (A.state allot.old) }
     requires untold { A.grants allot.old ≡ None }
-    ensures released { Releasing A.goes (A.state allot.old) (A.state allot.new) table.now (own_places snapshot.now) frames.old.items frames.new.items first (first + pages) }
+    ensures released { Releasing A.goes (A.state allot.old) (A.state allot.new) (table_places parent.now) (own_places snapshot.now) frames.old.items frames.new.items first (first + pages) }
     ensures out { A.out (A.state allot.new) + count_by is_some frames.old.items ≡ A.out (A.state allot.old) + count_by is_some frames.new.items }
     ensures untold { A.grants allot.new ≡ None }
     ensures unrefused { A.refused (A.state allot.new) ≡ A.refused (A.state allot.old) }
 {
     for page in first..first + pages {
-        release_page(table.get(page), own_place(snapshot, page), frames, allot);
+        release_page(
+            place_in(parent, page),
+            own_place(snapshot, page),
+            frames,
+            allot,
+        );
     }
 }
 

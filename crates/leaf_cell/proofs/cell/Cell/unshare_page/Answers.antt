@@ -1,13 +1,11 @@
-use Rattle.std.proofs.Common.{◌≡◌, ◌∙◌, ◌+◌, ℕ, sym, ap, subst, refl, [], ◌∷◌, Option, Some, None}
-use Rattle.std.specs.Prelude.{true}
+use Rattle.std.proofs.Common.{◌≡◌, ◌∙◌, ◌+◌, ℕ, sym, ap, subst, refl, [], ◌∷◌, Some, None}
 use Rattle.vm_base.specs.declared.frame_request.Want.TheVariants as want
 use Rattle.vm_base.specs.Deals.{Granted}
 use Rattle.kernel_meaning.specs.Leaves.{version_at, is_named}
 use Rattle.kernel_meaning.specs.CellAccount.{Touch}
 use Rattle.leaf_cell.specs.declared.snapshot.Snapshot.{Snapshot}
-use Rattle.leaf_cell.specs.CellView.{CellView, AreUnjoined, held_of, bytes_in, page_or_zeros}
-use Rattle.leaf_cell.specs.Inside.{AreInside, table_places, own_places, cell_value}
-use Rattle.leaf_cell.specs.Losing.{lost_at}
+use Rattle.leaf_cell.specs.CellView.{AreUnjoined, held_of, bytes_in, page_or_zeros}
+use Rattle.leaf_cell.specs.Inside.{AreInside, table_places, cell_value}
 use Rattle.leaf_cell.specs.Standing.{MadeAct}
 use Rattle.leaf_cell.specs.Touching.{IsTouched}
 use Rattle.leaf_cell.proofs.LossMade.{made-lost, inside-lost}
