@@ -1,6 +1,6 @@
 -- What a touch leaves of the pages and the snapshots of a cell.
 use Rattle.std.proofs.Common.{◌≡◌, ◌≢◌, ℕ, ◌<◌, List, [], ◌∷◌, Option, Some, None, refl, sym, ◌∙◌, ap, subst, inl, inr}
-use Rattle.std.specs.Prelude.{is_some, Bool, true, false, cond, ◌==◌, ◌&&◌, ◌||◌, slice_index_or, Result, Ok, Err, OnOk}
+use Rattle.std.specs.Prelude.{is_some, Bool, true, false, ◌&&◌, ◌||◌, slice_index_or, Result, Ok, Err, OnOk}
 use Rattle.std.specs.List.{list_any}
 use Rattle.std.specs.Option.{option_map}
 use Rattle.std.proofs.lemmas.Bool.{cases_eq, false≢true}
@@ -9,18 +9,16 @@ use Rattle.vm_base.specs.Deals.{Deal}
 use Rattle.vm_base.specs.declared.refusals.Refused.{Refused as RefusedRequest}
 use Rattle.vm_base.specs.Frames.{FrameView}
 use Rattle.vm_base.specs.FlatMemory.{zero_page}
-use Rattle.kernel_meaning.specs.Leaves.{Versions, no_versions, version_at, is_own, is_joined, is_lost, Leaf, Own, Joined, Lost, Kept, holds_number, names_version, is_named, kept_by}
+use Rattle.kernel_meaning.specs.Leaves.{Versions, no_versions, version_at, is_own, is_joined, is_lost, Leaf, Own, Joined, Lost, Kept, holds_number, names_version, is_named}
 use Rattle.kernel_meaning.specs.CellAccount.{Touch}
 use Rattle.leaf_cell.specs.declared.snapshot.Snapshot.{Snapshot}
-use Rattle.leaf_cell.specs.declared.snapshot.LeafState.TheVariants as state
 use Rattle.leaf_cell.specs.CellView.{CellView, AreUnjoined, bytes_in, parent_page, page_or_zeros}
-use Rattle.leaf_cell.specs.Inside.{AreInside, table_places, own_places, snapshot_places, kept_value, kept_values, cell_value}
+use Rattle.leaf_cell.specs.Inside.{AreInside, table_places, own_places, snapshot_places, kept_values, cell_value}
 use Rattle.leaf_cell.specs.Adding.{IsPut}
 use Rattle.leaf_cell.specs.Losing.{lost_at}
 use Rattle.leaf_cell.specs.Releasing.{IsLeafReleased}
 use Rattle.leaf_cell.specs.Renaming.{IsNamedBy, IsLive}
 use Rattle.leaf_cell.specs.Standing.{MadeAct}
-use Rattle.leaf_cell.specs.States.{state_of}
 use Rattle.leaf_cell.specs.Touching.{IsAlone, IsTouched, AreKeptOrLost, needs_copy, is_named_too}
 use Rattle.leaf_cell.proofs.NewCell.{none_is_some, none_is_not_some}
 use Rattle.leaf_cell.proofs.Renamed.{eqb-refl}
