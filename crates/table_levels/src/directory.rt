@@ -2,9 +2,9 @@
 ghost use Rattle.std.specs.Prelude.{◌≡◌, ◌+◌, ◌<◌, ◌≤◌, ◌^◌, None, Some, IfOk, OnOk, OnErr, replicate, length};
 ghost use Rattle.table_levels.specs.Walks.{entry_in, middle_at, NamesUppers};
 ghost use Rattle.std.specs.FinMap as map;
-ghost use Rattle.vm_base.specs.Deals.{LeadsAlong};
+ghost use Rattle.vm_base.specs.Deals.{LeadsAlong, Counts};
 ghost use Rattle.table_levels.specs.Cells.{tables_of};
-ghost use Rattle.table_levels.specs.Requests.{missing_tables, returned, Asks, Counts};
+ghost use Rattle.table_levels.specs.Requests.{missing_tables, returned, Asks};
 
 use crate::frames::{Wanted, give_all, give_back, take_fresh};
 use crate::linking::link;
