@@ -14,7 +14,7 @@ use Rattle.table_levels.specs.Cells.{CellMap}
 use Rattle.table_levels.specs.Requests.{shares, unless, missing_tables, wanted_if, wanted_tables}
 use Rattle.table_levels.specs.Walks.{Place, Levels, entry_in, table_at, middle_of, slot_of, cells_of, IsDirectory}
 use Rattle.table_levels.proofs.CellLemmas.{get_below, get_beyond}
-use Rattle.table_levels.proofs.Counting.{shares_from, shares_to}
+use Rattle.table_levels.proofs.Counting.{shares_from, shares_to, missing_beside}
 
 bool_same : (a b : Bool) → (a ≡ true → b ≡ true) → (b ≡ true → a ≡ true) → a ≡ b
 bool_same true true to back = refl
@@ -127,7 +127,7 @@ wanted_are_missing levels n directory cell below absent = by_keys (keys (cells_o
         let middle : shares (2 ^ 9) (k ∷ ks) cell ≡ false = ap (λ l. shares (2 ^ 9) l cell) (sym at) ∙ middle_shared levels n directory cell below ∙ ap is_some absent in
         ap (λ b. wanted_if (not b) Top ++ (wanted_if (not (is_some (entry_in levels.top (cell / 512 / 512)))) Upper ++ Middle ∷ [])) (top_there levels k ks at)
         ∙ ap (λ l. l ++ Middle ∷ []) (wanted_unless (is_some (entry_in levels.top (cell / 512 / 512))) Upper ∙ ap (λ b. unless b Upper) (sym upper))
-        ∙ ap (λ b. unless (shares (2 ^ 18) (k ∷ ks) cell) Upper ++ unless b Middle) (sym middle)
+        ∙ ap (λ b. unless (shares (2 ^ 18) (k ∷ ks) cell) Upper ++ unless b Middle) (sym middle) ∙ sym (missing_beside k ks cell)
 
 pub nothing_missing : (levels : Levels) (n : ℕ) → IsDirectory levels n → (cell : ℕ) → cell < 2 ^ 27 → IsSome (middle_of levels (cell / 512)) → missing_tables (keys (cells_of levels)) cell ≡ []
 nothing_missing levels n directory cell below there = by_keys (keys (cells_of levels)) refl
@@ -139,4 +139,4 @@ nothing_missing levels n directory cell below there = by_keys (keys (cells_of le
     by_keys (k ∷ ks) at =
         let upper : shares (2 ^ 18) (k ∷ ks) cell ≡ true = ap (λ l. shares (2 ^ 18) l cell) (sym at) ∙ upper_shared levels n directory cell below ∙ upper_of_middle levels (cell / 512) there in
         let middle : shares (2 ^ 9) (k ∷ ks) cell ≡ true = ap (λ l. shares (2 ^ 9) l cell) (sym at) ∙ middle_shared levels n directory cell below ∙ there in
-        ap (λ b. unless b Upper ++ unless (shares (2 ^ 9) (k ∷ ks) cell) Middle) upper ∙ ap (λ b. unless b Middle) middle
+        missing_beside k ks cell ∙ ap (λ b. unless b Upper ++ unless (shares (2 ^ 9) (k ∷ ks) cell) Middle) upper ∙ ap (λ b. unless b Middle) middle
