@@ -26,7 +26,7 @@ abbrev parts : ℕ → List (ℕ × ℕ) → List ℕ
 parts span es = map (λ c. c / span) (map (λ e. e.0) es)
 
 -- 1 unless the test holds
-abbrev unless_one : Bool → ℕ
+abbrev pub unless_one : Bool → ℕ
 unless_one b = cond b 0 1
 
 length-distinct : (x : ℕ) (xs : List ℕ) → length (distinct (x ∷ xs)) ≡ length (distinct xs) + unless_one (member x xs)

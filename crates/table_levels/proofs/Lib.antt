@@ -9,3 +9,6 @@ pub mod Inserted
 pub mod Linked
 pub mod Giving
 pub mod First
+pub mod Removed
+pub mod Unlinked
+pub mod LessCells

@@ -19,6 +19,17 @@ pub(crate) struct Unused {
 }
 
 impl Unused {
+    /// No table.
+    fn none() -> Unused
+        ensures { tables_at (result.top ∷ result.upper ∷ result.middle ∷ []) ≡ 0 }
+    {
+        Unused {
+            top: None,
+            upper: None,
+            middle: None,
+        }
+    }
+
     /// How many they are.
     pub(crate) fn count(&self) -> u32
         ensures { result ≡ tables_at (self.now.top ∷ self.now.upper ∷ self.now.middle ∷ []) }
@@ -81,17 +92,18 @@ pub(crate) fn unlink(
     ensures unlinked { UnlinksCell (levels_of top.old uppers.old.items middles.old.items) (levels_of top.new uppers.new.items middles.new.items) cell (tables_at (result.top ∷ result.upper ∷ result.middle ∷ [])) }
 {
     let index = cell / ENTRIES as u32;
-    let middle = match place_of(top, uppers, index) {
-        Some(place) => take_entry(&mut middles[place as usize], cell as usize % ENTRIES),
-        None => None,
+    let Some(place) = place_of(top, uppers, index) else {
+        return Unused::none();
     };
-    if middle.is_none() {
-        return Unused {
-            top: None,
-            upper: None,
-            middle,
-        };
+    match take_entry(&mut middles[place as usize], cell as usize % ENTRIES) {
+        Some(middle) => {
+            let (top, upper) = unlink_middle(top, uppers, index);
+            Unused {
+                top,
+                upper,
+                middle: Some(middle),
+            }
+        }
+        None => Unused::none(),
     }
-    let (top, upper) = unlink_middle(top, uppers, index);
-    Unused { top, upper, middle }
 }
