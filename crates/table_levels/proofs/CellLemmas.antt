@@ -67,6 +67,13 @@ one_more_cell n old new cell slot below here others = same_numbered _ _ (λ c. e
 pub get_removed : (m : CellMap) (k q : ℕ) → get (remove m k) q ≡ cond (eqb q k) None (get m q)
 get_removed m k q = get-remove nat_cmp_total m k q ∙ ap (λ b. cond b None (get m q)) (grind (arith, nat_tests))
 
+-- to take out what is not there changes nothing
+pub remove_absent : (m : CellMap) (k : ℕ) → get m k ≡ None → remove m k ≡ m
+remove_absent m k absent = same_numbered _ _ (λ q. elim (cases_eq q k) [
+  | inl same ↦ get_removed m k q ∙ cond-true (eqb q k) None (get m q) (eq-eqb q k same) ∙ sym (ap (get m) same ∙ absent)
+  | inr apart ↦ get_removed m k q ∙ cond-false (eqb q k) None (get m q) (ne_eqb q k apart)
+])
+
 -- one cell less
 pub one_cell_less : (n : ℕ) (old new : ℕ → Option ℕ) (cell : ℕ) → new cell ≡ None → ((c : ℕ) → c < n → (c ≡ cell → ⊥) → new c ≡ old c)
     → cells_below n new ≡ remove (cells_below n old) cell

@@ -20,6 +20,10 @@ pub some_is : {X : Type 0} (found : Option X) → IsSome found → (x : X) × (f
 some_is None there = absurd (false≢true there)
 some_is (Some x) there = (x, refl)
 
+pub none_is : {X : Type 0} (found : Option X) → is_some found ≡ false → found ≡ None
+none_is None none = refl
+none_is (Some x) none = absurd (false≢true (sym none))
+
 pub more_at : (p q : Place) (table : FrameView) → tables_at (p ∷ q ∷ Some table ∷ []) ≡ tables_at (p ∷ q ∷ []) + 1
 more_at None None table = refl
 more_at None (Some b) table = refl
