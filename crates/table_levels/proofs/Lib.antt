@@ -12,3 +12,4 @@ pub mod First
 pub mod Removed
 pub mod Unlinked
 pub mod LessCells
+pub mod Copied

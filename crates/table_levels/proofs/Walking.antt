@@ -59,7 +59,7 @@ no_levels uppers middles = no_cells (2 ^ 27) (slot_of (bare uppers middles)) (λ
 abbrev free : Place
 free = None
 
-tables_at-free : (n : ℕ) → tables_at (replicate n free) ≡ 0
+pub tables_at-free : (n : ℕ) → tables_at (replicate n free) ≡ 0
 tables_at-free zero = refl
 tables_at-free (suc n) = tables_at-free n
 
