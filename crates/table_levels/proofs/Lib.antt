@@ -13,3 +13,4 @@ pub mod Removed
 pub mod Unlinked
 pub mod LessCells
 pub mod Copied
+pub mod CopiedLevels

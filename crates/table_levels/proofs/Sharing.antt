@@ -108,12 +108,12 @@ no_entry : (p : Place) (i : ℕ) → is_some p ≡ false → is_some (entry_in p
 no_entry None i none = refl
 no_entry (Some table) i none = absurd (true≢false none)
 
-top_there : (levels : Levels) (c : ℕ) (cs : List ℕ) → keys (cells_of levels) ≡ c ∷ cs → is_some levels.top ≡ true
+pub top_there : (levels : Levels) (c : ℕ) (cs : List ℕ) → keys (cells_of levels) ≡ c ∷ cs → is_some levels.top ≡ true
 top_there levels c cs some =
     let known = cell_of_key levels c (first_key (cells_of levels) c cs some) in
     table_of_entry levels.top (c / 512 / 512) (upper_of_middle levels (c / 512) (middle_of_slot levels c known.1))
 
-top_absent : (levels : Levels) → IsUsed levels → keys (cells_of levels) ≡ [] → is_some levels.top ≡ false
+pub top_absent : (levels : Levels) → IsUsed levels → keys (cells_of levels) ≡ [] → is_some levels.top ≡ false
 top_absent levels directory none = elim (cases_Bool (is_some levels.top)) [
   | inl there ↦
       let used = directory.top_used there in
