@@ -14,3 +14,4 @@ pub mod Unlinked
 pub mod LessCells
 pub mod Copied
 pub mod CopiedLevels
+pub mod FoundFirst

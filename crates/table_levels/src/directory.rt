@@ -19,9 +19,6 @@ use vm_base::{Allot, Frame, NoMemory, Refused, Want};
 /// How many cells a directory may have.
 const MOST_CELLS: usize = 512;
 
-/// How many cells there are in all.
-const CELLS: u32 = 1 << 27;
-
 /// A directory, seen as a finite map from cells to slots. An upper table lies at the place of its
 /// index in the top table, a middle table at a place that was free.
 #[derive(Debug, Drop)]
@@ -123,9 +120,6 @@ impl Directory {
     pub fn at_or_after(&self, cell: u32) -> Option<(u32, u32)>
         ensures { result ≡ first_from self.now cell }
     {
-        if cell >= CELLS {
-            return None;
-        }
         first_slot(&self.top, &self.uppers, &self.middles, cell)
     }
 

@@ -11,6 +11,9 @@ use vm_base::Frame;
 /// How many middle tables there may be.
 const MIDDLES: u32 = 1 << 18;
 
+/// How many cells there may be.
+const CELLS: u32 = 1 << 27;
+
 /// The first entry of a table from an index on, if the table is there.
 pub(crate) fn first_entry(table: &Option<Frame>, from: usize) -> Option<(usize, u32)>
     ensures { IsFirst 512 (entry_in table.now) from result }
@@ -79,10 +82,12 @@ pub(crate) fn first_slot(
     middles: &[Option<Frame>],
     from: u32,
 ) -> Option<(u32, u32)>
-    requires cell { from < 2 ^ 27 }
-    requires directory { AreDirectory (levels_of top.now uppers.now middles.now) }
+    requires { AreDirectory (levels_of top.now uppers.now middles.now) }
     ensures { IsFirst (2 ^ 27) (slot_of (levels_of top.now uppers.now middles.now)) from result }
 {
+    if from >= CELLS {
+        return None;
+    }
     if let Some(found) = first_beside(top, uppers, middles, from) {
         return Some(found);
     }
