@@ -1,11 +1,11 @@
 -- Maps of the cells that a look-up finds.
-use Rattle.std.proofs.Common.{◌≡◌, ℕ, zero, suc, ◌+◌, ◌<◌, ◌≤◌, Bool, true, false, cond, eqb, ltb, Some, None, Option, refl, sym, ◌∙◌, ap, arith, inl, inr}
+use Rattle.std.proofs.Common.{◌≡◌, ℕ, zero, suc, ◌<◌, ◌≤◌, cond, eqb, ltb, Some, None, Option, refl, sym, ◌∙◌, ap, arith, inl, inr}
 use Rattle.std.specs.Ordering.{nat_cmp}
 use Rattle.std.specs.Cmp.{nat_cmp_total}
-use Rattle.std.specs.FinMap.{FinMap, get, insert, remove, empty, get-empty, get-remove}
+use Rattle.std.specs.FinMap.{get, insert, remove, empty, get-empty, get-remove}
 use Rattle.std.proofs.lemmas.Bool.{cases_lt, cases_eq, cond-true, cond-false, lt-ltb, le-ltb, eq-eqb, ne_eqb}
 use Rattle.std.proofs.lemmas.Bool.Decides.{nat_tests}
-use Rattle.vm_base.proofs.NumberedMaps.{get_inserted, get_inserted_here, get_inserted_apart, same_numbered}
+use Rattle.vm_base.proofs.NumberedMaps.{get_inserted_here, get_inserted_apart, same_numbered}
 use Rattle.table_levels.specs.Cells.{CellMap, with_cell, cells_below}
 
 more_below : (n : ℕ) (look : ℕ → Option ℕ) (c : ℕ) (found : Option ℕ) → look n ≡ found → get (cells_below n look) c ≡ cond (ltb c n) (look c) None

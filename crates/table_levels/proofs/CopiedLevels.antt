@@ -1,9 +1,9 @@
 -- A directory that was copied, and one without cells.
-use Rattle.std.proofs.Common.{◌≡◌, ℕ, ◌+◌, ◌/◌, ◌%◌, ◌^◌, ◌<◌, true, false, List, [], ◌∷◌, ◌++◌, map, length, replicate, Some, None, Option, refl, sym, ◌∙◌, ap, subst, arith}
-use Rattle.std.specs.Prelude.{IsSome, is_some}
+use Rattle.std.proofs.Common.{◌≡◌, ℕ, ◌+◌, ◌/◌, ◌%◌, ◌^◌, List, [], ◌∷◌, ◌++◌, map, length, replicate, Some, None, Option, refl, sym, ◌∙◌, ap, subst, arith}
+use Rattle.std.specs.Prelude.{IsSome}
 use Rattle.std.specs.Option.{option_and_then}
 use Rattle.std.specs.FinMap.{empty, keys}
-use Rattle.std.proofs.lemmas.Bool.{false≢true, true≢false}
+use Rattle.std.proofs.lemmas.Bool.{false≢true}
 use Rattle.vm_base.specs.declared.frame_request.Want.TheVariants.{Top, Upper, Middle}
 use Rattle.vm_base.specs.Places.{distinct, directory_frames}
 use Rattle.table_levels.specs.Tables.{entry_at}
@@ -14,7 +14,7 @@ use Rattle.table_levels.specs.Copies.{Copies, bytes_in}
 use Rattle.table_levels.proofs.CellLemmas.{same_cells}
 use Rattle.table_levels.proofs.Counting.{tables_of-empty}
 use Rattle.table_levels.proofs.Links.{tables_at-cons, some_counts}
-use Rattle.table_levels.proofs.Sharing.{used, top_there, top_absent}
+use Rattle.table_levels.proofs.Sharing.{top_there}
 use Rattle.table_levels.proofs.Unlinked.{counted_none}
 use Rattle.table_levels.proofs.Copied.{same_counted}
 
@@ -75,13 +75,13 @@ module _ (new old : Levels) (n : ℕ) (directory : IsDirectory old n) (copies : 
         let under = directory.middle_used index below (subst IsSome (middle_same index) there) in
         (under.0, under.1, under.2, subst IsSome (sym (slot_same under.0)) under.3);
     counted = omega (
-        arith,
-        directory.counted,
-        tables_at-cons new.top new.uppers,
-        tables_at-cons old.top old.uppers,
-        same_counted new.top old.top copies.top,
-        copies.uppers.counted,
-        copies.middles.counted,
+      arith,
+      directory.counted,
+      tables_at-cons new.top new.uppers,
+      tables_at-cons old.top old.uppers,
+      same_counted new.top old.top copies.top,
+      copies.uppers.counted,
+      copies.middles.counted,
     );
     taken = directory.taken ∙ ap tables_of (sym cells_copied);
     middles_taken = copies.middles.counted ∙ directory.middles_taken ∙ ap middle_tables_of (sym cells_copied);

@@ -1,7 +1,7 @@
 -- The first cell from a cell on, through the levels.
-use Rattle.std.proofs.Common.{◌≡◌, ◌≢◌, ℕ, ◌+◌, ◌*◌, ◌/◌, ◌%◌, ◌^◌, ◌<◌, ◌≤◌, Some, None, Option, refl, sym, ◌∙◌, ap, subst, arith, inl, inr}
+use Rattle.std.proofs.Common.{◌≡◌, ℕ, ◌+◌, ◌*◌, ◌/◌, ◌%◌, ◌^◌, ◌<◌, Some, None, Option, refl, sym, ◌∙◌, ap, subst, arith, inl, inr}
 use Rattle.std.specs.Prelude.{IsSome}
-use Rattle.std.proofs.lemmas.Bool.{cases_lt, cases_eq, false≢true}
+use Rattle.std.proofs.lemmas.Bool.{cases_lt, false≢true}
 use Rattle.table_levels.specs.First.{IsFirst}
 use Rattle.table_levels.specs.Cells.{first_from}
 use Rattle.table_levels.specs.Walks.{Levels, entry_in, table_at, middle_of, slot_of, cells_of, IsDirectory}
@@ -14,8 +14,7 @@ pub beside_some : (levels : Levels) (from place i slot : ℕ) → middle_of leve
     → IsFirst ((from / 512 + 1) * 512) (slot_of levels) from (Some (from / 512 * 512 + i, slot))
 beside_some levels from place i slot at first =
     let upper : (from / 512 * 512 + i) / 512 ≡ from / 512 = omega (arith, first.1) in
-    let lower : (from / 512 * 512 + i) % 512 ≡ i = omega (arith, first.1) in
-    (
+    let lower : (from / 512 * 512 + i) % 512 ≡ i = omega (arith, first.1) in (
       omega (arith, first.0),
       omega (arith, first.1),
       slot_there levels (from / 512 * 512 + i) place (ap (middle_of levels) upper ∙ at) ∙ ap (entry_in (table_at levels.middles place)) lower ∙ first.2,
@@ -35,8 +34,7 @@ pub later_some : (levels : Levels) (from index place i slot : ℕ) → IsFirst (
     → IsFirst 512 (entry_in (table_at levels.middles place)) 0 (Some (i, slot)) → IsFirst (2 ^ 27) (slot_of levels) from (Some (index * 512 + i, slot))
 later_some levels from index place i slot none next first =
     let upper : (index * 512 + i) / 512 ≡ index = omega (arith, first.1) in
-    let lower : (index * 512 + i) % 512 ≡ i = omega (arith, first.1) in
-    (
+    let lower : (index * 512 + i) % 512 ≡ i = omega (arith, first.1) in (
       omega (arith, next.0),
       omega (arith, next.1, first.1),
       slot_there levels (index * 512 + i) place (ap (middle_of levels) upper ∙ next.2) ∙ ap (entry_in (table_at levels.middles place)) lower ∙ first.2,

@@ -1,17 +1,16 @@
 -- A cell is unlinked.
-use Rattle.std.proofs.Common.{◌≡◌, ◌≢◌, ℕ, ◌+◌, ◌/◌, ◌%◌, ◌^◌, ◌<◌, ◌≤◌, false, not, List, [], ◌∷◌, length, Some, None, Option, refl, sym, ◌∙◌, ap, subst, arith, inl, inr}
+use Rattle.std.proofs.Common.{◌≡◌, ℕ, ◌+◌, ◌/◌, ◌%◌, ◌^◌, ◌<◌, false, not, List, [], ◌∷◌, length, Some, None, Option, refl, sym, ◌∙◌, ap, subst, arith, inl, inr}
 use Rattle.std.proofs.Math.ListN.{set, length-set}
 use Rattle.std.specs.Prelude.{IsSome, is_some}
 use Rattle.std.specs.Option.{option_and_then}
 use Rattle.std.proofs.lemmas.Bool.{false≢true}
 use Rattle.vm_base.specs.Frames.{FrameView}
-use Rattle.table_levels.specs.declared.frames.Wanted.{Wanted}
 use Rattle.table_levels.specs.Requests.{wanted_tables}
-use Rattle.table_levels.specs.Walks.{Place, Levels, entry_in, table_at, tables_at, tables_in, levels_of, middle_of, slot_of, AreDirectory}
+use Rattle.table_levels.specs.Walks.{Place, entry_in, table_at, tables_at, tables_in, levels_of, middle_of, slot_of, AreDirectory}
 use Rattle.table_levels.specs.Links.{SetsIn, IsInUse, DropsMiddle, UnlinksCell, wanted_at, wanted_for}
-use Rattle.table_levels.proofs.Links.{table_at-set_here, table_at-set_other, tables_at-set, tables_at-cons, some_counts}
+use Rattle.table_levels.proofs.Links.{table_at-set_here, table_at-set_other, tables_at-set, some_counts}
 use Rattle.table_levels.proofs.Counting.{unless_one}
-use Rattle.table_levels.proofs.Sharing.{nothing_missing, upper_of_middle}
+use Rattle.table_levels.proofs.Sharing.{nothing_missing}
 use Rattle.table_levels.proofs.Linked.{wanted_for_used}
 use Rattle.table_levels.proofs.Removed.{Removes, cells_removed, removed_used, directory_removed}
 use Rattle.table_levels.proofs.Unlinked.{upper_named}

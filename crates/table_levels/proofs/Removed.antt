@@ -1,5 +1,5 @@
 -- A directory with one cell less.
-use Rattle.std.proofs.Common.{◌≡◌, ◌≢◌, ℕ, ◌+◌, ◌*◌, ◌/◌, ◌%◌, ◌^◌, ◌<◌, ◌≤◌, ◌⊎◌, cond, List, [], ◌∷◌, length, Some, None, Option, refl, sym, ◌∙◌, ap, subst, arith, inl, inr}
+use Rattle.std.proofs.Common.{◌≡◌, ◌≢◌, ℕ, ◌+◌, ◌*◌, ◌/◌, ◌%◌, ◌^◌, ◌<◌, ◌⊎◌, cond, length, Some, None, Option, refl, sym, ◌∙◌, ap, subst, arith, inl, inr}
 use Rattle.std.specs.Prelude.{IsSome, is_some}
 use Rattle.std.specs.Option.{option_and_then}
 use Rattle.std.specs.FinMap.{get, insert, remove, keys}
@@ -7,11 +7,11 @@ use Rattle.std.proofs.lemmas.Bool.{cases_eq, ne_eqb, false≢true}
 use Rattle.vm_base.proofs.NumberedMaps.{get_inserted_here, get_inserted_apart, same_numbered}
 use Rattle.table_levels.specs.Cells.{CellMap, tables_of, middle_tables_of}
 use Rattle.table_levels.specs.Requests.{shares, missing_tables, wanted_tables}
-use Rattle.table_levels.specs.Walks.{Place, Levels, entry_in, table_at, tables_at, tables_in, middle_of, slot_of, cells_of, NamesUppers, AreNamed, IsDirectory}
+use Rattle.table_levels.specs.Walks.{Levels, entry_in, table_at, tables_at, tables_in, middle_of, slot_of, cells_of, NamesUppers, AreNamed, IsDirectory}
 use Rattle.table_levels.specs.Links.{IsInUse, wanted_for}
-use Rattle.table_levels.proofs.CellLemmas.{one_cell_less, get_removed, get_below}
+use Rattle.table_levels.proofs.CellLemmas.{one_cell_less, get_removed}
 use Rattle.table_levels.proofs.Counting.{unless_one, tables_of-insert, middle_tables_of-insert}
-use Rattle.table_levels.proofs.Sharing.{IsUsed, middle_shared, middle_of_slot}
+use Rattle.table_levels.proofs.Sharing.{IsUsed, middle_shared}
 use Rattle.table_levels.proofs.Linked.{wanted_for_used}
 use Rattle.table_levels.proofs.Walking.{middle_under, slot_under_middle, slot_there, get-cells_of}
 

@@ -27,11 +27,7 @@ pub(crate) fn first_entry(table: &Option<Frame>, from: usize) -> Option<(usize, 
 }
 
 /// The first middle table from an index on, by its index in all and its place.
-fn first_middle(
-    top: &Option<Frame>,
-    uppers: &[Option<Frame>],
-    from: u32,
-) -> Option<(u32, u32)>
+fn first_middle(top: &Option<Frame>, uppers: &[Option<Frame>], from: u32) -> Option<(u32, u32)>
     requires places { length uppers.now ≡ 512 }
     requires names { NamesUppers top.now uppers.now }
     requires named { AreNamed top.now uppers.now }

@@ -1,5 +1,5 @@
 -- One table more is copied, or refused, and those before it given back.
-use Rattle.std.proofs.Common.{◌≡◌, ◌+◌, ◌<◌, ◌≤◌, ◌∷◌, [], length, take, get_or, replicate, None, refl, sym, ◌∙◌, ap, subst, arith}
+use Rattle.std.proofs.Common.{◌≡◌, ◌+◌, ◌<◌, ◌∷◌, [], length, take, get_or, replicate, refl, sym, ◌∙◌, ap, subst, arith}
 use Rattle.std.proofs.lemmas.List.{length-replicate}
 use Rattle.vm_base.specs.Deals.{LeadsAlong}
 use Rattle.table_levels.specs.Requests.{granted, RefusesOne}
@@ -7,7 +7,7 @@ use Rattle.table_levels.specs.Copies.{bytes_in}
 use Rattle.table_levels.specs.Walks.{Place, table_at, tables_at}
 use Rattle.table_levels.proofs.Giving.{free, tables_at-take}
 use Rattle.table_levels.proofs.Walking.{table_at-free, tables_at-free}
-use Rattle.table_levels.proofs.Copied.{CopiesFirst, replicate-append, grants_more, copies_more, copies_all, refuses_level}
+use Rattle.table_levels.proofs.Copied.{replicate-append, grants_more, copies_more, copies_all, refuses_level}
 use Rattle.table_levels.proofs.copying.copy_level.Goals as goal
 
 pub loop-i-init : goal.loop-i-init

@@ -4,7 +4,7 @@ use Rattle.std.proofs.lemmas.List.{length-replicate}
 use Rattle.vm_base.specs.declared.frame_request.Want.TheVariants.{Upper, Middle}
 use Rattle.table_levels.specs.Walks.{tables_at}
 use Rattle.table_levels.proofs.Asking.{refuses_after}
-use Rattle.table_levels.proofs.Copied.{grants_more, refuses_before}
+use Rattle.table_levels.proofs.Copied.{grants_more}
 use Rattle.table_levels.proofs.copying.copy_lower.Goals as goal
 
 pub returns-in-Ok-copy_level-clause-requests : goal.returns-in-Ok-copy_level-clause-requests

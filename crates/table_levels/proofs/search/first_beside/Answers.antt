@@ -1,5 +1,5 @@
 -- The slots of one middle table.
-use Rattle.std.proofs.Common.{◌≡◌, ◌/◌, ◌%◌, ◌^◌, ◌<◌, Some, None, length, sym, ◌∙◌, ap, subst, arith}
+use Rattle.std.proofs.Common.{◌≡◌, ◌/◌, ◌%◌, ◌^◌, ◌<◌, Some, None, length, sym, ◌∙◌, subst, arith}
 use Rattle.table_levels.specs.First.{IsFirst}
 use Rattle.table_levels.specs.Walks.{entry_in, levels_of, middle_of, table_at}
 use Rattle.table_levels.proofs.Walking.{table_at-get}

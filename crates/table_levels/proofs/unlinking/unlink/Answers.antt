@@ -1,11 +1,10 @@
 -- The slot goes, and the tables that are left without an entry.
-use Rattle.std.proofs.Common.{◌≡◌, ◌+◌, ◌/◌, ◌%◌, ◌^◌, ◌<◌, ◌∷◌, [], None, Some, length, refl, sym, ◌∙◌, ap, subst, arith, inl, inr}
+use Rattle.std.proofs.Common.{◌≡◌, ◌+◌, ◌/◌, ◌%◌, ◌^◌, ◌<◌, ◌∷◌, [], None, Some, sym, ◌∙◌, ap, subst, arith}
 use Rattle.std.proofs.Math.ListN.{set}
 use Rattle.std.specs.Prelude.{IsSome}
-use Rattle.table_levels.specs.Walks.{Place, Levels, levels_of, middle_of, middle_at, slot_of, table_at, tables_at, NamesUppers}
+use Rattle.table_levels.specs.Walks.{levels_of, middle_of, middle_at, slot_of, table_at, tables_at, NamesUppers}
 use Rattle.table_levels.specs.Links.{SetsIn, UnlinksCell}
-use Rattle.table_levels.proofs.Walking.{table_at-get, slot_absent}
-use Rattle.table_levels.proofs.Links.{some_counts, tables_at-cons}
+use Rattle.table_levels.proofs.Walking.{table_at-get}
 use Rattle.table_levels.proofs.Unlinked.{counted_there, counted_none}
 use Rattle.table_levels.proofs.LessCells.{some_is, more_at, slot_unlinked, cell_unlinked}
 use Rattle.table_levels.proofs.unlinking.unlink.Goals as goal

@@ -1,8 +1,8 @@
 -- The upper table stays with another entry, or goes, and the top table likewise.
-use Rattle.std.proofs.Common.{◌≡◌, ◌+◌, ◌/◌, ◌%◌, ◌<◌, ◌∷◌, [], None, Some, length, refl, sym, ◌∙◌, ap, subst, arith, inl, inr}
+use Rattle.std.proofs.Common.{◌≡◌, ◌+◌, ◌/◌, ◌%◌, ◌<◌, ◌∷◌, [], None, Some, length, refl, sym, ◌∙◌, subst, arith, inl, inr}
 use Rattle.std.proofs.Math.ListN.{set}
 use Rattle.std.specs.Prelude.{IsSome}
-use Rattle.table_levels.specs.Walks.{Place, table_at, tables_at}
+use Rattle.table_levels.specs.Walks.{table_at, tables_at}
 use Rattle.table_levels.specs.Links.{SetsIn}
 use Rattle.table_levels.proofs.Walking.{table_at-get}
 use Rattle.table_levels.proofs.Links.{some_counts, tables_at-cons, tables_at-set}

@@ -1,5 +1,5 @@
 -- The first slot of the walk is that of the map's first cell from this one on.
-use Rattle.std.proofs.Common.{◌≡◌, ◌^◌, ◌∙◌, ap, subst}
+use Rattle.std.proofs.Common.{◌^◌, ◌∙◌, ap, subst}
 use Rattle.table_levels.specs.First.{IsFirst}
 use Rattle.table_levels.specs.Cells.{first_from}
 use Rattle.table_levels.specs.Walks.{levels_of, slot_of}

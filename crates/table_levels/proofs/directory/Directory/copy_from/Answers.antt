@@ -1,12 +1,12 @@
 -- Level after level is copied, or nothing is.
-use Rattle.std.proofs.Common.{◌≡◌, ◌+◌, ◌++◌, ◌∷◌, [], length, replicate, None, refl, sym, ◌∙◌, ap, subst, arith}
+use Rattle.std.proofs.Common.{◌≡◌, ◌++◌, ◌∷◌, [], length, replicate, None, sym, ◌∙◌, ap, subst}
 use Rattle.std.proofs.lemmas.List.{length-replicate}
 use Rattle.std.specs.FinMap as map
 use Rattle.vm_base.specs.Deals.{LeadsAlong}
 use Rattle.vm_base.specs.declared.frame_request.Want.TheVariants.{Top, Upper, Middle}
 use Rattle.table_levels.specs.Requests.{granted, directory_wants, RefusesOne}
-use Rattle.table_levels.specs.Walks.{Place, Levels, levels_of, cells_of, tables_at, IsDirectory}
-use Rattle.table_levels.specs.Copies.{Copies, bytes_in}
+use Rattle.table_levels.specs.Walks.{Place, levels_of, tables_at}
+use Rattle.table_levels.specs.Copies.{Copies}
 use Rattle.table_levels.proofs.Asking.{refuses_after}
 use Rattle.table_levels.proofs.Copied.{grants_more, refuses_before, same_counted}
 use Rattle.table_levels.proofs.CopiedLevels.{CopiesLevels, cells_copied, directory_copied, level_wants, empty_bare}

@@ -1,8 +1,8 @@
 -- A cell that is there is unlinked, and one that is not changes nothing.
-use Rattle.std.proofs.Common.{◌≡◌, not, None, sym, ◌∙◌, ap}
-use Rattle.std.specs.Prelude.{IsSome, is_some}
+use Rattle.std.proofs.Common.{◌≡◌, not, sym, ◌∙◌, ap}
+use Rattle.std.specs.Prelude.{is_some}
 use Rattle.std.specs.FinMap as map
-use Rattle.table_levels.specs.Walks.{Levels, levels_of}
+use Rattle.table_levels.specs.Walks.{levels_of}
 use Rattle.table_levels.proofs.CellLemmas.{remove_absent}
 use Rattle.table_levels.proofs.LessCells.{none_is}
 use Rattle.table_levels.proofs.Walking.{get-cells_of}
