@@ -1,10 +1,2 @@
--- Counts of 64 bits, and what it means that one rose.
-use Rattle.std.specs.Prelude.{ℕ, ◌+◌, ◌-◌, ◌^◌, ◌≤◌, min}
-
--- the count after one more, which stands still at the largest u64
-abbrev pub next_count : ℕ → ℕ
-next_count count = min (count + 1) (2 ^ 64 - 1)
-
--- the count rose; one that stands at the largest u64 stays there, and has then risen
-abbrev pub Rose : ℕ → ℕ → Type 0
-Rose old new = next_count old ≤ new
+-- Counts of faults are counts of 64 bits, and a call may fail only where one rose.
+pub use Rattle.vm_base.specs.Counts.{next_count, Rose}

@@ -6,7 +6,7 @@ use Rattle.std.proofs.lemmas.List.{append-nil, length-append}
 use Rattle.std.proofs.lemmas.List.Concat.{flat_map-append}
 use Rattle.std.proofs.lemmas.List.Sums.{sum_by-append, sum_by_push}
 use Rattle.std.proofs.lemmas.List.Elements.{All-push, recursion_from_All}
-use Rattle.trace_core.specs.declared.event.Event.{Event}
+use Rattle.plain_kernel.specs.declared.event.Event.{Event}
 use Rattle.server_top.specs.declared.script.reader.Seen.{Seen}
 use Rattle.server_top.specs.ScriptGrammar.{event_line, IsWithinBounds, is_map, is_fork}
 use Rattle.server_top.specs.ScriptReading.{AreEvents, event_of, is_second, next_event, parts_at, seen_after}

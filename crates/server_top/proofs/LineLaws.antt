@@ -9,8 +9,8 @@ use Rattle.std.proofs.lemmas.Slice.Eq.{bytes_eq-Decides}
 use Rattle.hex.specs.Hex.{encode_lower}
 use Rattle.vm_base.specs.declared.permission.Perm.TheVariants.{ReadWrite as read_write}
 use Rattle.vm_base.specs.declared.fork_mode.Mode.TheVariants.{Eager}
-use Rattle.trace_core.specs.declared.event.Event.{Event}
-use Rattle.trace_core.specs.declared.event.Event.TheVariants.{Map, Read, Write, Fork, SnapRead}
+use Rattle.plain_kernel.specs.declared.event.Event.{Event}
+use Rattle.plain_kernel.specs.declared.event.Event.TheVariants.{Map, Read, Write, Fork, SnapRead}
 use Rattle.server_top.specs.ScriptGrammar.{hexadecimal, perm_text, mode_text, event_line, IsWithinBounds, IsSnapshotNumber}
 use Rattle.server_top.specs.ScriptReading.{parts_at, number_of, bytes_of, perm_of, mode_of, page_at, snapshot_number_of, is_range, range_of, map_event, read_event, write_event, fork_event, snap_read_event, word_event, event_of, machine_of}
 use Rattle.server_top.proofs.Digits.{base_10, base_16}

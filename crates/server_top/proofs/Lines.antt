@@ -3,8 +3,8 @@ use Rattle.std.proofs.Common.{◌≡◌, ℕ, ◌+◌, ◌<◌, List, ◌∷◌,
 use Rattle.std.specs.Prelude.{Option}
 use Rattle.std.proofs.lemmas.List.{drop_more}
 use Rattle.vm_base.specs.TwoSides.{World}
-use Rattle.trace_core.specs.declared.event.Event.{Event}
-use Rattle.trace_core.specs.KernelStep.{outcome_of, world_after}
+use Rattle.plain_kernel.specs.declared.event.Event.{Event}
+use Rattle.plain_kernel.specs.KernelStep.{outcome_of, world_after}
 use Rattle.server_top.specs.PrintedLines.{outcome_line}
 use Rattle.server_top.specs.ScriptMeaning.{lines_from}
 use Rattle.server_top.specs.ScriptRun.{IsReady}

@@ -8,9 +8,9 @@ use Rattle.vm_base.specs.Places.{page_of, page_count}
 use Rattle.vm_base.specs.FlatMemory.{FlatMemory}
 use Rattle.vm_base.specs.FlatStep.{Refusal, OutsideAreas, ReadOnly, or_refused, outside, unwritable, with_pages, stored, map_of, write_of}
 use Rattle.vm_base.specs.TwoSides.{World, opening_world}
-use Rattle.trace_core.specs.declared.event.Event.{Event}
-use Rattle.trace_core.specs.declared.event.Event.TheVariants.{Map, Read, Write, Fork, SnapRead}
-use Rattle.trace_core.specs.KernelStep.{changed, world_after, IsServed}
+use Rattle.plain_kernel.specs.declared.event.Event.{Event}
+use Rattle.plain_kernel.specs.declared.event.Event.TheVariants.{Map, Read, Write, Fork, SnapRead}
+use Rattle.plain_kernel.specs.KernelStep.{changed, world_after, IsServed}
 use Rattle.server_top.specs.ScriptGrammar.{IsScript, IsWithinBounds, is_map, is_fork}
 use Rattle.server_top.specs.ScriptRun.{IsReady}
 

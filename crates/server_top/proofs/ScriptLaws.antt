@@ -3,7 +3,7 @@ use Rattle.std.proofs.Common.{◌≡◌, ℕ, List, [], ◌∷◌, ◌++◌, cod
 use Rattle.std.specs.Fmt.{decimal}
 use Rattle.std.specs.List.{flat_map}
 use Rattle.std.proofs.lemmas.List.Elements.{recursion_from_All}
-use Rattle.trace_core.specs.declared.event.Event.{Event}
+use Rattle.plain_kernel.specs.declared.event.Event.{Event}
 use Rattle.server_top.specs.declared.script.reader.ScriptFault.{ScriptFault}
 use Rattle.server_top.specs.declared.script.reader.ScriptFault.TheVariants.{Bad, NoMemory}
 use Rattle.server_top.specs.ScriptGrammar.{event_line, script_text, IsScript, IsNoScript, IsWithinBounds}

@@ -2,8 +2,8 @@
 use Rattle.std.specs.Prelude.{ℕ, ◌*◌, List, ◌++◌, codes}
 use Rattle.std.specs.Fmt.{decimal}
 use Rattle.hex.specs.Hex.{encode_lower}
-use Rattle.trace_core.specs.declared.outcome.Outcome.{Outcome}
-use Rattle.trace_core.specs.declared.outcome.Outcome.TheVariants.{Done, Bytes, NoArea, NoWrite, Overlap, AreasFull, NoSnap, Lost}
+use Rattle.plain_kernel.specs.declared.outcome.Outcome.{Outcome}
+use Rattle.plain_kernel.specs.declared.outcome.Outcome.TheVariants.{Done, Bytes, NoArea, NoWrite, Overlap, AreasFull, NoSnap, Lost}
 use Rattle.server_top.specs.ScriptGrammar.{hexadecimal}
 
 -- the line of an outcome

@@ -1,7 +1,7 @@
 -- What a run of `trace` read and wrote, by its status.
 use Rattle.std.specs.Prelude.{◌≡◌, ◌⊎◌, ℕ, ◌+◌, ◌^◌, ◌≤◌, List, Option, Some, None, length}
 use Rattle.io_face.specs.Told.{Takes, TakesAtMost, TakesCount, TakesSome, IsAtEnd, Adds, AddsPrefix}
-use Rattle.trace_core.specs.declared.event.Event.{Event}
+use Rattle.plain_kernel.specs.declared.event.Event.{Event}
 use Rattle.server_top.specs.declared.status.Status.{Status}
 use Rattle.server_top.specs.declared.status.Status.TheVariants.{Done, Usage, BadScript, ReadFault, WriteFault, Protocol, TooLong, NoMemory}
 use Rattle.server_top.specs.ScriptGrammar.{IsScript, IsNoScript}

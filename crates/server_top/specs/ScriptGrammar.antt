@@ -7,8 +7,8 @@ use Rattle.vm_base.specs.declared.permission.Perm.{Perm}
 use Rattle.vm_base.specs.declared.permission.Perm.TheVariants.{ReadWrite as read_write, Read as read_only}
 use Rattle.vm_base.specs.declared.fork_mode.Mode.{Mode}
 use Rattle.vm_base.specs.declared.fork_mode.Mode.TheVariants.{Eager, OnDemand, Async}
-use Rattle.trace_core.specs.declared.event.Event.{Event}
-use Rattle.trace_core.specs.declared.event.Event.TheVariants.{Map, Read, Write, Fork, SnapRead}
+use Rattle.plain_kernel.specs.declared.event.Event.{Event}
+use Rattle.plain_kernel.specs.declared.event.Event.TheVariants.{Map, Read, Write, Fork, SnapRead}
 
 -- a number in hexadecimal digits of lower case, without a leading zero; zero is one digit
 abbrev pub hexadecimal : ℕ → List ℕ

@@ -1,8 +1,8 @@
 -- What a script prints: the line of each event's outcome, one after another, on the two flat memories of parent and snapshot. No request for a frame is refused here, so the frames of the machine do not show.
 use Rattle.std.specs.Prelude.{ℕ, List, [], ◌∷◌, ◌++◌}
 use Rattle.vm_base.specs.TwoSides.{World, opening_world}
-use Rattle.trace_core.specs.declared.event.Event.{Event}
-use Rattle.trace_core.specs.KernelStep.{outcome_of, world_after}
+use Rattle.plain_kernel.specs.declared.event.Event.{Event}
+use Rattle.plain_kernel.specs.KernelStep.{outcome_of, world_after}
 use Rattle.server_top.specs.PrintedLines.{outcome_line}
 
 -- the lines that events print from a world on

@@ -8,8 +8,8 @@ use Rattle.vm_base.specs.declared.permission.Perm.{Perm}
 use Rattle.vm_base.specs.declared.permission.Perm.TheVariants.{ReadWrite as read_write}
 use Rattle.vm_base.specs.declared.fork_mode.Mode.{Mode}
 use Rattle.vm_base.specs.declared.fork_mode.Mode.TheVariants.{Eager}
-use Rattle.trace_core.specs.declared.event.Event.{Event}
-use Rattle.trace_core.specs.declared.event.Event.TheVariants.{Map, Read, Write, Fork, SnapRead}
+use Rattle.plain_kernel.specs.declared.event.Event.{Event}
+use Rattle.plain_kernel.specs.declared.event.Event.TheVariants.{Map, Read, Write, Fork, SnapRead}
 use Rattle.server_top.specs.declared.script.reader.ScriptFault.{ScriptFault}
 use Rattle.server_top.specs.declared.script.reader.ScriptFault.TheVariants.{Bad, NoMemory}
 use Rattle.server_top.specs.declared.script.reader.Seen.{Seen}

@@ -2,7 +2,7 @@
 use Rattle.std.specs.Prelude.{◌≡◌, ◌≤◌, ◌<◌, List, [], All, count_by}
 use Rattle.std.specs.FinMap.{len}
 use Rattle.vm_base.specs.TwoSides.{World}
-use Rattle.trace_core.specs.declared.event.Event.{Event}
+use Rattle.plain_kernel.specs.declared.event.Event.{Event}
 use Rattle.server_top.specs.ScriptGrammar.{IsWithinBounds, is_map, is_fork}
 
 -- a world in which the kernel takes these events: their fields keep their bounds, a map finds no area, and a fork no snapshot

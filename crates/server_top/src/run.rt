@@ -3,7 +3,7 @@ ghost use Rattle.std.specs.Prelude.{◌≡◌, ◌≤◌, ◌++◌, OnOk, OnErr,
 ghost use Rattle.io_face.specs.Faults.{Rose};
 ghost use Rattle.io_face.specs.Told.{Adds, AddsPrefix};
 ghost use Rattle.vm_base.specs.TwoSides.{opening_world};
-ghost use Rattle.trace_core.specs.KernelStep.{IsServed, outcome_of, world_after};
+ghost use Rattle.plain_kernel.specs.KernelStep.{IsServed, outcome_of, world_after};
 ghost use Rattle.server_top.specs.PrintedLines.{outcome_line};
 ghost use Rattle.server_top.specs.ScriptMeaning.{script_lines};
 ghost use Rattle.server_top.specs.ScriptRun.{IsReady};
@@ -11,7 +11,7 @@ ghost use Rattle.server_top.specs.ScriptRun.{IsReady};
 use crate::script::outcome_text;
 use io_face::{Failed, Sink, write_all};
 use std::alloc::Global;
-use trace_core::{Event, Kernel};
+use plain_kernel::{Event, Kernel};
 use vm_base::{Bytes, NoMemory};
 
 /// So many bytes of lines are written at once.

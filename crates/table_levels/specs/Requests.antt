@@ -5,7 +5,6 @@ use Rattle.vm_base.specs.declared.frame_request.Want.{Want}
 use Rattle.vm_base.specs.declared.frame_request.Want.TheVariants.{Top, Upper, Middle}
 use Rattle.table_levels.specs.declared.frames.Wanted.{Wanted}
 use Rattle.vm_base.specs.declared.refusals.Refused.{Refused}
-use Rattle.vm_base.specs.Counts.{next_count}
 use Rattle.vm_base.specs.Places.{distinct}
 use Rattle.vm_base.specs.Deals.{Deal, Granted, Denied, Returned, LeadsAlong}
 
@@ -63,11 +62,6 @@ pub record RefusesOne {State : Type 0} (goes : State → Deal → State → Type
 abbrev pub Asks : {State X : Type 0} → (State → Deal → State → Type 0) → State → List Want → Result X Refused → State → Type 0
 Asks goes old wants (Ok done) new = LeadsAlong goes old (granted wants) new
 Asks goes old wants (Err e) new = RefusesOne goes old wants e.at new
-
--- the count of refused requests rose by one exactly where the call was refused, and the answer carries it
-abbrev pub Counts : {State X : Type 0} → (State → ℕ) → State → Result X Refused → State → Type 0
-Counts refused old (Ok done) new = refused new ≡ refused old
-Counts refused old (Err e) new = (refused new ≡ next_count (refused old)) × (e.at ≡ refused new)
 
 -- the frames of this user are more by so many where the call was granted, and as many as before where it was refused
 abbrev pub Adds : {State X : Type 0} → (State → ℕ) → State → ℕ → Result X Refused → State → Type 0

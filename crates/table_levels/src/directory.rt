@@ -2,9 +2,9 @@
 ghost use Rattle.std.specs.Prelude.{◌≡◌, ◌+◌, ◌-◌, ◌<◌, ◌≤◌, ◌^◌, None, Some, IfOk, OnOk, OnErr, replicate, length};
 ghost use Rattle.table_levels.specs.Walks.{entry_in, middle_at, NamesUppers};
 ghost use Rattle.std.specs.FinMap as map;
-ghost use Rattle.vm_base.specs.Deals.{LeadsAlong};
+ghost use Rattle.vm_base.specs.Deals.{LeadsAlong, Counts};
 ghost use Rattle.table_levels.specs.Cells.{first_from, tables_of};
-ghost use Rattle.table_levels.specs.Requests.{missing_tables, directory_wants, returned, Asks, Counts, Adds};
+ghost use Rattle.table_levels.specs.Requests.{missing_tables, directory_wants, returned, Asks, Adds};
 
 use crate::copying::{copy_lower, copy_of};
 use crate::frames::{Wanted, give_all, give_back, give_unused, take_fresh};

@@ -1,8 +1,8 @@
 //! Frames for tables, taken and given back.
 ghost use Rattle.std.specs.Prelude.{◌≡◌, ◌+◌, ◌≤◌, ◌++◌, ◌∷◌, [], None, IfOk, length, replicate};
 ghost use Rattle.vm_base.specs.declared.frame_request.Want.TheVariants.{Top, Upper, Middle};
-ghost use Rattle.vm_base.specs.Deals.{LeadsAlong};
-ghost use Rattle.table_levels.specs.Requests.{wanted_if, wanted_lower, wanted_tables, returned, Asks, Counts, Adds};
+ghost use Rattle.vm_base.specs.Deals.{LeadsAlong, Counts};
+ghost use Rattle.table_levels.specs.Requests.{wanted_if, wanted_lower, wanted_tables, returned, Asks, Adds};
 ghost use Rattle.table_levels.specs.Fresh.{IsFresh, AreFresh, HasFresh};
 ghost use Rattle.table_levels.specs.Walks.{tables_at};
 

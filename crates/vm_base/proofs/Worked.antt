@@ -8,7 +8,7 @@ use Rattle.vm_base.specs.declared.permission.Perm.{Perm}
 use Rattle.vm_base.specs.declared.permission.Perm.TheVariants.{Read, ReadWrite}
 use Rattle.vm_base.specs.Places.{page_of, offset_of, cell_of, page_count, cells_of_range, directory_frames}
 use Rattle.vm_base.specs.FlatMemory.{Area, FlatMemory, bytes_at, spliced}
-use Rattle.vm_base.specs.FlatStep.{Taken, TooManyAreas, OutsideAreas, areas_without, outside, unwritable, read_of, touch_of, map_of, protect_of}
+use Rattle.vm_base.specs.FlatStep.{Taken, TooManyAreas, OutsideAreas, areas_without, outside, unwritable, touch_of, map_of, protect_of}
 use Rattle.vm_base.specs.TwoSides.{World, Loss, NotLive, OutsideSnapshot, CellLost, with_parent, forked, kept_read_of, snap_read_of}
 use Rattle.vm_base.proofs.FlatBytes.{bytes_at-absent}
 use Rattle.vm_base.proofs.NumberedMaps.{get_inserted_here}

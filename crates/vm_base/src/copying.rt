@@ -1,6 +1,6 @@
 //! A snapshot that is copied cell by cell.
 ghost use Rattle.std.specs.Prelude.{◌≡◌, IfOk, IfErr, IsTrue, OnOk, OnErr};
-ghost use Rattle.vm_base.specs.SnapshotState.{KeepsSnapshot, StepsNext, StepsLeft, CopyFails};
+ghost use Rattle.vm_base.specs.SnapshotState.{KeepsSnapshot, Quiet, StepsNext, StepsLeft, CopyFails};
 
 use crate::faults::{CopyFault, Step};
 use crate::frozen::Frozen;
@@ -26,10 +26,13 @@ pub trait Copying: Frozen {
 }
 
 /// Copies what is left of a snapshot: each cell that is free at once, and then those that were
-/// skipped. At `Ok` no cell waits to be copied any more.
+/// skipped. At `Ok` no cell waits to be copied any more, and none was refused or found lost.
 pub fn copy_through<Z: Copying, G: Gate>(z: &mut Z, gate: &G) -> Result<(), CopyFault>
     ensures whole { OnOk result (IsTrue (Z.snapshot z.new).whole) }
+    ensures quiet { OnOk result (Quiet (Z.snapshot z.old) (Z.snapshot z.new)) }
+    ensures fault { IfErr result (λ fault. CopyFails (Z.snapshot z.old) (Z.snapshot z.new) fault) }
     ensures memory { (Z.snapshot z.new).mem ≡ (Z.snapshot z.old).mem }
+    ensures keeps { KeepsSnapshot (Z.snapshot z.old) (Z.snapshot z.new) }
     ensures aside { Z.aside z.new ≡ Z.aside z.old }
 {
     copy_free(z, gate)?;
@@ -42,7 +45,9 @@ pub fn copy_through<Z: Copying, G: Gate>(z: &mut Z, gate: &G) -> Result<(), Copy
 
 // One pass of the cells whose turn is free.
 fn copy_free<Z: Copying, G: Gate>(z: &mut Z, gate: &G) -> Result<(), CopyFault>
-    ensures memory { (Z.snapshot z.new).mem ≡ (Z.snapshot z.old).mem }
+    ensures quiet { OnOk result (Quiet (Z.snapshot z.old) (Z.snapshot z.new)) }
+    ensures fault { IfErr result (λ fault. CopyFails (Z.snapshot z.old) (Z.snapshot z.new) fault) }
+    ensures keeps { KeepsSnapshot (Z.snapshot z.old) (Z.snapshot z.new) }
     ensures aside { Z.aside z.new ≡ Z.aside z.old }
 {
     loop {

@@ -26,7 +26,7 @@ pub trait Frozen {
         ensures aside { aside self.new ≡ aside self.old };
 }
 
-/// Reads a range twice. What is read is the same both times.
+/// Reads a range twice. What is read is the same both times. It is refused where a read is.
 pub fn read_twice<Z: Frozen>(
     z: &mut Z,
     addr: u64,
@@ -36,7 +36,12 @@ pub fn read_twice<Z: Frozen>(
     requires within { addr + length first.old ≤ 2 ^ 48 }
     requires length { length again.old ≡ length first.old }
     ensures same { OnOk result (first.new ≡ again.new) }
+    ensures bytes { OnOk result (snapshot_answer (Z.snapshot z.new) addr (length first.old) ≡ Ok first.new) }
+    ensures fault { IfErr result
+        (λ fault. snapshot_answer (Z.snapshot z.new) addr (length first.old) ≡ Err fault) }
     ensures memory { (Z.snapshot z.new).mem ≡ (Z.snapshot z.old).mem }
+    ensures keeps { KeepsSnapshot (Z.snapshot z.old) (Z.snapshot z.new) }
+    ensures uncounted { (Z.snapshot z.new).refused ≡ (Z.snapshot z.old).refused }
     ensures aside { Z.aside z.new ≡ Z.aside z.old }
 {
     z.read(addr, first)?;

@@ -1,7 +1,7 @@
 //! A process whose children lie in the same value.
-ghost use Rattle.std.specs.Prelude.{◌≡◌, ◌+◌, ◌≤◌, ◌^◌, ◌↔◌, IsTrue, length, OnOk, Ok, Some};
+ghost use Rattle.std.specs.Prelude.{◌≡◌, ◌+◌, ◌≤◌, ◌^◌, ◌↔◌, IsTrue, length, OnOk, IfErr, Ok, Err, Some};
 ghost use Rattle.vm_base.specs.MemoryState.{IsListed};
-ghost use Rattle.vm_base.specs.SnapshotState.{snapshot_answer};
+ghost use Rattle.vm_base.specs.SnapshotState.{KeepsSnapshot, IsFoundSince, snapshot_answer};
 
 use crate::faults::SnapFault;
 use crate::nest::Nest;
@@ -45,6 +45,12 @@ pub fn read_child<P: Housing>(
     requires lives { IsTrue (P.lives (P.Nest.beside process.old child.old)) }
     requires within { addr + length buf.old ≤ 2 ^ 48 }
     ensures bytes { OnOk result (snapshot_answer (P.nested process.new child.new) addr (length buf.old) ≡ Ok buf.new) }
+    ensures fault { IfErr result
+        (λ fault. snapshot_answer (P.nested process.new child.new) addr (length buf.old) ≡ Err fault) }
+    ensures keeps { KeepsSnapshot (P.nested process.old child.old) (P.nested process.new child.new) }
+    ensures uncounted { (P.nested process.new child.new).refused ≡ (P.nested process.old child.old).refused }
+    ensures since { IsFoundSince (P.Nest.born (P.Nest.beside process.old child.old))
+        (P.Nest.refused (P.Nest.beside process.old child.old)) (P.nested process.new child.new) }
     ensures state { P.state process.new ≡ P.state process.old }
     ensures aside { P.aside process.new ≡ P.aside process.old }
 {

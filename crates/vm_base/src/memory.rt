@@ -3,7 +3,7 @@ ghost use Rattle.std.specs.Prelude.{◌≡◌, ℕ, ◌+◌, ◌<◌, ◌≤◌,
 ghost use Rattle.vm_base.specs.Places.{cells_of_range};
 ghost use Rattle.vm_base.specs.FlatStep.{write_of};
 ghost use Rattle.vm_base.specs.MemoryState.{MemoryState, IsMemory, IsKept};
-ghost use Rattle.vm_base.specs.MemoryCalls.{read_answer, map_answer, unmap_answer, protect_answer, after_store, IsReady, Touches, TouchFails, Maps, Changes, Refuses};
+ghost use Rattle.vm_base.specs.MemoryCalls.{read_answer, map_answer, unmap_answer, protect_answer, after_store, IsReady, Touches, TouchFails, Writes, Maps, Changes, Refuses};
 
 use crate::faults::Fault;
 use crate::permission::Perm;
@@ -83,13 +83,20 @@ pub trait Memory {
         ensures aside { aside self.new ≡ aside self.old };
 }
 
-/// Touches a range and stores bytes there.
+/// Touches a range and stores bytes there. It is refused where the touch is.
 pub fn write_at<M: Memory>(memory: &mut M, addr: u64, bytes: &[u8]) -> Result<(), Fault>
     requires within { addr + length bytes.now ≤ 2 ^ 48 }
     requires few { length bytes.now ≤ 4194304 }
     ensures written { OnOk result
         (write_of (M.state memory.old).mem addr bytes.now ≡ Ok (M.state memory.new).mem) }
+    ensures ready { OnOk result (Writes (M.state memory.old) (M.state memory.new) addr bytes.now) }
+
+    // The touch was refused, and the memory is as it was.
+    ensures cause { IfErr result
+        (λ fault. TouchFails (M.state memory.old) (M.state memory.new) addr (length bytes.now) fault) }
     ensures fault { OnErr result ((M.state memory.new).mem ≡ (M.state memory.old).mem) }
+
+    ensures keeps { IsKept (M.state memory.old) (M.state memory.new) (cells_of_range addr (length bytes.now)) }
     ensures aside { M.aside memory.new ≡ M.aside memory.old }
 {
     memory.touch(addr, bytes.len() as u64)?;

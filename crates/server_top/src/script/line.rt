@@ -7,7 +7,7 @@ use crate::script::tokens::{
     bytes_of, is_range, mode, page_at, parts_at, permission, range, snapshot_number,
 };
 use std::alloc::Global;
-use trace_core::Event;
+use plain_kernel::Event;
 use vm_base::NoMemory;
 
 /// The frames of the machine's line.

@@ -1,6 +1,6 @@
 //! The reader of scripts.
 ghost use Rattle.std.specs.Prelude.{◌≡◌, ℕ, List, IfOk, IfErr, option_map};
-ghost use Rattle.trace_core.specs.declared.event.Event.{Event};
+ghost use Rattle.plain_kernel.specs.declared.event.Event.{Event};
 ghost use Rattle.server_top.specs.ScriptGrammar.{IsScript, IsNoScript};
 ghost use Rattle.server_top.specs.ScriptReading.{AreEvents, AreNoEvents, Refuses, is_second, next_event, seen_after};
 ghost use Rattle.server_top.specs.declared.script.reader.ScriptFault.TheVariants.{NoMemory as no_memory_left};
@@ -8,7 +8,7 @@ ghost use Rattle.server_top.specs.declared.script.reader.ScriptFault.TheVariants
 use crate::script::line::{event_of, machine_frames};
 use crate::script::tokens::parts_at;
 use std::alloc::{AllocFailed, Global};
-use trace_core::Event;
+use plain_kernel::Event;
 use vm_base::NoMemory;
 
 /// A script that was read: the frames of its machine, and its events in order.

@@ -3,7 +3,7 @@ use crate::script::printer::outcome_text;
 use crate::script::reader::{ScriptFault, read_script};
 use std::alloc::Global;
 use std::test::Fail;
-use trace_core::{Event, Outcome};
+use plain_kernel::{Event, Outcome};
 use vm_base::{Bytes, Mode, Perm};
 
 fn is_refused(alloc: Global, text: &[u8]) -> bool {

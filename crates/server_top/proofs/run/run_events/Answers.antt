@@ -1,7 +1,7 @@
 -- The lines so far, those that wait and those to come are all, at each step and at each end.
 use Rattle.std.proofs.Common.{◌≡◌, ◌+◌, List, ℕ, drop, sym, ◌∙◌, ap, subst, arith, []}
 use Rattle.std.specs.Prelude.{Option}
-use Rattle.trace_core.specs.declared.event.Event.{Event}
+use Rattle.plain_kernel.specs.declared.event.Event.{Event}
 use Rattle.server_top.specs.ScriptMeaning.{lines_from, script_lines}
 use Rattle.server_top.proofs.Written.{Writing, writing_front, writing_part, writing_written, on_err, on_err_then}
 use Rattle.server_top.proofs.Lines.{pushed_line, ready_behind}

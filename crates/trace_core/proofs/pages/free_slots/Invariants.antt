@@ -1,6 +1,0 @@
--- The slots so far have no page.
-use Rattle.std.proofs.Common.{◌≡◌, None, replicate}
-use Rattle.trace_core.proofs.pages.free_slots.Given as goal
-
-abbrev pub invariant-loop : goal.invariant-loop
-invariant-loop l = l.slots.items ≡ replicate l.counter None

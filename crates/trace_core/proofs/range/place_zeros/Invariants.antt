@@ -1,7 +1,0 @@
--- As many zeros are left as pages of the rest are absent, and touching the rest gives what touching all gives.
-use Rattle.vm_base.specs.FlatStep.{with_pages}
-use Rattle.trace_core.proofs.Absent.{Placing}
-use Rattle.trace_core.proofs.range.place_zeros.Given as goal
-
-abbrev pub invariant-loop-page : goal.invariant-loop-page
-invariant-loop-page l = Placing l.pages l.zeros.items l.page l.page-end (with_pages l.fn.pages l.first l.count)

@@ -1,0 +1,2 @@
+-- What is defined of events.
+pub mod EventBounds
