@@ -48,10 +48,6 @@ pub record LinksCell (old new : Levels) (cell slot : ℕ) : Type 0 where
 abbrev pub IsInUse : Place → Type 0
 IsInUse place = IsSome place → (i : ℕ) × (i < 512) × IsSome (entry_in place i)
 
--- each table that is there has an entry
-abbrev pub AreInUse : List Place → Type 0
-AreInUse places = (i : ℕ) → IsInUse (table_at places i)
-
 -- a middle table is named no more, and each other keeps its place; of the tables above it those stay that have an entry
 pub record DropsMiddle (top : Place) (uppers : List Place) (new_top : Place) (new_uppers : List Place) (index : ℕ) : Type 0 where
   pub here : middle_at new_top new_uppers index ≡ None

@@ -6,7 +6,6 @@ use Rattle.vm_base.specs.declared.frame_request.Want.TheVariants.{Top, Upper, Mi
 use Rattle.table_levels.specs.declared.frames.Wanted.{Wanted}
 use Rattle.vm_base.specs.declared.refusals.Refused.{Refused}
 use Rattle.vm_base.specs.Counts.{next_count}
-use Rattle.vm_base.specs.Places.{distinct}
 use Rattle.vm_base.specs.Deals.{Deal, Granted, Denied, Returned, LeadsAlong}
 
 -- one of the cells lies with this cell under one table that spans so many cells
@@ -23,13 +22,6 @@ missing_tables cells cell =
     unless (not (length cells == 0)) Top
     ++ unless (shares (2 ^ 18) cells cell) Upper
     ++ unless (shares (2 ^ 9) cells cell) Middle
-
--- the tables of a directory of these cells, level after level from the top
-abbrev pub directory_wants : List ℕ → List Want
-directory_wants [] = []
-directory_wants (cell ∷ cells) =
-    Top ∷ replicate (length (distinct (map (λ c. c / 2 ^ 18) (cell ∷ cells)))) Upper
-    ++ replicate (length (distinct (map (λ c. c / 2 ^ 9) (cell ∷ cells)))) Middle
 
 -- one table is asked for where it is wanted
 abbrev pub wanted_if : Bool → Want → List Want

@@ -3,24 +3,19 @@ ghost use Rattle.std.specs.Prelude.{◌≡◌, ◌+◌, ◌-◌, ◌<◌, ◌≤
 ghost use Rattle.table_levels.specs.Walks.{entry_in, middle_at, NamesUppers};
 ghost use Rattle.std.specs.FinMap as map;
 ghost use Rattle.vm_base.specs.Deals.{LeadsAlong};
-ghost use Rattle.table_levels.specs.Cells.{first_from, tables_of};
-ghost use Rattle.table_levels.specs.Requests.{missing_tables, directory_wants, returned, Asks, Counts, Adds};
+ghost use Rattle.table_levels.specs.Cells.{tables_of};
+ghost use Rattle.table_levels.specs.Requests.{missing_tables, returned, Asks, Counts};
 
-use crate::copying::{copy_lower, copy_of};
 use crate::frames::{Wanted, give_all, give_back, give_unused, take_fresh};
 use crate::linking::link;
-use crate::search::first_slot;
 use crate::table::{ENTRIES, entry};
 use crate::unlinking::unlink;
 use std::alloc::Global;
 use std::marker::Model;
-use vm_base::{Allot, Frame, NoMemory, Refused, Want};
+use vm_base::{Allot, Frame, NoMemory, Refused};
 
 /// How many cells a directory may have.
 const MOST_CELLS: usize = 512;
-
-/// How many cells there are in all.
-const CELLS: u32 = 1 << 27;
 
 /// A directory, seen as a finite map from cells to slots. An upper table lies at the place of its
 /// index in the top table, a middle table at a place that was free.
@@ -119,16 +114,6 @@ impl Directory {
         }
     }
 
-    /// The lowest cell that is there and not below this one, with its slot.
-    pub fn at_or_after(&self, cell: u32) -> Option<(u32, u32)>
-        ensures { result ≡ first_from self.now cell }
-    {
-        if cell >= CELLS {
-            return None;
-        }
-        first_slot(&self.top, &self.uppers, &self.middles, cell)
-    }
-
     /// Takes a cell out, where it is there. Each table that is left without an entry is given
     /// back, the middle table first.
     pub fn remove<A: Allot>(&mut self, cell: u32, allot: &mut A)
@@ -149,43 +134,6 @@ impl Directory {
         let unused = unlink(&mut self.top, &mut self.uppers, &mut self.middles, cell);
         self.tables -= unused.count();
         give_unused(unused, allot);
-    }
-
-    /// Copies another directory into an empty one. It asks for the top table, then for the upper
-    /// tables, then for the middle tables. After `Refused` what was granted has been given back.
-    pub fn copy_from<A: Allot>(&mut self, other: &Directory, allot: &mut A) -> Result<(), Refused>
-        requires empty { self.old ≡ map.empty }
-        requires untold { A.grants allot.old ≡ None }
-        ensures copied { OnOk result (self.new ≡ other.now) }
-        ensures kept { OnErr result (self.new ≡ self.old) }
-
-        // What the allot was asked for, and what it has afterwards.
-        ensures requests { Asks A.goes (A.state allot.old) (directory_wants (map.keys other.now)) result (A.state allot.new) }
-        ensures counts { Counts A.refused (A.state allot.old) result (A.state allot.new) }
-        ensures out { Adds A.out (A.state allot.old) (tables_of other.now) result (A.state allot.new) }
-        ensures untold { A.grants allot.new ≡ A.grants allot.old }
-    {
-        let top = match copy_of(&other.top, Want::Top, allot) {
-            Ok(top) => top,
-            Err(refused) => return Err(refused),
-        };
-        match copy_lower(
-            &mut self.uppers,
-            &mut self.middles,
-            &other.uppers,
-            &other.middles,
-            allot,
-        ) {
-            Ok(()) => {
-                self.top = top;
-                self.tables = other.tables;
-                Ok(())
-            }
-            Err(refused) => {
-                give_back(top, allot);
-                Err(refused)
-            }
-        }
     }
 
     /// Gives all tables back. The directory is empty then.

@@ -6,7 +6,6 @@
 //! and that as many frames are out as the directory's cells need. README.md goes on.
 #![tactic(auto)]
 
-mod copying;
 mod directory;
 mod frames;
 mod linking;

@@ -119,3 +119,36 @@ fn a_refused_insert_gives_back_what_it_took(rt: HostRuntime) -> Result<(), Fail>
     }
     Ok(())
 }
+
+/// A cell is inserted and another one taken out. It tells how many tables are there then, and how
+/// many frames are out once the directory has been released.
+fn take_out(alloc: Global, cell: u32, other: u32) -> Result<(u32, u64), NoMemory>
+    requires cell { cell < 2 ^ 27 }
+    requires other { other < 2 ^ 27 }
+{
+    let mut supply = Supply::new(alloc, 3);
+    let mut directory = Directory::new(alloc)?;
+    let _ = directory.insert(cell, 7, &mut supply);
+    if u64::from(directory.tables()) <= supply.out {
+        directory.remove(other, &mut supply);
+    }
+    let tables = directory.tables();
+    if u64::from(tables) <= supply.out {
+        directory.release(&mut supply);
+    }
+    Ok((tables, supply.out))
+}
+
+#[test]
+fn a_cell_taken_out_gives_its_tables_back_and_no_other_does(rt: HostRuntime) -> Result<(), Fail> {
+    let cases = [
+        (0, 0, 0),
+        (0, 1, 3),
+        (1 << 18, (1 << 18) + 512, 3),
+        ((1 << 27) - 1, (1 << 27) - 1, 0),
+    ];
+    for (cell, other, tables) in cases {
+        assert_eq!(rt; take_out(rt.alloc(), cell, other)?, (tables, 0));
+    }
+    Ok(())
+}
