@@ -1,0 +1,5 @@
+pub mod Bounds
+pub mod Digits
+pub mod LinesOf
+pub mod Parts
+pub mod Steps

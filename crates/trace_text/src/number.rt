@@ -1,0 +1,73 @@
+//! Numbers as a script spells them: digits of lower case, without a leading zero.
+ghost use Rattle.std.specs.Prelude.{◌≡◌, ◌<◌, ◌≤◌, ◌^◌, IfSome};
+ghost use Rattle.trace_text.specs.ScriptReading.{byte_of, count_of, digit_of, digits_read, number_of};
+
+// Every address lies below it, and all other numbers of a script are smaller.
+const NUMBER_LIMIT: u64 = 0x1_0000_0000_0000;
+
+/// The number that the token spells in a base of at most 16. It lies below 2 ^ 48.
+pub(crate) fn number(token: &[u8], base: u64) -> Option<u64>
+    requires { base ≤ 16 }
+    ensures value { result ≡ number_of base token.now }
+    ensures below { IfSome result (λ number. number < 2 ^ 48) }
+{
+    match token {
+        [] | [b'0', _, ..] => None,
+        _ => digits(token, base),
+    }
+}
+
+/// The decimal number that the token spells, if it has 32 bits.
+#[tactic(auto, unfolding(crate::specs::ScriptReading::count_of))]
+pub(crate) fn count(token: &[u8]) -> Option<u32>
+    ensures { result ≡ count_of token.now }
+{
+    let number = number(token, 10)?;
+    if number < 0x1_0000_0000 {
+        Some(number as u32)
+    } else {
+        None
+    }
+}
+
+// A token of a thousand digits is left as soon as its number is too large.
+fn digits(token: &[u8], base: u64) -> Option<u64>
+    requires { base ≤ 16 }
+    ensures value { result ≡ digits_read base 0 token.now }
+    ensures below { IfSome result (λ number. number < 2 ^ 48) }
+{
+    let mut number = 0;
+    for byte in token {
+        let digit = digit(*byte)?;
+        number = number * base + digit;
+        if digit >= base || number >= NUMBER_LIMIT {
+            return None;
+        }
+    }
+    Some(number)
+}
+
+fn digit(byte: u8) -> Option<u64>
+    ensures value { result ≡ digit_of byte }
+    ensures below { IfSome result (λ digit. digit < 16) }
+{
+    match byte {
+        b'0'..=b'9' => Some(u64::from(byte - b'0')),
+        b'a'..=b'f' => Some(u64::from(byte - b'a') + 10),
+        _ => None,
+    }
+}
+
+/// The byte that two digits spell.
+pub(crate) fn byte(token: &[u8]) -> Option<u8>
+    ensures { result ≡ byte_of token.now }
+{
+    match token {
+        [high, low] => {
+            let high = digit(*high)?;
+            let low = digit(*low)?;
+            Some((high * 16 + low) as u8)
+        }
+        _ => None,
+    }
+}
