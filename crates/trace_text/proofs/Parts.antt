@@ -89,3 +89,8 @@ parts_at_takes byte (x ∷ xs) parts e = one_more byte x xs parts (parts_at byte
 -- the parts, each known by another name
 pub with_parts : (byte : ℕ) (xs front back a b : List ℕ) → xs ≡ front ++ byte ∷ back → front ≡ a → back ≡ b → xs ≡ a ++ byte ∷ b
 with_parts byte xs front back a b split first second = cc
+
+-- a text that has no such byte
+pub parts_at_lacks : (byte : ℕ) (xs : List ℕ) → Lacks byte xs → parts_at byte xs ≡ None
+parts_at_lacks byte [] lacks = refl
+parts_at_lacks byte (x ∷ xs) lacks = rw (ne_eqb x byte lacks.0, parts_at_lacks byte xs lacks.1) refl

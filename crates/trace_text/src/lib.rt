@@ -17,6 +17,7 @@ mod script;
 mod tokens;
 
 pub use fault::ScriptFault;
+pub use laws::{one_line, one_script, script_or_fault};
 pub use printer::outcome_text;
 pub use reader::read_script;
 pub use script::Script;
