@@ -121,16 +121,18 @@ stands_empty = (refl, refl, refl)
 stands_skip : (lines : List (List ℕ)) (line : List ℕ) (machine : Option Machine) (events : List Event) (last : ℕ) → is_skipped line ≡ true → StandsBy lines machine events last → StandsBy (lines ++ line ∷ []) machine events last
 stands_skip lines line None events last is h = (kept_skip lines line is ∙ h.0, h.1, h.2)
 stands_skip lines line (Some m) events last is h =
-    let are = h.0 in
-    (record {
-      first = are.first;
-      machine = are.machine;
-      spelled = kept_skip lines line is ∙ are.spelled;
-      frames_within = are.frames_within;
-      cells_within = are.cells_within;
-      bounds = are.bounds;
-      rising = are.rising;
-    }, h.1)
+    let are = h.0 in (
+      record {
+        first = are.first;
+        machine = are.machine;
+        spelled = kept_skip lines line is ∙ are.spelled;
+        frames_within = are.frames_within;
+        cells_within = are.cells_within;
+        bounds = are.bounds;
+        rising = are.rising;
+      },
+      h.1,
+    )
 
 -- with the machine's line
 stands_machine : (lines : List (List ℕ)) (line : List ℕ) (m : Machine) (events : List Event) (last : ℕ) → is_skipped line ≡ false → IsMachine line m
@@ -158,16 +160,18 @@ stands_event lines line m events last e is next h =
     map-append event_line events (e ∷ []) ∙ ap (λ (l : List ℕ). map event_line events ++ l ∷ []) (sym next.own.spelled) in
     let spelled : kept (lines ++ line ∷ []) ≡ are.first ∷ map event_line (events ++ e ∷ []) =
     kept_push lines line is ∙ ap (λ (front : List (List ℕ)). front ++ line ∷ []) are.spelled ∙ ap (λ (back : List (List ℕ)). are.first ∷ back) (sym pushed) in
-    let above = subst (λ (n : ℕ). IfSome (fork_number e) (λ number. n < number)) h.1 next.above in
-    (record {
-      first = are.first;
-      machine = are.machine;
-      spelled = spelled;
-      frames_within = are.frames_within;
-      cells_within = are.cells_within;
-      bounds = All-push IsWithinBounds events e are.bounds next.own.bounds;
-      rising = rising_push 0 events e are.rising above;
-    }, ap (unwrap_or (fork_number e)) h.1 ∙ sym (last_of_push 0 events e))
+    let above = subst (λ (n : ℕ). IfSome (fork_number e) (λ number. n < number)) h.1 next.above in (
+      record {
+        first = are.first;
+        machine = are.machine;
+        spelled = spelled;
+        frames_within = are.frames_within;
+        cells_within = are.cells_within;
+        bounds = All-push IsWithinBounds events e are.bounds next.own.bounds;
+        rising = rising_push 0 events e are.rising above;
+      },
+      ap (unwrap_or (fork_number e)) h.1 ∙ sym (last_of_push 0 events e),
+    )
 
 stands_kept : (lines : List (List ℕ)) (line : List ℕ) (machine : Option Machine) (events : List Event) (last : ℕ) (t : SoFar) → is_skipped line ≡ false
     → with_kept (record { machine = machine; events = events; last = last }) line machine ≡ Some t → StandsBy lines machine events last → Stands (lines ++ line ∷ []) t

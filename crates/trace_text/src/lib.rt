@@ -14,6 +14,8 @@ mod number;
 mod printer;
 mod reader;
 mod script;
+#[cfg(test)]
+mod tests;
 mod tokens;
 
 pub use fault::ScriptFault;
