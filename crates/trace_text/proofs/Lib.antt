@@ -11,3 +11,4 @@ pub mod Readings
 pub mod ScriptLaws
 pub mod Steps
 pub mod TokenLaws
+pub mod Worked

@@ -1,5 +1,5 @@
 -- Lines are read as they are spelled, and spelled as they are read: two laws for each kind of line.
-use Rattle.std.proofs.Common.{◌≡◌, ℕ, ◌+◌, ◌*◌, ◌^◌, ◌<◌, ◌≤◌, Bool, true, false, cond, List, [], ◌∷◌, ◌++◌, length, codes, Option, Some, None, refl, sym, ap, subst, ◌∙◌, append_assoc, arith, ◌⊎◌, inl, inr}
+use Rattle.std.proofs.Common.{◌≡◌, ℕ, ◌*◌, ◌^◌, ◌<◌, cond, List, [], ◌∷◌, ◌++◌, codes, Option, Some, None, refl, sym, ap, subst, ◌∙◌, append_assoc, arith, inl, inr}
 use Rattle.std.specs.Fmt.{decimal}
 use Rattle.std.specs.Str.{bytes_eq}
 use Rattle.std.proofs.lemmas.List.Elements.{recursion_from_All}
@@ -10,7 +10,7 @@ use Rattle.trace_events.specs.declared.event.Event.{Event}
 use Rattle.trace_events.specs.declared.event.Event.TheVariants.{Map, Unmap, Protect, Read, Write, Fill, Fork, Copy, Drop, SnapRead, Frames, ListAreas, Refuse}
 use Rattle.trace_events.specs.EventBounds.{IsWithinBounds}
 use Rattle.trace_text.specs.ScriptGrammar.{hexadecimal, perm_text, mode_text, range_text, event_line}
-use Rattle.trace_text.specs.ScriptReading.{◌>>=◌, only_if, parts_at, number_of, count_of, byte_of, bytes_of, perm_of, mode_of, page_at, range_of, area_of, map_event, unmap_event, protect_event, read_event, write_event, fill_event, fork_event, copy_event, drop_event, snap_read_event, refuse_event, snapshot_event, word_event, lone_event, event_by, event_of, is_within}
+use Rattle.trace_text.specs.ScriptReading.{parts_at, number_of, count_of, byte_of, bytes_of, perm_of, mode_of, page_at, range_of, area_of, map_event, unmap_event, protect_event, read_event, write_event, fill_event, fork_event, copy_event, drop_event, snap_read_event, refuse_event, snapshot_event, word_event, lone_event, event_by, event_of, is_within}
 use Rattle.trace_text.proofs.Bounds.{within_true, true_within}
 use Rattle.trace_text.proofs.Digits.{base_10, base_16}
 use Rattle.trace_text.proofs.Parts.{parts_at_again, parts_at_takes, with_parts}

@@ -1,11 +1,11 @@
 -- The machine's line is read as it is spelled, and spelled as it is read.
-use Rattle.std.proofs.Common.{◌≡◌, ℕ, ◌+◌, ◌^◌, ◌<◌, ◌≤◌, Bool, true, ◌&&◌, cond, leb, List, [], ◌∷◌, ◌++◌, codes, Option, Some, None, refl, sym, ap, subst, ◌∙◌, append_assoc, arith, ◌⊎◌, inl, inr}
+use Rattle.std.proofs.Common.{◌≡◌, ℕ, ◌≤◌, true, ◌&&◌, cond, leb, List, ◌∷◌, ◌++◌, codes, Option, Some, None, refl, sym, ap, subst, ◌∙◌, append_assoc, arith, inl, inr}
 use Rattle.std.specs.Fmt.{decimal}
 use Rattle.std.specs.Str.{bytes_eq}
 use Rattle.std.proofs.lemmas.Bool.{le-leb, leb-true, and_parts}
 use Rattle.trace_text.specs.declared.machine.Machine.{Machine}
 use Rattle.trace_text.specs.ScriptGrammar.{IsMachineLine}
-use Rattle.trace_text.specs.ScriptReading.{◌>>=◌, parts_at, count_of, machine_by, machine_fields, machine_of, is_machine}
+use Rattle.trace_text.specs.ScriptReading.{parts_at, count_of, machine_by, machine_fields, machine_of, is_machine}
 use Rattle.trace_text.proofs.Digits.{base_10}
 use Rattle.trace_text.proofs.Parts.{parts_at_again, parts_at_takes, parts_at_lacks, with_parts}
 use Rattle.trace_text.proofs.Steps.{bind_some, guard_some, only_if_some, some_is}

@@ -1,17 +1,17 @@
 -- Lines that were read without a fault are those of a script, and those of a script are read without a fault.
-use Rattle.std.proofs.Common.{◌≡◌, ℕ, suc, ◌+◌, ◌<◌, ◌≤◌, Bool, true, false, cond, ltb, List, [], ◌∷◌, ◌++◌, length, take, map, All, Option, Some, None, Result, Ok, Err, refl, sym, ap, subst, ◌∙◌, append_assoc, arith, ◌⊎◌, inl, inr}
+use Rattle.std.proofs.Common.{◌≡◌, ℕ, suc, ◌<◌, Bool, true, false, cond, List, [], ◌∷◌, ◌++◌, map, Option, Some, None, Result, Ok, Err, refl, sym, ap, subst, ◌∙◌, append_assoc}
 use Rattle.std.specs.Prelude.{IfSome, unwrap_or}
 use Rattle.std.specs.Option.{ok_or}
 use Rattle.std.specs.List.{AllByRecursion}
 use Rattle.std.proofs.lemmas.Bool.{lt-ltb, ltb-true}
 use Rattle.std.proofs.lemmas.List.{append-nil, map-append}
-use Rattle.std.proofs.lemmas.List.Elements.{All-push, All-from_recursion, recursion_from_All}
+use Rattle.std.proofs.lemmas.List.Elements.{All-push, All-from_recursion}
 use Rattle.trace_events.specs.declared.event.Event.{Event}
 use Rattle.trace_events.specs.EventBounds.{IsWithinBounds}
 use Rattle.trace_text.specs.declared.machine.Machine.{Machine}
 use Rattle.trace_text.specs.ScriptGrammar.{ScriptParts, AreForksRising, AreLinesOf, IsMachineLine, event_line, fork_number, is_skipped, kept}
-use Rattle.trace_text.specs.ScriptReading.{◌>>=◌, only_if, event_of, machine_of}
-use Rattle.trace_text.specs.SoFar.{SoFar, and_then, is_above, line_taken, lines_taken, next_event, nothing_read, said, with_event, with_kept, with_machine}
+use Rattle.trace_text.specs.ScriptReading.{event_of, machine_of}
+use Rattle.trace_text.specs.SoFar.{SoFar, and_then, is_above, line_taken, lines_taken, next_event, nothing_read, said, with_kept, with_machine}
 use Rattle.trace_text.proofs.Steps.{bind_some, only_if_some, some_is}
 use Rattle.trace_text.proofs.LineLaws.{IsLine, event_of_takes, event_of_again}
 use Rattle.trace_text.proofs.MachineLaws.{IsMachine, IsWithin, machine_of_takes, machine_of_again}
