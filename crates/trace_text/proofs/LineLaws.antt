@@ -16,8 +16,8 @@ use Rattle.trace_text.proofs.Digits.{base_10, base_16}
 use Rattle.trace_text.proofs.Parts.{parts_at_again, parts_at_takes, with_parts}
 use Rattle.trace_text.proofs.Steps.{bind_some, only_if_some, some_is}
 use Rattle.trace_text.proofs.NumberLaws.{number_of_again, number_of_takes, number_lacks}
-use Rattle.trace_text.proofs.BytesLaws.{bytes_of_again, bytes_of_takes}
-use Rattle.trace_text.proofs.TokenLaws.{chosen, same_bytes, perm_takes, perm_again, mode_takes, mode_again, page_takes, page_again, count_takes, count_again, range_fields, range_takes, range_again, byte_takes, byte_again}
+use Rattle.trace_text.proofs.BytesLaws.{byte_takes, byte_again, bytes_of_again, bytes_of_takes}
+use Rattle.trace_text.proofs.TokenLaws.{chosen, same_bytes, perm_takes, perm_again, mode_takes, mode_again, page_takes, page_again, count_takes, count_again, range_fields, range_takes, range_again}
 
 -- ---- the line of an event, field by field
 
@@ -117,7 +117,7 @@ write_takes fields e h =
     let addr = bind_some (number_of 16 parts.0.0) _ e parts.2 in
     let bytes = bind_some (bytes_of parts.0.1) _ e addr.2 in
     let address = (number_of_takes 16 parts.0.0 addr.0 base_16 addr.1).spelled in
-    let digits = (bytes_of_takes parts.0.1 bytes.0 bytes.1).spelled in
+    let digits = bytes_of_takes parts.0.1 bytes.0 bytes.1 in
     let whole = with_parts 32 fields parts.0.0 parts.0.1 _ _ (parts_at_takes 32 fields parts.0 parts.1) address digits in
     ap (λ (line : List ℕ). codes "write " ++ line) whole ∙ ap line_of (some_is (Write addr.0 bytes.0) e bytes.2)
 
@@ -256,7 +256,7 @@ unfolding write_event
 write_again addr bytes h =
     let small : addr < 2 ^ 48 = omega (arith, h.0.0, h.0.2) in
     let parts = parts_at_again 32 (hexadecimal addr) (encode_lower bytes) (number_lacks 32 16 addr refl base_16 small) in
-    let back = bytes_of_again bytes h.0.1 (recursion_from_All (λ byte. byte < 256) bytes h.1) in
+    let back = bytes_of_again bytes (recursion_from_All (λ byte. byte < 2 ^ 8) bytes h.1) in
     rw (parts, number_of_again 16 addr base_16 small, back) refl
 
 fill_again : (addr len byte : ℕ) → IsWithinBounds (Fill addr len byte) → fill_event (hexadecimal addr ++ 32 ∷ (decimal len ++ 32 ∷ encode_lower (byte ∷ []))) ≡ Some (Fill addr len byte)

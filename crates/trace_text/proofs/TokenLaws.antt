@@ -1,21 +1,19 @@
 -- Tokens are read as they are spelled, and spelled as they are read: two laws for each kind of token.
-use Rattle.std.proofs.Common.{◌≡◌, ℕ, ◌+◌, ◌*◌, ◌/◌, ◌%◌, ◌^◌, ◌<◌, Bool, true, false, cond, ◌==◌, eqb, ltb, List, [], ◌∷◌, ◌++◌, codes, slice_index, Some, refl, ap, ◌∙◌, arith, ◌⊎◌, inl, inr}
+use Rattle.std.proofs.Common.{◌≡◌, ℕ, ◌*◌, ◌/◌, ◌%◌, ◌^◌, ◌<◌, Bool, true, false, cond, ◌==◌, eqb, ltb, List, ◌∷◌, ◌++◌, codes, Some, refl, ap, ◌∙◌, arith, ◌⊎◌, inl, inr}
 use Rattle.std.specs.Fmt.{decimal}
 use Rattle.std.specs.Str.{bytes_eq}
 use Rattle.std.proofs.lemmas.Bool.{eq-eqb, eqb-true, lt-ltb}
 use Rattle.std.proofs.lemmas.Slice.Eq.{bytes_eq-Decides}
-use Rattle.hex.specs.Hex.{encode_lower, encode_with, lower_digits}
 use Rattle.vm_base.specs.declared.permission.Perm.{Perm}
 use Rattle.vm_base.specs.declared.permission.Perm.TheVariants.{ReadWrite as read_write, Read as read_only}
 use Rattle.vm_base.specs.declared.fork_mode.Mode.{Mode}
 use Rattle.vm_base.specs.declared.fork_mode.Mode.TheVariants.{Eager, OnDemand, Async}
 use Rattle.trace_text.specs.ScriptGrammar.{hexadecimal, perm_text, mode_text}
-use Rattle.trace_text.specs.ScriptReading.{parts_at, digit_of, number_of, count_of, byte_of, perm_of, mode_of, page_at, range_of}
+use Rattle.trace_text.specs.ScriptReading.{parts_at, number_of, count_of, perm_of, mode_of, page_at, range_of}
 use Rattle.trace_text.proofs.Digits.{base_10, base_16}
 use Rattle.trace_text.proofs.Parts.{parts_at_again, parts_at_takes}
 use Rattle.trace_text.proofs.Steps.{bind_some, only_if_some, some_is}
-use Rattle.trace_text.proofs.NumberLaws.{digit_of_glyph, digit_small, glyph_of_digit, number_of_again, number_of_takes, number_lacks}
-use Rattle.trace_text.proofs.BytesLaws.{lower_digit}
+use Rattle.trace_text.proofs.NumberLaws.{number_of_again, number_of_takes, number_lacks}
 
 -- ---- words
 
@@ -115,31 +113,3 @@ unfolding range_of
 range_again addr len below few =
     let lacks = number_lacks 32 16 addr refl base_16 below in
     rw (parts_at_again 32 (hexadecimal addr) (decimal len) lacks, number_of_again 16 addr base_16 below, count_again len few) refl
-
--- ---- one byte
-
-byte_two : (c d byte : ℕ) → byte_of (c ∷ d ∷ []) ≡ Some byte → c ∷ d ∷ [] ≡ encode_lower (byte ∷ [])
-unfolding encode_with
-byte_two c d byte e =
-    let high = bind_some (digit_of c) _ byte e in
-    let low = bind_some (digit_of d) _ byte high.2 in
-    let value = some_is (high.0 * 16 + low.0) byte low.2 in
-    let h = digit_small c high.0 high.1 in
-    let l = digit_small d low.0 low.1 in
-    let front : byte / 16 ≡ high.0 = omega arith in
-    let last : byte % 16 ≡ low.0 = omega arith in
-    rw (front, last, lower_digit high.0 h, lower_digit low.0 l, glyph_of_digit c high.0 high.1, glyph_of_digit d low.0 low.1) refl
-
-pub byte_takes : (token : List ℕ) (byte : ℕ) → byte_of token ≡ Some byte → token ≡ encode_lower (byte ∷ [])
-byte_takes [] byte e = absurd cc
-byte_takes (c ∷ []) byte e = absurd cc
-byte_takes (c ∷ d ∷ []) byte e = byte_two c d byte e
-byte_takes (c ∷ d ∷ f ∷ cs) byte e = absurd cc
-
-pub byte_again : (byte : ℕ) → byte < 2 ^ 8 → byte_of (encode_lower (byte ∷ [])) ≡ Some byte
-unfolding encode_with
-byte_again byte small =
-    let high : digit_of (slice_index lower_digits (byte / 16)) ≡ Some (byte / 16) = rw (lower_digit (byte / 16) (omega arith)) (digit_of_glyph (byte / 16) (omega arith)) in
-    let low : digit_of (slice_index lower_digits (byte % 16)) ≡ Some (byte % 16) = rw (lower_digit (byte % 16) (omega arith)) (digit_of_glyph (byte % 16) (omega arith)) in
-    let whole : byte / 16 * 16 + byte % 16 ≡ byte = omega arith in
-    rw (high, low, whole) refl

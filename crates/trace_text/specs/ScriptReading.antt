@@ -2,8 +2,6 @@
 use Rattle.std.specs.Prelude.{ℕ, ◌+◌, ◌-◌, ◌*◌, ◌/◌, ◌%◌, ◌^◌, nat_lt, nat_le, ◌==◌, Bool, true, ◌&&◌, not, if◌then◌else◌, List, [], ◌∷◌, length, codes, Option, Some, None}
 use Rattle.std.specs.List.{list_any}
 use Rattle.std.specs.Str.{bytes_eq}
-use Rattle.std.specs.Result.{result_ok}
-use Rattle.hex.specs.Hex.{decode_of}
 use Rattle.vm_base.specs.declared.permission.Perm.{Perm}
 use Rattle.vm_base.specs.declared.permission.Perm.TheVariants.{ReadWrite as read_write, Read as read_only}
 use Rattle.vm_base.specs.declared.fork_mode.Mode.{Mode}
@@ -58,24 +56,18 @@ count_of token = number_of 10 token >>= λ number. only_if (nat_lt number (2 ^ 3
 unfoldable pub page_at : List ℕ → Option ℕ
 page_at token = number_of 16 token >>= λ address. only_if (address % 4096 == 0) (address / 4096)
 
--- a digit of upper case, which the grammar has not
-abbrev pub is_upper : ℕ → Bool
-is_upper c = nat_le 65 c && nat_le c 70
-
--- at most 8192 digits, and none of upper case
-abbrev pub are_plain : List ℕ → Bool
-are_plain digits = nat_le (length digits) 8192 && not (list_any is_upper digits)
-
--- the bytes that such digits spell
-unfoldable pub bytes_of : List ℕ → Option (List ℕ)
-bytes_of digits = if are_plain digits then result_ok (decode_of digits) else None
-
 -- the byte that two digits spell
 abbrev pub byte_of : List ℕ → Option ℕ
 byte_of [] = None
 byte_of (c ∷ []) = None
 byte_of (c ∷ d ∷ []) = digit_of c >>= λ high. digit_of d >>= λ low. Some (high * 16 + low)
 byte_of (c ∷ d ∷ e ∷ cs) = None
+
+-- the bytes that pairs of digits spell
+abbrev pub bytes_of : List ℕ → Option (List ℕ)
+bytes_of [] = Some []
+bytes_of (c ∷ []) = None
+bytes_of (c ∷ d ∷ cs) = byte_of (c ∷ d ∷ []) >>= λ byte. bytes_of cs >>= λ bytes. Some (byte ∷ bytes)
 
 -- the permission of that spelling
 unfoldable pub perm_of : List ℕ → Option Perm
@@ -189,19 +181,23 @@ snap_read_event fields = do
   range ← range_of parts.1
   Some (SnapRead number range.0 range.1)
 
--- the events of what stands behind `map `, `protect `, `read `, `drop ` and `refuse `
+-- the event of what stands behind `map `
 unfoldable pub map_event : List ℕ → Option Event
 map_event fields = area_of fields >>= λ a. Some (Map a.0 a.1 a.2)
 
+-- the event of what stands behind `protect `
 unfoldable pub protect_event : List ℕ → Option Event
 protect_event fields = area_of fields >>= λ a. Some (Protect a.0 a.1 a.2)
 
+-- the event of what stands behind `read `
 unfoldable pub read_event : List ℕ → Option Event
 read_event fields = range_of fields >>= λ range. Some (Read range.0 range.1)
 
+-- the event of what stands behind `drop `
 unfoldable pub drop_event : List ℕ → Option Event
 drop_event fields = count_of fields >>= λ number. Some (Drop number)
 
+-- the event of what stands behind `refuse `
 unfoldable pub refuse_event : List ℕ → Option Event
 refuse_event fields = count_of fields >>= λ nth. Some (Refuse nth)
 
@@ -246,6 +242,7 @@ machine_by fields None = count_of fields >>= λ frames. Some (record { frames = 
 machine_by fields (Some parts) =
     count_of parts.0 >>= λ frames. count_of parts.1 >>= λ cells. Some (record { frames = frames; cells = cells })
 
+-- the same, with the fields cut at their first space
 unfoldable pub machine_fields : List ℕ → Option Machine
 machine_fields fields = machine_by fields (parts_at 32 fields)
 

@@ -1,5 +1,5 @@
 //! Numbers as a script spells them: digits of lower case, without a leading zero.
-ghost use Rattle.std.specs.Prelude.{◌≡◌, ◌<◌, ◌≤◌, ◌^◌, IfSome};
+ghost use Rattle.std.specs.Prelude.{◌≡◌, ◌<◌, ◌≤◌, ◌^◌, [], ◌∷◌, IfSome, IsSome, Some, is_some};
 ghost use Rattle.trace_text.specs.ScriptReading.{byte_of, count_of, digit_of, digits_read, number_of};
 
 // Every address lies below it, and all other numbers of a script are smaller.
@@ -51,10 +51,10 @@ fn digit(byte: u8) -> Option<u64>
     ensures value { result ≡ digit_of byte }
     ensures below { IfSome result (λ digit. digit < 16) }
 {
-    match byte {
-        b'0'..=b'9' => Some(u64::from(byte - b'0')),
-        b'a'..=b'f' => Some(u64::from(byte - b'a') + 10),
-        _ => None,
+    if is_digit(byte) {
+        Some(u64::from(value(byte)))
+    } else {
+        None
     }
 }
 
@@ -63,11 +63,34 @@ pub(crate) fn byte(token: &[u8]) -> Option<u8>
     ensures { result ≡ byte_of token.now }
 {
     match token {
-        [high, low] => {
-            let high = digit(*high)?;
-            let low = digit(*low)?;
-            Some((high * 16 + low) as u8)
-        }
+        [high, low] => pair(*high, *low),
         _ => None,
     }
+}
+
+/// The byte of a pair of digits.
+pub(crate) fn pair(high: u8, low: u8) -> Option<u8>
+    ensures { result ≡ byte_of (high ∷ low ∷ []) }
+{
+    if is_digit(high) & is_digit(low) {
+        Some(value(high) * 16 + value(low))
+    } else {
+        None
+    }
+}
+
+// Both kinds of digits come in any order, so that a branch here would be guessed wrong: this test
+// and the value have none.
+fn is_digit(byte: u8) -> bool
+    ensures { result ≡ is_some (digit_of byte) }
+{
+    (b'0' <= byte && byte <= b'9') | (b'a' <= byte && byte <= b'f')
+}
+
+fn value(byte: u8) -> u8
+    requires { IsSome (digit_of byte) }
+    ensures value { digit_of byte ≡ Some result }
+    ensures below { result < 16 }
+{
+    byte % 16 + 9 * (byte / 64)
 }

@@ -1,17 +1,10 @@
 //! The tokens of a line.
 ghost use Rattle.std.specs.Prelude.{◌≡◌, ◌<◌, ◌^◌, IfOk, IfSome, option_map, length, position, ◌==◌};
-ghost use Rattle.std.specs.List.{list_any};
-ghost use Rattle.std.specs.Result.{result_ok};
-ghost use Rattle.hex.specs.Hex.{decode_of};
-ghost use Rattle.trace_text.specs.ScriptReading.{are_plain, bytes_of, is_upper, mode_of, page_at, parts_at, perm_of, range_of};
+ghost use Rattle.trace_text.specs.ScriptReading.{bytes_of, mode_of, page_at, parts_at, perm_of, range_of};
 
-use crate::number::{count, number};
-use hex::FromHexError;
+use crate::number::{count, number, pair};
 use std::alloc::Global;
 use vm_base::{Bytes, Mode, NoMemory, Perm};
-
-// The digits of 4096 bytes.
-const MOST_DIGITS: usize = 8192;
 
 /// What stands before the first such byte, and what stands behind it.
 pub(crate) fn parts_at(text: &[u8], byte: u8) -> Option<(&[u8], &[u8])>
@@ -28,41 +21,34 @@ fn first_place(text: &[u8], byte: u8) -> Option<usize>
     text.iter().position(|other| *other == byte)
 }
 
-/// The bytes that the digits spell, which are those of lower case alone.
-#[tactic(auto, unfolding(crate::specs::ScriptReading::bytes_of))]
+/// The bytes that pairs of digits spell. Their room is made once.
 pub(crate) fn bytes_of(alloc: Global, digits: &[u8]) -> Result<Option<Bytes>, NoMemory>
     ensures { IfOk result (λ bytes. bytes ≡ bytes_of digits.now) }
 {
-    if are_plain(digits) {
-        decoded(alloc, digits)
+    let Some(list) = decoded(alloc, digits)? else {
+        return Ok(None);
+    };
+    let mut bytes = Bytes::new(alloc);
+    bytes.push_all(&list)?;
+    Ok(Some(bytes))
+}
+
+fn decoded(alloc: Global, digits: &[u8]) -> Result<Option<Vec<u8>>, NoMemory>
+    ensures { IfOk result (λ list. option_map (λ l. l.items) list ≡ bytes_of digits.now) }
+{
+    let mut list = Vec::with_capacity(alloc, digits.len() / 2)?;
+    let mut rest = digits;
+    while let [high, low, others @ ..] = rest {
+        let Some(byte) = pair(*high, *low) else {
+            return Ok(None);
+        };
+        list.push(byte)?;
+        rest = others;
+    }
+    if rest.is_empty() {
+        Ok(Some(list))
     } else {
         Ok(None)
-    }
-}
-
-fn are_plain(digits: &[u8]) -> bool
-    ensures { result ≡ are_plain digits.now }
-{
-    digits.len() <= MOST_DIGITS && !has_upper(digits)
-}
-
-fn has_upper(digits: &[u8]) -> bool
-    ensures { result ≡ list_any is_upper digits.now }
-{
-    digits.iter().any(|digit| b'A' <= *digit && *digit <= b'F')
-}
-
-fn decoded(alloc: Global, digits: &[u8]) -> Result<Option<Bytes>, NoMemory>
-    ensures { IfOk result (λ bytes. bytes ≡ result_ok (decode_of digits.now)) }
-{
-    match hex::decode(alloc, digits) {
-        Ok(decoded) => {
-            let mut bytes = Bytes::new(alloc);
-            bytes.push_all(&decoded)?;
-            Ok(Some(bytes))
-        }
-        Err(FromHexError::OutOfMemory) => Err(NoMemory),
-        Err(_) => Ok(None),
     }
 }
 
