@@ -1,9 +1,9 @@
 //! Scripts and the lines that they print, as text.
 //!
 //! The main call is [`read_script`]: `read_script(alloc, text)?` gives the frames, the slots and
-//! the events of a script, and [`outcome_text`] appends the line of an outcome. A caller may rely on it
-//! that a text is read exactly where it is a script, and that a fault is told at the first line
-//! that breaks a rule. README.md goes on.
+//! the events of a script, and [`outcome_text`] appends the line of an outcome. A caller may rely
+//! on it that a text is read exactly where it is a script, and that a fault is told at the first
+//! line that breaks a rule. README.md goes on.
 #![tactic(auto)]
 
 mod fault;
