@@ -58,11 +58,11 @@ fn is_skipped(line: &[u8]) -> bool
 
 // What was read of a script.
 #[derive(Drop)]
-pub(crate) struct Reading {
-    pub(crate) machine: Option<Machine>,
-    pub(crate) events: Vec<Event>,
+struct Reading {
+    machine: Option<Machine>,
+    events: Vec<Event>,
     // The number of the last fork, 0 before the first.
-    pub(crate) last_fork: u32,
+    last_fork: u32,
 }
 
 impl Reading {

@@ -206,7 +206,7 @@ fn a_line_past_a_bound_or_spelled_otherwise_is_at_fault(rt: HostRuntime) -> Resu
 
 #[test]
 fn a_text_within_the_rules_is_read(rt: HostRuntime) -> Result<(), Fail> {
-    let cases: [(&[u8], u32, u32, usize); 12] = [
+    let cases: [(&[u8], u32, u32, usize); 14] = [
         (b"machine 8", 8, 256, 0),
         (b"machine 65536 512\n", 65_536, 512, 0),
         (b"machine 8 1\n\n", 8, 1, 0),
@@ -231,6 +231,20 @@ fn a_text_within_the_rules_is_read(rt: HostRuntime) -> Result<(), Fail> {
             8,
             256,
             7,
+        ),
+        (
+            b"machine 64\nmap 100000 2 rw\nwrite 100000 6162\nfork 1 eager\nrefuse 1\n\
+              write 100000 7a\nread 100000 2\nsread 1 100000 2\nframes\ndrop 1\nframes\n",
+            64,
+            256,
+            10,
+        ),
+        (
+            b"machine 9\nmap 100000 2 rw\nwrite 100000 61\nfork 1 eager\nframes\n\
+              write 101000 62\nread 101000 1\nsread 1 100000 1\ndrop 1\nwrite 101000 62\nframes\n",
+            9,
+            256,
+            10,
         ),
         (
             b"machine 64\nmap 100000 1 rw\nmap 101000 1 r\nwrite 300000 61\nwrite 101000 61\n\
@@ -276,6 +290,21 @@ fn a_text_within_the_rules_is_read(rt: HostRuntime) -> Result<(), Fail> {
         assert_eq!(rt; script.cells(), cells);
         assert_eq!(rt; script.len(), events);
     }
+    Ok(())
+}
+
+#[test]
+fn a_script_of_many_areas_is_read(rt: HostRuntime) -> Result<(), Fail> {
+    let mut text = format!(in rt.alloc(); "machine 8\nmap 100000 3 rw\n")?;
+    for area in 0..127u32 {
+        let line = format!(in rt.alloc(); "map {:x} 1 rw\n", area * 0x2000)?;
+        text.push_str(&line)?;
+    }
+    text.push_str("map 200000 1 rw\nunmap 101000 1\nareas\nunmap 0 1\nmap 200000 1 rw\n")?;
+    let script = read_script(rt.alloc(), text.as_bytes())
+        .ok()
+        .ok_or("the text is a script")?;
+    assert_eq!(rt; script.len(), 133);
     Ok(())
 }
 
