@@ -1,0 +1,6 @@
+//! The kernel on frames.
+#![tactic(auto)]
+
+mod supply;
+
+pub use supply::Supply;
