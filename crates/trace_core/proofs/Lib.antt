@@ -1,2 +1,1 @@
 pub mod SupplyLemmas
-pub mod Worked

@@ -1,8 +1,7 @@
 -- What an event answers, which frames it asks for and gives back, and what it leaves.
-use Rattle.std.specs.Prelude.{ℕ, ◌+◌, ◌-◌, Bool, if◌then◌else◌, nat_le, List, [], length, map, replicate, Option, Some, None, Result, Ok, Err, unwrap_or}
+use Rattle.std.specs.Prelude.{ℕ, ◌+◌, ◌-◌, Bool, if◌then◌else◌, nat_le, List, [], length, replicate, Option, Some, None, Result, Ok, Err, unwrap_or}
 use Rattle.std.specs.FinMap.{get, insert, len, contains_key}
 use Rattle.vm_base.specs.declared.fork_mode.Mode.{Mode}
-use Rattle.vm_base.specs.declared.permission.Perm.{Perm}
 use Rattle.vm_base.specs.declared.frame_request.Asker.{Asker}
 use Rattle.vm_base.specs.declared.frame_request.Asker.TheVariants.{Parent, Snapshot}
 use Rattle.vm_base.specs.Places.{page_of, page_count, cells_of_range}
@@ -10,7 +9,7 @@ use Rattle.vm_base.specs.FlatMemory.{FlatMemory}
 use Rattle.vm_base.specs.FlatStep.{Refusal, OutsideAreas, ReadOnly, Taken, TooManyAreas, read_of, touch_of, stored, map_of, unmap_of, protect_of}
 use Rattle.vm_base.specs.TwoSides.{World, with_parent, forked, dropped, SnapRefusal, NotLive, OutsideSnapshot, CellLost, snap_read_of}
 use Rattle.vm_base.specs.Deals.{Deal}
-use Rattle.kernel_meaning.specs.Requests.{Answer, Requests, opening_requests}
+use Rattle.kernel_meaning.specs.Requests.{Answer, opening_requests}
 use Rattle.kernel_meaning.specs.CellActs.{CopyEnd, Copied as copy_made, NothingToCopy, FoundLost, CopyRefused}
 use Rattle.kernel_meaning.specs.FrameLaw.{Leaves, held_frames, losses_of, lacks_slots}
 use Rattle.kernel_meaning.specs.EventRequests.{Progress, FrameRefusal, opening_progress, pages_touched, snapshot_forked, snapshot_copied, copy_end_at, snapshot_dropped, pages_unmapped, pages_protected}

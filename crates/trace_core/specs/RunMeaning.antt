@@ -6,7 +6,7 @@ use Rattle.trace_events.specs.declared.event.Event.{Event}
 use Rattle.trace_events.specs.declared.outcome.Outcome.{Outcome}
 use Rattle.kernel_meaning.specs.Requests.{answers_of}
 use Rattle.kernel_meaning.specs.FrameLaw.{held_frames}
-use Rattle.kernel_meaning.specs.RefusedRequests.{Request, requests_of, refused_numbers, answers_from, PolicySum, AreAnswered}
+use Rattle.kernel_meaning.specs.RefusedRequests.{Request, requests_of, answers_from, PolicySum, AreAnswered}
 use Rattle.trace_core.specs.KernelState.{Machine, KernelState, opening_state}
 use Rattle.trace_core.specs.EventMeaning.{EventEnd, event_end, asker_of, refused_so_far}
 

@@ -1,7 +1,6 @@
 -- What may be known of where the kernel's frames come from, and how each deal changes it.
 use Rattle.std.specs.Prelude.{◌≡◌, ◌≢◌, ℕ, ◌+◌, ◌-◌, ◌<◌, ◌==◌, ◌⊎◌, Bool, true, false, if◌then◌else◌, IsTrue, nat_lt, List, length, Option, Some, None}
 use Rattle.std.specs.List.{list_all}
-use Rattle.vm_base.specs.declared.frame_request.Want.{Want}
 use Rattle.vm_base.specs.declared.frame_request.Asker.{Asker}
 use Rattle.vm_base.specs.declared.frame_request.Asker.TheVariants.{Parent}
 use Rattle.vm_base.specs.Counts.{next_count}
