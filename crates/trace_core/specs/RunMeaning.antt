@@ -1,21 +1,14 @@
 -- A whole run of events: what they answer one after another, and which of their requests for frames are refused.
 use Rattle.std.specs.Prelude.{◌≡◌, ℕ, if◌then◌else◌, List, [], ◌∷◌, ◌++◌}
-use Rattle.vm_base.specs.Counts.{next_count}
 use Rattle.vm_base.specs.Deals.{Deal, Granted, Denied, Returned}
 use Rattle.trace_events.specs.declared.event.Event.{Event}
 use Rattle.trace_events.specs.declared.outcome.Outcome.{Outcome}
 use Rattle.kernel_meaning.specs.Requests.{answers_of}
 use Rattle.kernel_meaning.specs.FrameLaw.{held_frames}
 use Rattle.kernel_meaning.specs.RefusedRequests.{Request, requests_of, answers_from, PolicySum, AreAnswered}
+use Rattle.trace_core.specs.Answering.{AreCounted}
 use Rattle.trace_core.specs.KernelState.{Machine, KernelState, opening_state}
 use Rattle.trace_core.specs.EventMeaning.{EventEnd, event_end, asker_of, refused_so_far}
-
--- each refusal among the deals of one asker carries its count, which had this value before
-abbrev pub AreCounted : ℕ → List Deal → Type 0
-AreCounted count [] = Unit {0}
-AreCounted count (Granted want ∷ deals) = AreCounted count deals
-AreCounted count (Denied want at ∷ deals) = (at ≡ next_count count) × AreCounted (next_count count) deals
-AreCounted count (Returned ∷ deals) = AreCounted count deals
 
 -- the end of an event that made these deals
 abbrev pub end_with : Machine → KernelState → Event → List Deal → EventEnd
