@@ -63,3 +63,8 @@ outcomes_by machine state refused [] = []
 outcomes_by machine state refused (event ∷ events) =
     let end = end_by machine state refused event in
     end.outcome ∷ outcomes_by machine end.after refused events
+
+-- the state that they leave then
+abbrev pub state_by : Machine → KernelState → List ℕ → List Event → KernelState
+state_by machine state refused [] = state
+state_by machine state refused (event ∷ events) = state_by machine (end_by machine state refused event).after refused events
