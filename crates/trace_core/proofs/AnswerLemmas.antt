@@ -1,6 +1,6 @@
 -- The deals of a supply lead on what the requests of a run so far have led to.
-use Rattle.std.proofs.Common.{◌≡◌, ◌≢◌, ℕ, ◌+◌, ◌-◌, ◌<◌, ◌≤◌, ◌==◌, ◌⊎◌, inl, inr, Bool, true, false, cond, not, List, [], ◌∷◌, ◌++◌, Option, refl, sym, ◌∙◌, ap, subst, arith}
-use Rattle.std.specs.Prelude.{IsTrue, ◌&&◌, ◌||◌, nat_lt, if◌then◌else◌, count_by, Some, None, IfSome}
+use Rattle.std.proofs.Common.{◌≡◌, ◌≢◌, ℕ, ◌+◌, ◌-◌, ◌<◌, ◌≤◌, ◌==◌, ◌⊎◌, inl, inr, Bool, true, false, cond, List, [], ◌∷◌, ◌++◌, Option, refl, sym, ◌∙◌, ap, subst, arith}
+use Rattle.std.specs.Prelude.{IsTrue, ◌&&◌, ◌||◌, count_by, Some, None, IfSome}
 use Rattle.std.specs.List.{AllByRecursion}
 use Rattle.std.proofs.lemmas.List.{append-nil, append_assoc}
 use Rattle.std.proofs.lemmas.List.Sums.{sum_by-append}
@@ -11,9 +11,9 @@ use Rattle.vm_base.specs.Counts.{next_count}
 use Rattle.vm_base.specs.Deals.{Deal, Granted, Denied, Returned, LeadsAlong}
 use Rattle.frame_pool.specs.Policies.{StaysWithin, FallsBelow}
 use Rattle.kernel_meaning.specs.Leaves.{holds_number}
-use Rattle.kernel_meaning.specs.RefusedRequests.{Request, requests_of, out_after, count_after, is_forced, is_by_policy, is_parents, PolicySum, AreAnswered}
-use Rattle.trace_core.specs.SupplyState.{SupplyState, SupplyGoes, is_next, pending_behind, PoliciesStay, PoliciesDeny, IsGranted, IsNamed, IsSpent, IsByPolicy, IsRefused, IsReturned}
-use Rattle.trace_core.specs.Answering.{AreCounted, made_after, pending_of, HasLeft, HaveLed, LeadOn, NoRequestHasLed, DealsLeadOn}
+use Rattle.kernel_meaning.specs.RefusedRequests.{Request, is_forced, is_by_policy, is_parents, PolicySum}
+use Rattle.trace_core.specs.SupplyState.{SupplyState, SupplyGoes, is_next, pending_behind, PoliciesDeny, IsGranted, IsNamed, IsSpent, IsByPolicy, IsRefused, IsReturned}
+use Rattle.trace_core.specs.Answering.{pending_of, HasLeft, HaveLed, LeadOn, NoRequestHasLed, DealsLeadOn}
 
 -- how one more request was answered, by what was known of the policies before it and is known behind it
 record Judges (frames : ℕ) (request : Request) (old new : PolicySum) : Type 0 where
@@ -50,8 +50,8 @@ led-push : (frames : ℕ) (opening old new : PolicySum) (requests : List Request
     → HaveLed frames opening requests old → Judges frames request old new → HaveLed frames opening (requests ++ request ∷ []) new
 led-push frames opening old new requests request before here =
     let left : HasLeft opening.left (count_by (is_by_policy frames) (requests ++ request ∷ [])) new.left =
-        subst (λ n. HasLeft opening.left n new.left) (sym (count_push (is_by_policy frames) requests request))
-        (has_left-push opening.left old.left new.left _ _ before.left here.left) in
+    subst (λ n. HasLeft opening.left n new.left) (sym (count_push (is_by_policy frames) requests request))
+    (has_left-push opening.left old.left new.left _ _ before.left here.left) in
     record {
       answered = record {
         forced = all_push (λ request. IsTrue (is_forced frames request) → IsTrue request.is_refused) requests request before.answered.forced here.forced;
@@ -210,9 +210,9 @@ lead_on (Granted want ∷ deals) opening named made requests from to pends befor
     let mid : SupplyState = record from { out = from.out + 1; pending = pending_behind from.pending; policies = next.policies } in
     let request = request_of from.asker named made from.out want false in
     let rest = lead_on deals opening named (made + 1) (requests ++ request ∷ []) mid to
-        (ap pending_behind pends ∙ pending_of-more named made)
-        (led-push from.made opening from.policies next.policies requests request before (judges-granted named made want from next pends granted))
-        (subst (λ state. LeadsAlong SupplyGoes state deals to) granted.is along.1.1) in
+    (ap pending_behind pends ∙ pending_of-more named made)
+    (led-push from.made opening from.policies next.policies requests request before (judges-granted named made want from next pends granted))
+    (subst (λ state. LeadsAlong SupplyGoes state deals to) granted.is along.1.1) in
     record {
       led = regrouped from.made opening to.policies requests _ request rest.led;
       all = rest.all;
@@ -228,9 +228,9 @@ lead_on (Denied want at ∷ deals) opening named made requests from to pends bef
     let mid : SupplyState = record from { refused = next_count from.refused; pending = pending_behind from.pending; policies = next.policies } in
     let request = request_of from.asker named made from.out want true in
     let rest = lead_on deals opening named (made + 1) (requests ++ request ∷ []) mid to
-        (ap pending_behind pends ∙ pending_of-more named made)
-        (led-push from.made opening from.policies next.policies requests request before (judges-by_cause named made want from next pends refused.cause))
-        (subst (λ state. LeadsAlong SupplyGoes state deals to) refused.is along.1.1) in
+    (ap pending_behind pends ∙ pending_of-more named made)
+    (led-push from.made opening from.policies next.policies requests request before (judges-by_cause named made want from next pends refused.cause))
+    (subst (λ state. LeadsAlong SupplyGoes state deals to) refused.is along.1.1) in
     record {
       led = regrouped from.made opening to.policies requests _ request rest.led;
       all = rest.all;
@@ -245,7 +245,7 @@ lead_on (Returned ∷ deals) opening named made requests from to pends before al
     let returned : IsReturned from next = along.1.0 in
     let mid : SupplyState = record from { out = from.out - 1 } in
     let rest = lead_on deals opening named made requests mid to pends before
-        (subst (λ state. LeadsAlong SupplyGoes state deals to) returned.is along.1.1) in
+    (subst (λ state. LeadsAlong SupplyGoes state deals to) returned.is along.1.1) in
     record {
       led = rest.led;
       all = rest.all;

@@ -1,5 +1,5 @@
 -- Short runs, worked out from the definitions.
-use Rattle.std.proofs.Common.{◌≡◌, ℕ, ◌+◌, Bool, true, false, cond, List, [], ◌∷◌, ◌++◌, refl, ◌∙◌, ap}
+use Rattle.std.proofs.Common.{◌≡◌, ℕ, true, List, [], ◌∷◌, ◌++◌, refl, ◌∙◌, ap}
 use Rattle.std.specs.Prelude.{if◌then◌else◌, nat_le, is_some}
 use Rattle.std.specs.Ordering.{nat_cmp}
 use Rattle.std.specs.FinMap.{empty, len, len-empty, get-empty}
@@ -11,13 +11,13 @@ use Rattle.vm_base.specs.FlatMemory.{Area, FlatMemory}
 use Rattle.vm_base.specs.TwoSides.{dropped}
 use Rattle.vm_base.proofs.NumberedMaps.{get_inserted_here}
 use Rattle.trace_events.specs.declared.event.Event.{Event}
-use Rattle.trace_events.specs.declared.event.Event.TheVariants.{Map, Unmap, Protect, Read, Write, Fill, Fork, Copy, Drop, SnapRead, Frames, ListAreas, Refuse}
+use Rattle.trace_events.specs.declared.event.Event.TheVariants.{Map, Unmap, Protect, Read, Write, Fill, Fork, Copy, Drop, Frames, ListAreas, Refuse}
 use Rattle.trace_events.specs.declared.outcome.Outcome.{Outcome}
-use Rattle.trace_events.specs.declared.outcome.Outcome.TheVariants.{Done, Bytes, Held, AreaRow, Copied, Nothing, Refused, Lost, NoArea, NoWrite, Overlap, AreasFull, CellsFull, NoFrame, TooMany, NoSnap}
+use Rattle.trace_events.specs.declared.outcome.Outcome.TheVariants.{Done, Held, AreaRow, NoArea, NoWrite, Overlap, CellsFull, NoFrame, TooMany, NoSnap}
 use Rattle.kernel_meaning.specs.RefusedRequests.{answers_from}
 use Rattle.kernel_meaning.specs.EventRequests.{snapshot_forked, snapshot_copied, copy_end_at, snapshot_dropped}
 use Rattle.trace_core.specs.KernelState.{Machine, KernelState, opening_state}
-use Rattle.trace_core.specs.EventMeaning.{EventEnd, begun, only_answers, parent_end, fork_answered, is_live, with_progress, snapshot_counted, copy_outcome}
+use Rattle.trace_core.specs.EventMeaning.{begun, only_answers, parent_end, fork_answered, is_live, with_progress, snapshot_counted, copy_outcome}
 use Rattle.trace_core.specs.RunMeaning.{outcomes_by, state_by}
 
 abbrev machine : ℕ → ℕ → Machine
@@ -74,24 +74,24 @@ absent_pages = refl
 -- a fork where no snapshot lives
 first_fork : (frames : ℕ) (state : KernelState) (refused : List ℕ) (n : ℕ) (how : Mode) (events : List Event) → len state.world.snapshots ≡ 0
     → let progress = snapshot_forked n how (begun state (answers_from refused state.made state.world.refused)) in
-      let end = fork_answered state n progress.refused progress in
-      outcomes_by (machine frames 256) state refused (Fork n how ∷ events) ≡ end.outcome ∷ outcomes_by (machine frames 256) end.after refused events
+    let end = fork_answered state n progress.refused progress in
+    outcomes_by (machine frames 256) state refused (Fork n how ∷ events) ≡ end.outcome ∷ outcomes_by (machine frames 256) end.after refused events
 first_fork frames state refused n how events none =
     let progress = snapshot_forked n how (begun state (answers_from refused state.made state.world.refused)) in
     ap (λ live.
-      let end = if nat_le 1 live then only_answers state TooMany else fork_answered state n progress.refused progress in
-      end.outcome ∷ outcomes_by (machine frames 256) end.after refused events) none
+    let end = if nat_le 1 live then only_answers state TooMany else fork_answered state n progress.refused progress in
+    end.outcome ∷ outcomes_by (machine frames 256) end.after refused events) none
 
 -- the drop of a snapshot that lives
 live_dropped : (frames : ℕ) (state : KernelState) (refused : List ℕ) (n : ℕ) (events : List Event) → is_live state.world n ≡ true
     → let progress = snapshot_dropped n (begun state (answers_from refused state.made state.world.refused)) in
-      let end = parent_end state (dropped state.world n) Done progress in
-      outcomes_by (machine frames 256) state refused (Drop n ∷ events) ≡ end.outcome ∷ outcomes_by (machine frames 256) end.after refused events
+    let end = parent_end state (dropped state.world n) Done progress in
+    outcomes_by (machine frames 256) state refused (Drop n ∷ events) ≡ end.outcome ∷ outcomes_by (machine frames 256) end.after refused events
 live_dropped frames state refused n events lives =
     let progress = snapshot_dropped n (begun state (answers_from refused state.made state.world.refused)) in
     ap (λ live.
-      let end = if live then parent_end state (dropped state.world n) Done progress else only_answers state NoSnap in
-      end.outcome ∷ outcomes_by (machine frames 256) end.after refused events) lives
+    let end = if live then parent_end state (dropped state.world n) Done progress else only_answers state NoSnap in
+    end.outcome ∷ outcomes_by (machine frames 256) end.after refused events) lives
 
 -- a page is written, and the parent forks
 abbrev one_page : List Event
@@ -143,9 +143,9 @@ no_snapshot =
     let state = opening_state 0 in
     let progress = snapshot_copied 1 0 (begun state []) in
     ap (λ live.
-      let end = if live then record {
-          outcome = copy_outcome (copy_end_at 1 0 (begun state []));
-          deals = progress.requests.deals;
-          after = with_progress state (snapshot_counted state.world 1 progress.requests.deals) progress;
-        } else only_answers state NoSnap in
-      end.outcome ∷ outcomes_by (machine 64 256) end.after [] (Frames ∷ [])) (ap is_some (get-empty nat_cmp 1))
+    let end = if live then record {
+      outcome = copy_outcome (copy_end_at 1 0 (begun state []));
+      deals = progress.requests.deals;
+      after = with_progress state (snapshot_counted state.world 1 progress.requests.deals) progress;
+    } else only_answers state NoSnap in
+    end.outcome ∷ outcomes_by (machine 64 256) end.after [] (Frames ∷ [])) (ap is_some (get-empty nat_cmp 1))

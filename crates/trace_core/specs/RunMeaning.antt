@@ -1,6 +1,6 @@
 -- A whole run of events: what they answer one after another, and which of their requests for frames are refused.
 use Rattle.std.specs.Prelude.{◌≡◌, ℕ, if◌then◌else◌, List, [], ◌∷◌, ◌++◌}
-use Rattle.vm_base.specs.Deals.{Deal, Granted, Denied, Returned}
+use Rattle.vm_base.specs.Deals.{Deal}
 use Rattle.trace_events.specs.declared.event.Event.{Event}
 use Rattle.trace_events.specs.declared.outcome.Outcome.{Outcome}
 use Rattle.kernel_meaning.specs.Requests.{answers_of}

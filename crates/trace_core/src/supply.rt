@@ -1,5 +1,5 @@
 //! Where the kernel's frames come from.
-ghost use Rattle.std.specs.Prelude.{◌≡◌, ◌+◌, ◌<◌, map, length, Some, IfOk, ◌==◌};
+ghost use Rattle.std.specs.Prelude.{◌≡◌, ◌+◌, map, Some, IfOk};
 ghost use Rattle.vm_base.specs.Counts.{next_count};
 ghost use Rattle.frame_pool.specs.Policies.{standing};
 ghost use Rattle.trace_core.specs.SupplyState.{SupplyState, state_of, opening_supply, policy_sum, is_next, pending_behind, SupplyGoes};
@@ -50,7 +50,8 @@ impl Supply {
     /// Names the nth request that follows, counted from 1, to be refused. It takes the place of one
     /// that is still to come.
     pub fn refuse(&mut self, nth: u32)
-        ensures { ⟦<Supply as Allot>⟧.state self.new ≡ record (⟦<Supply as Allot>⟧.state self.old) { pending = Some nth } }
+        ensures { ⟦<Supply as Allot>⟧.state self.new
+            ≡ record (⟦<Supply as Allot>⟧.state self.old) { pending = Some nth } }
     {
         self.pending = Some(nth);
     }
@@ -59,7 +60,8 @@ impl Supply {
     /// that asked until now was refused.
     pub fn ask_as(&mut self, asker: Asker, refused: u64) -> u64
         ensures before { result ≡ (⟦<Supply as Allot>⟧.state self.old).refused }
-        ensures asks { ⟦<Supply as Allot>⟧.state self.new ≡ record (⟦<Supply as Allot>⟧.state self.old) { asker = asker; refused = refused } }
+        ensures asks { ⟦<Supply as Allot>⟧.state self.new
+            ≡ record (⟦<Supply as Allot>⟧.state self.old) { asker = asker; refused = refused } }
     {
         let before = self.refused;
         self.asker = asker;
@@ -76,7 +78,8 @@ impl Supply {
 
     /// How many frames are in the pool.
     pub fn free(&self) -> u32
-        ensures { result + (⟦<Supply as Allot>⟧.state self.now).out ≡ (⟦<Supply as Allot>⟧.state self.now).made }
+        ensures { result + (⟦<Supply as Allot>⟧.state self.now).out
+            ≡ (⟦<Supply as Allot>⟧.state self.now).made }
     {
         self.pool.free()
     }
@@ -92,7 +95,12 @@ impl Supply {
 impl Allot for Supply {
     ghost State = { SupplyState };
 
-    ghost state = { λ supply. state_of (record { made = supply.pool.stack.made; free = supply.pool.stack.free; asks = supply.pool.asks; policies = map (λ b. (FramePolicy-box b).told b.value) supply.pool.policies.items }) supply.asker supply.refused supply.pending };
+    ghost state = { λ supply. state_of (record {
+      made = supply.pool.stack.made;
+      free = supply.pool.stack.free;
+      asks = supply.pool.asks;
+      policies = map (λ b. (FramePolicy-box b).told b.value) supply.pool.policies.items;
+    }) supply.asker supply.refused supply.pending };
 
     ghost refused = { λ state. state.refused };
 
