@@ -42,7 +42,7 @@ module _ (parent : Option Versions) (snapshot : Option Snapshot) (frames : List 
   own_there : version_at (own_places snapshot) page ≡ Some place
   own_there = eq-some (version_at (own_places snapshot) page) place (sym (named-own parent snapshot frames page place) ∙ named)
 
-  left : (q : ℕ) → version_at (table_places parent) page ≡ Some q → version_at (own_places snapshot) page ≡ Some q
+  pub left : (q : ℕ) → version_at (table_places parent) page ≡ Some q → version_at (own_places snapshot) page ≡ Some q
   left q is = own_there ∙ sym there ∙ is
 
   bytes : bytes_in frames (Some place) ≡ Some put.frame.bytes

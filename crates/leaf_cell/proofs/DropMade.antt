@@ -15,7 +15,7 @@ use Rattle.kernel_meaning.specs.Requests.{answers_of}
 use Rattle.kernel_meaning.specs.Leaves.{Versions, no_versions, version_at, is_lost, is_own, Kept, CellLeaves, kept_by, without_kept, share}
 use Rattle.kernel_meaning.specs.CellAccount.{Drop, CellAccount}
 use Rattle.leaf_cell.specs.declared.snapshot.Snapshot.{Snapshot}
-use Rattle.leaf_cell.specs.CellView.{CellView, bytes_in}
+use Rattle.leaf_cell.specs.CellView.{CellView, bytes_in, without_snapshot}
 use Rattle.leaf_cell.specs.Inside.{AreInside, table_places, snapshot_places, leaf_value, kept_value, kept_values, cell_value}
 use Rattle.leaf_cell.specs.Renaming.{AreKeptAlike, IsNamedBy, IsLive, IsRenaming}
 use Rattle.leaf_cell.specs.Releasing.{IsLeafReleased, own_if}
@@ -54,15 +54,11 @@ named-without n page version (it ∷ others) named = by (it.number == n) (named-
     by false rest (inl here) = inl here
     by false rest (inr later) = inr (rest later)
 
--- the leaves without snapshot n
-abbrev pub without : ℕ → CellLeaves → CellLeaves
-without n cell = record cell { kept = without_kept n cell.kept }
-
-live-without : (n page version : ℕ) (cell : CellLeaves) → IsLive (without n cell) page version → IsLive cell page version
+live-without : (n page version : ℕ) (cell : CellLeaves) → IsLive (without_snapshot n cell) page version → IsLive cell page version
 live-without n page version cell (inl there) = inl there
 live-without n page version cell (inr named) = inr (named-without n page version cell.kept named)
 
-renaming-without : (name : ℕ → ℕ → ℕ) (n : ℕ) (view meant : CellLeaves) → IsRenaming name view meant → IsRenaming name (without n view) (without n meant)
+renaming-without : (name : ℕ → ℕ → ℕ) (n : ℕ) (view meant : CellLeaves) → IsRenaming name view meant → IsRenaming name (without_snapshot n view) (without_snapshot n meant)
 renaming-without name n view meant alike = record {
   parent = alike.parent;
   kept = alike-without name n view.kept meant.kept alike.kept;
@@ -98,14 +94,14 @@ not-tied q k apart = ap (λ b. is_eq (cond (nat_lt q k) Less (cond b Equal Great
     by false = refl
 
 -- what a drop takes an account to: as many frames go back as the share shrinks by
-pub takes-dropped : (old new : CellView) (account : CellAccount) (n count : ℕ) (stands : StandsFor old account) → new.leaves ≡ without n old.leaves
+pub takes-dropped : (old new : CellView) (account : CellAccount) (n count : ℕ) (stands : StandsFor old account) → new.leaves ≡ without_snapshot n old.leaves
     → ((page : ℕ) → page < 512 → bytes_in new.frames (version_at new.leaves.parent page) ≡ bytes_in old.frames (version_at old.leaves.parent page))
     → ((number page : ℕ) (kept : Kept) → kept_by new.leaves.kept number ≡ Some kept → is_lost kept.leaf ≡ false → page < 512 → bytes_in new.frames (version_at kept.versions page) ≡ bytes_in old.frames (version_at kept.versions page))
     → share old.leaves ≡ share new.leaves + count → TakesAccount (Drop n) old new (replicate count Returned) None account
 takes-dropped old new account n count stands leaves pages kept less =
-    let alike : IsRenaming stands.name new.leaves (without n account.state.leaves) = subst (λ l. IsRenaming stands.name l (without n account.state.leaves)) (sym leaves) (renaming-without stands.name n old.leaves account.state.leaves stands.leaves) in
-    let shrunk : share account.state.leaves - share (without n account.state.leaves) ≡ count =
-    omega (arith, less, share-alike stands.name old.leaves account.state.leaves stands.leaves, share-alike stands.name new.leaves (without n account.state.leaves) alike) in
+    let alike : IsRenaming stands.name new.leaves (without_snapshot n account.state.leaves) = subst (λ l. IsRenaming stands.name l (without_snapshot n account.state.leaves)) (sym leaves) (renaming-without stands.name n old.leaves account.state.leaves stands.leaves) in
+    let shrunk : share account.state.leaves - share (without_snapshot n account.state.leaves) ≡ count =
+    omega (arith, less, share-alike stands.name old.leaves account.state.leaves stands.leaves, share-alike stands.name new.leaves (without_snapshot n account.state.leaves) alike) in
     record {
       stands = record {
         name = stands.name;
@@ -122,7 +118,7 @@ takes-dropped old new account n count stands leaves pages kept less =
     }
 
 -- whether a table names a place
-names-or : (places : Versions) (page place : ℕ) → (version_at places page ≡ Some place) ⊎ (version_at places page ≡ Some place → ⊥)
+pub names-or : (places : Versions) (page place : ℕ) → (version_at places page ≡ Some place) ⊎ (version_at places page ≡ Some place → ⊥)
 names-or places page place = by (version_at places page) refl
   where
     by : (o : Option ℕ) → version_at places page ≡ o → (version_at places page ≡ Some place) ⊎ (version_at places page ≡ Some place → ⊥)
@@ -178,7 +174,7 @@ made-dropped goes from to parent it frames new n inside number released =
     }
 
 -- no snapshot of that number is there
-pub made-unmet : {State : Type 0} (goes : State → Deal → State → Type 0) (state : State) (view : CellView) (n : ℕ) → view.leaves ≡ without n view.leaves → MadeAct goes state state (Drop n) view view None
+pub made-unmet : {State : Type 0} (goes : State → Deal → State → Type 0) (state : State) (view : CellView) (n : ℕ) → view.leaves ≡ without_snapshot n view.leaves → MadeAct goes state state (Drop n) view view None
 made-unmet goes state view n same = record {
   deals = [];
   led = refl;
@@ -187,10 +183,10 @@ made-unmet goes state view n same = record {
 
 -- what is without a number that is not there
 pub without-other : (parent : Option Versions) (snapshot : Option Snapshot) (frames : List (Option FrameView)) (n : ℕ) → is_some (kept_by (kept_values no_versions snapshot) n) ≡ false
-    → (cell_value parent snapshot frames).leaves ≡ without n (cell_value parent snapshot frames).leaves
+    → (cell_value parent snapshot frames).leaves ≡ without_snapshot n (cell_value parent snapshot frames).leaves
 without-other parent None frames n none = refl
 without-other parent (Some it) frames n none = by (it.number == n) refl none
   where
-    by : (b : Bool) → (it.number == n) ≡ b → is_some (cond b (Some (kept_value no_versions it)) None) ≡ false → (cell_value parent (Some it) frames).leaves ≡ without n (cell_value parent (Some it) frames).leaves
+    by : (b : Bool) → (it.number == n) ≡ b → is_some (cond b (Some (kept_value no_versions it)) None) ≡ false → (cell_value parent (Some it) frames).leaves ≡ without_snapshot n (cell_value parent (Some it) frames).leaves
     by true is none = absurd (false≢true (sym none))
     by false is none = ap (λ b. record (cell_value parent (Some it) frames).leaves { kept = cond (not b) (kept_value (table_places parent) it ∷ []) [] }) (sym is)

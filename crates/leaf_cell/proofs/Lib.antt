@@ -20,3 +20,8 @@ pub mod SameShare
 pub mod HeldShare
 pub mod Releases
 pub mod DropMade
+pub mod LossMade
+pub mod Touched
+pub mod SameReads
+pub mod Without
+pub mod ClearMade

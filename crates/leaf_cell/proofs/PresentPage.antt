@@ -44,7 +44,7 @@ module _ (name : ℕ → ℕ → ℕ) (view meant : CellLeaves) (alike : IsRenam
   holds None lives = refl
   holds (Some w) lives = eqb_names (name page w) (name page version) w version (λ e. alike.apart page w version (lives w refl) live e) (λ e. ap (name page) e)
 
-  names_alike : (it other : Kept) → IsKeptAlike name it other → ((w : ℕ) → (is_lost other.leaf ≡ false) × (version_at other.versions page ≡ Some w) → IsLive meant page w)
+  pub names_alike : (it other : Kept) → IsKeptAlike name it other → ((w : ℕ) → (is_lost other.leaf ≡ false) × (version_at other.versions page ≡ Some w) → IsLive meant page w)
       → names_version page (name page version) it ≡ names_version page version other
   names_alike it other same lives = ap (λ leaf. is_own leaf && holds_number (version_at it.versions page) (name page version)) same.leaf ∙ by_leaf (is_own other.leaf) refl
     where

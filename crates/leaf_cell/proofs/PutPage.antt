@@ -35,19 +35,19 @@ module _ (parent : Option Versions) (snapshot : Option Snapshot) (frames : List 
   new_table : (p : ℕ) → version_at (table_places next) p ≡ version_at (with_version (table_places parent) page put.place) p
   new_table p = ap (λ vs. version_at vs p) put.named
 
-  table_here : version_at (table_places next) page ≡ Some put.place
+  pub table_here : version_at (table_places next) page ≡ Some put.place
   table_here = new_table page ∙ get_or-set_same (table_places parent) page (Some put.place) None table_inside
 
-  table_apart : (p : ℕ) → p ≢ page → version_at (table_places next) p ≡ version_at (table_places parent) p
+  pub table_apart : (p : ℕ) → p ≢ page → version_at (table_places next) p ≡ version_at (table_places parent) p
   table_apart p apart = new_table p ∙ get_or-set_other (table_places parent) page p (Some put.place) None apart
 
   new_frame : (q : ℕ) → slice_index_or new q None ≡ slice_index_or (slice_set frames put.place (Some put.frame)) q None
   new_frame q = ap (λ fs. slice_index_or fs q None) put.frames
 
-  frame_here : slice_index_or new put.place None ≡ Some put.frame
+  pub frame_here : slice_index_or new put.place None ≡ Some put.frame
   frame_here = new_frame put.place ∙ get_or-set_same frames put.place (Some put.frame) None room
 
-  frame_apart : (q : ℕ) → q ≢ put.place → slice_index_or new q None ≡ slice_index_or frames q None
+  pub frame_apart : (q : ℕ) → q ≢ put.place → slice_index_or new q None ≡ slice_index_or frames q None
   frame_apart q apart = new_frame q ∙ get_or-set_other frames put.place q (Some put.frame) None apart
 
   -- what was filled stays filled

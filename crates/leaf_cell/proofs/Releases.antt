@@ -1,5 +1,5 @@
 -- Frames given back page after page.
-use Rattle.std.proofs.Common.{◌≡◌, ℕ, zero, suc, ◌+◌, ◌<◌, List, [], ◌∷◌, ◌++◌, length, replicate, Option, Some, None, refl, sym, ◌∙◌, ap, subst, arith, inl, inr, ◌⊎◌}
+use Rattle.std.proofs.Common.{◌≡◌, ℕ, zero, suc, ◌+◌, ◌<◌, ◌≤◌, List, [], ◌∷◌, ◌++◌, length, replicate, Option, Some, None, refl, sym, ◌∙◌, ap, subst, arith, inl, inr, ◌⊎◌}
 use Rattle.std.specs.Prelude.{slice_set, slice_index_or}
 use Rattle.std.proofs.lemmas.Bool.{cases_eq, cases_lt}
 use Rattle.std.proofs.lemmas.List.{get_or-set_same, get_or-set_other, length-set}
@@ -22,20 +22,21 @@ replicate-both x (suc a) b = ap (λ xs. x ∷ xs) (replicate-both x a b) ∙ ap 
     next = omega arith
 
 -- no page was looked at
-pub releasing-none : {State : Type 0} (goes : State → Deal → State → Type 0) (state : State) (own other : Versions) (frames : List (Option FrameView)) → Releasing goes state state own other frames frames 0
-releasing-none goes state own other frames = record {
+pub releasing-none : {State : Type 0} (goes : State → Deal → State → Type 0) (state : State) (own other : Versions) (frames : List (Option FrameView)) (first : ℕ) → Releasing goes state state own other frames frames first first
+releasing-none goes state own other frames first = record {
   count = 0;
   led = refl;
   taken = omega arith;
   room = refl;
   each = λ place. inl refl;
   kept = λ page place named. refl;
-  gone = λ page place small. absurd (omega (arith, small));
+  apart = λ page place small home outside. refl;
+  gone = λ page place above below. absurd (omega (arith, above, below));
 }
 
-module _ {State : Type 0} (goes : State → Deal → State → Type 0) (from middle to : State) (own other : Versions) (old now new : List (Option FrameView)) (page : ℕ)
-    (small : page < 512) (size : length old ≡ 1024) (home : AreHome own) (home_too : AreHome other)
-    (before : Releasing goes from middle own other old now page) (step : IsReleased goes middle to own other now new page) where
+module _ {State : Type 0} (goes : State → Deal → State → Type 0) (from middle to : State) (own other : Versions) (old now new : List (Option FrameView)) (first page : ℕ)
+    (small : page < 512) (begun : first ≤ page) (size : length old ≡ 1024) (home : AreHome own) (home_too : AreHome other)
+    (before : Releasing goes from middle own other old now first page) (step : IsReleased goes middle to (version_at own page) (version_at other page) now new) where
   -- a place is as it was before this page, or is given back by it
   at_step : (q : ℕ) → (slice_index_or new q None ≡ slice_index_or now q None) ⊎ ((q ≡ step.place) × (slice_index_or new q None ≡ None) × (version_at own page ≡ Some q) × (version_at other page ≡ Some q → ⊥))
   at_step q = elim step.frames [
@@ -53,7 +54,7 @@ module _ {State : Type 0} (goes : State → Deal → State → Type 0) (from mid
     ]
   ]
 
-  pub releasing-more : Releasing goes from to own other old new (page + 1)
+  pub releasing-more : Releasing goes from to own other old new first (page + 1)
   releasing-more = record {
     count = before.count + step.number;
     led = subst (λ deals. LeadsAlong goes from deals to) (replicate-both Returned before.count step.number)
@@ -68,9 +69,15 @@ module _ {State : Type 0} (goes : State → Deal → State → Type 0) (from mid
       | inl same ↦ same ∙ before.kept p q named
       | inr set ↦ absurd (set.3 (subst (λ i. version_at other i ≡ Some q) (one_page p page q (home_too p q named).0 small (home_too p q named).1 (home page q set.2).1) named))
     ];
-    gone = λ p q below named unnamed. elim (cases_lt p page) [
+    apart = λ p q under is_home outside. elim (at_step q) [
+      | inl same ↦ same ∙ before.apart p q under is_home (elim outside [ inl below ↦ inl below | inr above ↦ inr (omega (arith, above)) ])
+      | inr set ↦
+          let is : p ≡ page = one_page p page q under small is_home (home page q set.2).1 in
+          absurd (elim outside [ inl below ↦ omega (arith, below, is, begun) | inr above ↦ omega (arith, above, is) ])
+    ];
+    gone = λ p q above below named unnamed. elim (cases_lt p page) [
       | inl earlier ↦ elim (at_step q) [
-        | inl same ↦ same ∙ before.gone p q earlier named unnamed
+        | inl same ↦ same ∙ before.gone p q above earlier named unnamed
         | inr set ↦ set.1
       ]
       | inr here ↦
@@ -88,20 +95,20 @@ module _ {State : Type 0} (goes : State → Deal → State → Type 0) (from mid
       ]
 
 -- the other table names the same place: nothing is given back
-pub not-released : {State : Type 0} (goes : State → Deal → State → Type 0) (state : State) (own other : Versions) (frames : List (Option FrameView)) (page place : ℕ)
-    → version_at own page ≡ Some place → version_at other page ≡ Some place → IsReleased goes state state own other frames frames page
-not-released goes state own other frames page place named named_too = record {
+pub not-released : {State : Type 0} (goes : State → Deal → State → Type 0) (state : State) (named other : Option ℕ) (frames : List (Option FrameView)) (place : ℕ)
+    → named ≡ Some place → other ≡ Some place → IsReleased goes state state named other frames frames
+not-released goes state named other frames place is is_too = record {
   place = place;
   number = 0;
   led = refl;
   taken = omega arith;
   frames = inl refl;
-  gone = λ q own_q unnamed. absurd (unnamed (named_too ∙ sym named ∙ own_q));
+  gone = λ q own_q unnamed. absurd (unnamed (is_too ∙ sym is ∙ own_q));
 }
 
 -- the pages of a table, and then the table itself
 pub leaf-released : {State : Type 0} (goes : State → Deal → State → Type 0) (from middle to : State) (own other : Versions) (old new : List (Option FrameView)) → AreHome own
-    → Releasing goes from middle own other old new 512 → goes middle Returned to → IsLeafReleased goes from to own other 1 old new
+    → Releasing goes from middle own other old new 0 512 → goes middle Returned to → IsLeafReleased goes from to own other 1 old new
 leaf-released goes from middle to own other old new home pages table = record {
   count = pages.count + 1;
   led = subst (λ deals. LeadsAlong goes from deals to) (replicate-both Returned pages.count 1)
@@ -110,7 +117,7 @@ leaf-released goes from middle to own other old new home pages table = record {
   room = pages.room;
   each = pages.each;
   kept = pages.kept;
-  gone = λ page place named unnamed. pages.gone page place (home page place named).0 named unnamed;
+  gone = λ page place named unnamed. pages.gone page place (omega arith) (home page place named).0 named unnamed;
 }
 
 -- a leaf without a table

@@ -1,5 +1,5 @@
 -- The words of a table, and the places that they hold.
-use Rattle.std.proofs.Common.{◌≡◌, ◌≢◌, ℕ, zero, suc, ◌+◌, ◌-◌, ◌*◌, ◌^◌, ◌<◌, ◌≤◌, List, [], ◌++◌, length, take, drop, get_or, Option, Some, None, refl, sym, ◌∙◌, ap, arith, inl, inr, append_assoc}
+use Rattle.std.proofs.Common.{◌≡◌, ◌≢◌, ℕ, zero, suc, ◌+◌, ◌-◌, ◌*◌, ◌^◌, ◌<◌, ◌≤◌, List, [], ◌++◌, length, take, drop, replicate, get_or, Option, Some, None, refl, sym, ◌∙◌, ap, arith, inl, inr, ◌⊎◌, append_assoc}
 use Rattle.std.specs.Prelude.{slice_set, slice_index, cond}
 use Rattle.std.proofs.Math.ListN.{get_or-append}
 use Rattle.std.proofs.Math.Seq.{get_or-append_right, drop-append_seam}
@@ -10,8 +10,9 @@ use Rattle.byteorder.specs.Endian.{little_from, little_number, little_bytes}
 use Rattle.byteorder.specs.Numbers.{little_number-reads_back, length-bytes_low_first}
 use Rattle.vm_base.specs.Entries.{entry_of, number_of}
 use Rattle.vm_base.specs.FlatMemory.{spliced, zero_page}
-use Rattle.kernel_meaning.specs.Leaves.{no_versions, version_at}
-use Rattle.leaf_cell.specs.Places.{word_at, with_word, place_in, places_of}
+use Rattle.kernel_meaning.specs.Leaves.{no_versions, version_at, without_versions}
+use Rattle.leaf_cell.specs.Places.{word_at, with_word, without_words, place_in, places_of}
+use Rattle.leaf_cell.proofs.Without.{in-or-out, length-without, without-within, without-outside}
 
 -- a number depends on its bytes alone
 little_from-same : (xs ys : List ℕ) (i n : ℕ) → ((j : ℕ) → i ≤ j → j < i + n → slice_index xs j ≡ slice_index ys j) → little_from i n xs ≡ little_from i n ys
@@ -46,6 +47,14 @@ module _ (bytes : List ℕ) (at : ℕ) (new : List ℕ) (fits : at + length new 
       ∙ get_or-append_right new (drop (at + length new) bytes) (k - length (take at bytes)) 0 far_too
       ∙ get_or-drop (at + length new) bytes (k - length (take at bytes) - length new) 0
       ∙ ap (λ i. get_or bytes i 0) place
+
+  spliced-within : (k : ℕ) → at ≤ k → k < at + length new → slice_index (spliced bytes at new) k ≡ slice_index new (k - at)
+  spliced-within k above below =
+      let far : length (take at bytes) ≤ k = omega (arith, front) in
+      let place : k - length (take at bytes) ≡ k - at = omega (arith, front) in
+      ap (λ xs. slice_index xs k) parts ∙ get_or-append_right (take at bytes) (new ++ drop (at + length new) bytes) k 0 far
+      ∙ ap (λ i. get_or (new ++ drop (at + length new) bytes) i 0) place
+      ∙ get_or-append new (drop (at + length new) bytes) 0 (k - at) (omega arith)
 
 -- the word that was put is there
 word_at-here : (bytes : List ℕ) (i word : ℕ) → length bytes ≡ 4096 → i < 512 → word < 2 ^ 64 → word_at (with_word bytes i word) i ≡ word
@@ -107,6 +116,43 @@ zero_word i = little_from-same (drop (8 * i) zero_page) [] 0 8 (λ j above below
 
 pub places_of-zeros : places_of zero_page ≡ no_versions
 places_of-zeros = sym (filled zero_page no_versions (length-replicate {A = Option ℕ} 512 None) (λ page small. get_or-replicate 512 page None None small ∙ sym (ap place_in (zero_word page))))
+
+module _ (bytes : List ℕ) (first n : ℕ) (whole : length bytes ≡ 4096) (range : first + n ≤ 512) where
+  zeros : List ℕ
+  zeros = replicate (8 * n) 0
+
+  size : length zeros ≡ 8 * n
+  unfolding zeros
+  size = length-replicate {A = ℕ} (8 * n) 0
+
+  fits : 8 * first + length zeros ≤ length bytes
+  fits = omega (arith, size, whole, range)
+
+  -- entries of the range are 0
+  word_at-zeroed : (k : ℕ) → first ≤ k → k < first + n → word_at (spliced bytes (8 * first) zeros) k ≡ 0
+  unfolding zeros
+  word_at-zeroed k above below = little_from-same (drop (8 * k) (spliced bytes (8 * first) zeros)) [] 0 8 (λ j from to. get_or-drop (8 * k) (spliced bytes (8 * first) zeros) j 0
+      ∙ spliced-within bytes (8 * first) zeros fits (8 * k + j) (omega arith) (omega (arith, size))
+      ∙ get_or-replicate (8 * n) (8 * k + j - 8 * first) 0 0 (omega arith))
+
+  -- and the others are as they were
+  word_at-left : (k : ℕ) → k < 512 → (k < first) ⊎ (first + n ≤ k) → word_at (spliced bytes (8 * first) zeros) k ≡ word_at bytes k
+  word_at-left k small outside = little_from-same (drop (8 * k) (spliced bytes (8 * first) zeros)) (drop (8 * k) bytes) 0 8 (λ j from to. get_or-drop (8 * k) (spliced bytes (8 * first) zeros) j 0
+      ∙ elim outside [
+        | inl below ↦ spliced-below bytes (8 * first) zeros fits (8 * k + j) (omega arith)
+        | inr above ↦ spliced-above bytes (8 * first) zeros fits (8 * k + j) (omega (arith, size))
+      ]
+      ∙ sym (get_or-drop (8 * k) bytes j 0))
+
+  pub places_of-without_words : places_of (without_words bytes first n) ≡ without_versions (places_of bytes) first n
+  unfolding zeros
+  places_of-without_words =
+      let room : first + n ≤ length (places_of bytes) = omega (arith, range, length-places_of bytes) in
+      sym (filled (without_words bytes first n) (without_versions (places_of bytes) first n) (length-without (places_of bytes) first n room ∙ length-places_of bytes)
+      (λ k small. elim (in-or-out first n k) [
+        | inl within ↦ without-within (places_of bytes) first n room k within.0 within.1 ∙ sym (ap place_in (word_at-zeroed k within.0 within.1))
+        | inr outside ↦ without-outside (places_of bytes) first n room k outside ∙ version_at-places_of bytes k small ∙ sym (ap place_in (word_at-left k small outside))
+      ]))
 
 -- the entry of a place is not 0, and holds the place
 pub place_in-entry : (word place : ℕ) → word ≡ entry_of place 1 → number_of word ≡ place → place_in word ≡ Some place

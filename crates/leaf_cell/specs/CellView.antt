@@ -3,7 +3,7 @@ use Rattle.std.specs.Prelude.{◌≡◌, ℕ, ◌+◌, false, List, [], ◌∷�
 use Rattle.std.specs.Option.{option_map, option_and_then}
 use Rattle.vm_base.specs.Frames.{FrameView}
 use Rattle.vm_base.specs.FlatMemory.{zero_page}
-use Rattle.kernel_meaning.specs.Leaves.{version_at, Kept, CellLeaves, unused_cell, is_joined, parent_leaves, own_leaves}
+use Rattle.kernel_meaning.specs.Leaves.{version_at, Kept, CellLeaves, unused_cell, is_joined, parent_leaves, own_leaves, without_kept}
 
 -- leaves with places, and what lies at each place
 pub record CellView : Type 0 where
@@ -17,6 +17,10 @@ new_view = record { leaves = unused_cell; frames = replicate 1024 None }
 -- the frames that a cell holds: the parent's leaf table where it has a page, the snapshots' own, and those at places
 abbrev pub held_of : CellView → ℕ
 held_of view = parent_leaves view.leaves + own_leaves view.leaves + count_by is_some view.frames
+
+-- the leaves without snapshot n
+abbrev pub without_snapshot : ℕ → CellLeaves → CellLeaves
+without_snapshot n cell = record cell { kept = without_kept n cell.kept }
 
 -- no leaf is joined
 abbrev pub AreUnjoined : List Kept → Type 0

@@ -6,4 +6,7 @@ pub mod Standing
 pub mod Adding
 pub mod Releasing
 pub mod States
+pub mod Losing
+pub mod Clearing
+pub mod Touching
 pub mod Codes

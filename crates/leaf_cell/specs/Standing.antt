@@ -1,14 +1,17 @@
 -- When a cell stands for an account, and what a call over an allot tells.
-use Rattle.std.specs.Prelude.{◌≡◌, ℕ, ◌<◌, false, List, Option, Some}
+use Rattle.std.specs.Prelude.{◌≡◌, ℕ, ◌<◌, false, List, Option, Some, IsSome, Result, OnOk, IfErr}
 use Rattle.std.specs.FinMap.{get}
 use Rattle.std.specs.Option.{option_and_then}
+use Rattle.vm_base.specs.declared.refusals.Lost.{Lost as Loss}
 use Rattle.vm_base.specs.Deals.{Deal, LeadsAlong}
 use Rattle.kernel_meaning.specs.Requests.{answers_of}
 use Rattle.kernel_meaning.specs.Leaves.{Kept, is_lost, kept_by}
 use Rattle.kernel_meaning.specs.CellActs.{Course}
 use Rattle.kernel_meaning.specs.CellAccount.{CellAct, CellAccount, course_of, state_after}
-use Rattle.leaf_cell.specs.CellView.{CellView, parent_page, kept_page}
+use Rattle.leaf_cell.specs.declared.snapshot.LeafState.TheVariants as state
+use Rattle.leaf_cell.specs.CellView.{CellView, parent_page, kept_page, part_of}
 use Rattle.leaf_cell.specs.Renaming.{IsRenaming, AreMade}
+use Rattle.leaf_cell.specs.States.{state_of}
 
 -- the cell has the leaves of the account under other names, and the bytes of both sides, but for snapshots that have lost it
 pub record StandsFor (view : CellView) (account : CellAccount) : Type 0 where
@@ -18,6 +21,15 @@ pub record StandsFor (view : CellView) (account : CellAccount) : Type 0 where
   pub pages : (page : ℕ) → page < 512 → parent_page view page ≡ get account.state.pages page
   pub snapshots : (n page : ℕ) (kept : Kept) → kept_by view.leaves.kept n ≡ Some kept → is_lost kept.leaf ≡ false → page < 512
       → kept_page view kept page ≡ option_and_then (λ pages. get pages page) (get account.state.snapshots n)
+
+-- a page of a snapshot as an account has it
+abbrev pub snapshot_page : CellAccount → ℕ → ℕ → Option (List ℕ)
+snapshot_page account n page = option_and_then (λ pages. get pages page) (get account.state.snapshots n)
+
+-- bytes of a snapshot were read, which has the cell: those of the account, or it has lost the cell there too
+pub record IsSnapRead (account : CellAccount) (n page at size : ℕ) (result : Result (Unit {0}) Loss) (bytes : List ℕ) : Type 0 where
+  pub ok : IsSome (kept_by account.state.leaves.kept n) → OnOk result (bytes ≡ part_of (snapshot_page account n page) at size)
+  pub lost : IfErr result (λ lost. state_of (kept_by account.state.leaves.kept n) ≡ state.Lost lost.at)
 
 -- what an act on an account ran, behind its requests and with these deals' answers
 abbrev pub course_behind : CellAct → CellAccount → List Deal → Course

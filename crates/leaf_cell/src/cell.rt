@@ -1,14 +1,16 @@
 //! A cell, and what is read of it.
 ghost use Rattle.std.specs.Prelude.{◌≡◌, ◌+◌, ◌<◌, ◌≤◌, ℕ, length, IfOk, Ok, Err, OnOk, OnErr, IfErr, replicate, None, Some, is_some, count_by};
+ghost use Rattle.std.specs.FinMap.{get};
 ghost use Rattle.kernel_meaning.specs.Leaves.{has_present, kept_by, version_at};
 ghost use Rattle.kernel_meaning.specs.CellAccount.{CellAccount, empty_account, account_share};
 ghost use Rattle.leaf_cell.specs.CellView.{new_view, parent_page, part_of, held_of};
-ghost use Rattle.leaf_cell.specs.Standing.{StandsFor};
+ghost use Rattle.leaf_cell.specs.Standing.{StandsFor, IsSnapRead};
 ghost use Rattle.leaf_cell.specs.States.{state_of, nth_number, snapshot_part};
 
 use crate::leaf_table::{CELL_PAGES, LeafTable};
 use crate::lookups::{
-    count_frames, count_own, count_table, leaf_state, place_in, read_place, snapshot_place,
+    count_frames, count_own, count_table, covers_in, leaf_state, place_in, read_place,
+    snapshot_place,
 };
 use crate::snapshot::{LeafState, Snapshot};
 use std::alloc::Global;
@@ -60,7 +62,8 @@ impl Cell {
     pub fn read(&self, page: u16, at: u16, buf: &mut [u8])
         requires page { page < CELL_PAGES }
         requires room { at + length buf.old ≤ 4096 }
-        ensures { buf.new ≡ part_of (parent_page self.now page) at (length buf.old) }
+        ensures read { buf.new ≡ part_of (parent_page self.now page) at (length buf.old) }
+        ensures account { (account : CellAccount) → StandsFor self.now account → buf.new ≡ part_of (get account.state.pages page) at (length buf.old) }
     {
         let place = place_in(&self.parent, page);
         read_place(&self.frames, place, at as usize, buf);
@@ -73,6 +76,7 @@ impl Cell {
         requires room { at + length buf.old ≤ 4096 }
         ensures ok { OnOk result (snapshot_part self.now number page at (length buf.old) ≡ Ok buf.new) }
         ensures lost { IfErr result (λ lost. snapshot_part self.now number page at (length buf.old) ≡ Err lost.at) }
+        ensures account { (account : CellAccount) → StandsFor self.now account → IsSnapRead account number page at (length buf.old) result buf.new }
     {
         match &self.snapshot {
             Some(snapshot) => {
@@ -90,7 +94,8 @@ impl Cell {
 
     /// What the snapshot has here.
     pub fn state(&self, number: u32) -> LeafState
-        ensures { result ≡ state_of (kept_by self.now.leaves.kept number) }
+        ensures state { result ≡ state_of (kept_by self.now.leaves.kept number) }
+        ensures account { (account : CellAccount) → StandsFor self.now account → result ≡ state_of (kept_by account.state.leaves.kept number) }
     {
         match &self.snapshot {
             Some(snapshot) => {
@@ -106,7 +111,8 @@ impl Cell {
 
     /// How many pages the parent has here.
     pub fn pages(&self) -> u32
-        ensures { result ≡ count_by is_some self.now.leaves.parent }
+        ensures pages { result ≡ count_by is_some self.now.leaves.parent }
+        ensures account { (account : CellAccount) → StandsFor self.now account → result ≡ count_by is_some account.state.leaves.parent }
     {
         match &self.parent {
             Some(table) => table.pages(),
@@ -126,17 +132,16 @@ impl Cell {
     /// Whether the parent has a page in a range of pages.
     pub fn covers(&self, first: u16, pages: u16) -> bool
         requires { first + pages ≤ CELL_PAGES }
-        ensures { result ≡ has_present self.now.leaves.parent first pages }
+        ensures covers { result ≡ has_present self.now.leaves.parent first pages }
+        ensures account { (account : CellAccount) → StandsFor self.now account → result ≡ has_present account.state.leaves.parent first pages }
     {
-        match &self.parent {
-            Some(table) => table.covers(first, pages),
-            None => false,
-        }
+        covers_in(&self.parent, first, pages)
     }
 
     /// The number of the nth snapshot here, counted from 0 in rising order.
     pub fn snap(&self, nth: u32) -> Option<u32>
-        ensures { result ≡ nth_number self.now.leaves.kept nth }
+        ensures nth { result ≡ nth_number self.now.leaves.kept nth }
+        ensures account { (account : CellAccount) → StandsFor self.now account → result ≡ nth_number account.state.leaves.kept nth }
     {
         match &self.snapshot {
             Some(snapshot) => {

@@ -5,9 +5,10 @@ ghost use Rattle.vm_base.specs.Counts.{next_count};
 ghost use Rattle.vm_base.specs.FlatMemory.{zero_page};
 ghost use Rattle.leaf_cell.specs.declared.snapshot.SnapshotLeaf.TheVariants as leaf;
 ghost use Rattle.leaf_cell.specs.Inside.{table_places, kept_values};
-ghost use Rattle.kernel_meaning.specs.Leaves.{has_pages, kept_by, no_versions};
+ghost use Rattle.kernel_meaning.specs.Leaves.{has_pages, kept_by, no_versions, Own};
+ghost use Rattle.kernel_meaning.specs.CellActs.{with_fork};
 ghost use Rattle.kernel_meaning.specs.CellAccount.{Fork, Drop as DropAct};
-ghost use Rattle.leaf_cell.specs.CellView.{held_of};
+ghost use Rattle.leaf_cell.specs.CellView.{held_of, without_snapshot};
 ghost use Rattle.leaf_cell.specs.Standing.{MadeAct};
 ghost use Rattle.leaf_cell.specs.States.{refused_count};
 
@@ -29,6 +30,7 @@ impl Cell {
         ensures held { A.out (A.state allot.new) + held_of self.old ≡ A.out (A.state allot.old) + held_of self.new }
         ensures untold { A.grants allot.new ≡ None }
         ensures refused { OnErr result (self.new ≡ self.old) }
+        ensures leaves { OnOk result (self.new.leaves ≡ with_fork number mode.Eager Own self.old.leaves) }
 
         // Refused only where the allot's count rose, and the answer carries it.
         ensures unrefused { OnOk result (A.refused (A.state allot.new) ≡ A.refused (A.state allot.old)) }
@@ -51,6 +53,7 @@ impl Cell {
         ensures held { A.out (A.state allot.new) + held_of self.old ≡ A.out (A.state allot.old) + held_of self.new }
         ensures untold { A.grants allot.new ≡ None }
         ensures unrefused { A.refused (A.state allot.new) ≡ A.refused (A.state allot.old) }
+        ensures leaves { self.new.leaves ≡ without_snapshot number self.old.leaves }
     {
         if is_snapshot(&self.snapshot, number) {
             if let Some(snapshot) = self.snapshot.take() {

@@ -1,9 +1,9 @@
 //! A leaf table: the places of the frames of 512 pages, in a frame of its own.
-ghost use Rattle.std.specs.Prelude.{◌≡◌, ◌<◌, ◌*◌, ◌+◌, ◌≤◌, slice_set, Some, None, length, count_by, is_some};
+ghost use Rattle.std.specs.Prelude.{◌≡◌, ◌<◌, ◌*◌, ◌+◌, ◌≤◌, slice_set, Some, None, length, replicate, count_by, is_some};
 ghost use Rattle.byteorder.specs.Endian.{little_bytes};
 ghost use Rattle.vm_base.specs.FlatMemory.{zero_page, spliced};
-ghost use Rattle.kernel_meaning.specs.Leaves.{no_versions, version_at, with_version, has_present};
-ghost use Rattle.leaf_cell.specs.Places.{word_at, place_in, with_word};
+ghost use Rattle.kernel_meaning.specs.Leaves.{no_versions, version_at, with_version, without_versions, has_present};
+ghost use Rattle.leaf_cell.specs.Places.{word_at, place_in, with_word, without_words};
 
 use byteorder::{ByteOrder, LittleEndian};
 use std::marker::Model;
@@ -57,6 +57,14 @@ impl LeafTable {
         ensures { self.new ≡ with_version self.old page place }
     {
         put_word(&mut self.frame, page, entry_word(place, Bits::PRESENT));
+    }
+
+    /// No page of a range is there from now on.
+    pub(crate) fn clear(&mut self, first: u16, pages: u16)
+        requires { first + pages ≤ CELL_PAGES }
+        ensures { self.new ≡ without_versions self.old first pages }
+    {
+        clear_words(&mut self.frame, first, pages);
     }
 
     /// Names the same frames as another table.
@@ -137,6 +145,27 @@ fn put_word(frame: &mut Frame, page: u16, word: u64)
     set_word(bytes, page, word);
 }
 
+/// Puts zeros as the entries of a range of pages.
+fn clear_words(frame: &mut Frame, first: u16, pages: u16)
+    requires { first + pages ≤ CELL_PAGES }
+    ensures { frame.new ≡ record frame.old { bytes = without_words frame.old.bytes first pages } }
+{
+    let bytes: &mut [u8] = frame.bytes_mut();
+    put_zeros(
+        bytes,
+        ENTRY_BYTES * first as usize,
+        ENTRY_BYTES * pages as usize,
+    );
+}
+
+/// Puts zeros from a place on.
+fn put_zeros(target: &mut [u8], at: usize, count: usize)
+    requires { at + count ≤ length target.old }
+    ensures { target.new ≡ spliced target.old at (replicate count 0) }
+{
+    target[at..at + count].fill(0);
+}
+
 fn set_word(bytes: &mut [u8], page: u16, word: u64)
     requires size { length bytes.old ≡ 4096 }
     requires page { page < CELL_PAGES }
@@ -164,7 +193,7 @@ pub(crate) fn put_bytes(target: &mut [u8], at: usize, bytes: &[u8])
 }
 
 /// Puts the bytes of one frame into another.
-fn copy_bytes(frame: &mut Frame, other: &Frame)
+pub(crate) fn copy_bytes(frame: &mut Frame, other: &Frame)
     ensures { frame.new ≡ record frame.old { bytes = other.now.bytes } }
 {
     *frame.bytes_mut() = *other.bytes();

@@ -1,7 +1,7 @@
 //! Where the pages of a cell are.
-ghost use Rattle.std.specs.Prelude.{◌≡◌, ◌+◌, ◌<◌, ◌≤◌, length, count_by, is_some, take, drop, cond, [], Ok, Err, OnOk, IfOk, IfErr};
-ghost use Rattle.std.specs.Option.{option_map};
-ghost use Rattle.kernel_meaning.specs.Leaves.{version_at, no_versions, is_own, Joined};
+ghost use Rattle.std.specs.Prelude.{◌≡◌, ◌+◌, ◌<◌, ◌≤◌, length, count_by, is_some, take, drop, cond, [], Some, Ok, Err, OnOk, IfOk, IfErr, nat_eq};
+ghost use Rattle.std.specs.Option.{option_map, option_eq};
+ghost use Rattle.kernel_meaning.specs.Leaves.{version_at, has_present, no_versions, is_own, Joined};
 ghost use Rattle.leaf_cell.specs.CellView.{bytes_in, part_of};
 ghost use Rattle.leaf_cell.specs.Inside.{table_places, snapshot_places, own_places, leaf_value, kept_values};
 ghost use Rattle.leaf_cell.specs.States.{unless_lost, leaf_state as leaf_state_of};
@@ -18,6 +18,17 @@ pub(crate) fn place_in(table: &Option<LeafTable>, page: u16) -> Option<u32>
     match table {
         Some(table) => table.get(page),
         None => None,
+    }
+}
+
+/// Whether a table, where there is one, has a page in a range of pages.
+pub(crate) fn covers_in(table: &Option<LeafTable>, first: u16, pages: u16) -> bool
+    requires { first + pages ≤ CELL_PAGES }
+    ensures { result ≡ has_present (table_places table.now) first pages }
+{
+    match table {
+        Some(table) => table.covers(first, pages),
+        None => false,
     }
 }
 
@@ -39,6 +50,29 @@ pub(crate) fn snapshot_place(
     }
 }
 
+/// The place of a page in a snapshot's own table, where there is one.
+pub(crate) fn own_place(snapshot: &Option<Snapshot>, page: u16) -> Option<u32>
+    requires { page < CELL_PAGES }
+    ensures { result ≡ version_at (own_places snapshot.now) page }
+{
+    match snapshot {
+        Some(snapshot) => match &snapshot.leaf {
+            SnapshotLeaf::Own(table) => table.get(page),
+            SnapshotLeaf::Joined => None,
+            SnapshotLeaf::Lost(_) => None,
+        },
+        None => None,
+    }
+}
+
+/// Whether a snapshot's own table names a page at this place.
+pub(crate) fn names_place(snapshot: &Option<Snapshot>, page: u16, place: u32) -> bool
+    requires { page < CELL_PAGES }
+    ensures { result ≡ option_eq nat_eq (version_at (own_places snapshot.now) page) (Some place) }
+{
+    own_place(snapshot, page) == Some(place)
+}
+
 /// Reads bytes of the page at a place, which are zeros where there is none.
 pub(crate) fn read_place(frames: &[Option<Frame>], place: Option<u32>, at: usize, buf: &mut [u8])
     requires { at + length buf.old ≤ 4096 }
@@ -51,7 +85,7 @@ pub(crate) fn read_place(frames: &[Option<Frame>], place: Option<u32>, at: usize
 }
 
 /// The frame at a place.
-fn frame_at(frames: &[Option<Frame>], place: Option<u32>) -> Option<&Frame>
+pub(crate) fn frame_at(frames: &[Option<Frame>], place: Option<u32>) -> Option<&Frame>
     ensures { option_map (λ frame. frame.now.bytes) result ≡ bytes_in frames.now place }
 {
     match frames.get(place? as usize) {

@@ -75,7 +75,7 @@ fn take_both<A: Allot>(allot: &mut A) -> Result<(Frame, Frame), Refused>
 }
 
 /// The one of a page's two places that is free.
-fn free_place(frames: &[Option<Frame>], page: u16) -> u32
+pub(crate) fn free_place(frames: &[Option<Frame>], page: u16) -> u32
     requires page { page < CELL_PAGES }
     requires size { length frames.now ≡ 1024 }
     requires free { (slice_index_or frames.now page None ≡ None) ⊎ (slice_index_or frames.now (page + 512) None ≡ None) }
@@ -90,7 +90,7 @@ fn free_place(frames: &[Option<Frame>], page: u16) -> u32
 }
 
 /// The page lies at this place from now on.
-fn put_page(
+pub(crate) fn put_page(
     table: &mut LeafTable,
     frames: &mut [Option<Frame>],
     page: u16,

@@ -1,13 +1,13 @@
 //! Frames that go back.
-ghost use Rattle.std.specs.Prelude.{◌≡◌, ◌+◌, ◌<◌, ◌≤◌, length, slice_set, slice_index_or, replicate, count_by, is_some, Some, None};
+ghost use Rattle.std.specs.Prelude.{ℕ, ◌≡◌, ◌+◌, ◌<◌, ◌≤◌, length, slice_set, slice_index_or, replicate, count_by, is_some, Some, None};
 ghost use Rattle.vm_base.specs.Deals.{LeadsAlong, Returned};
 ghost use Rattle.kernel_meaning.specs.Leaves.{no_versions};
-ghost use Rattle.leaf_cell.specs.Inside.{table_places, snapshot_places, leaf_value};
+ghost use Rattle.leaf_cell.specs.Inside.{table_places, own_places, snapshot_places, leaf_value};
 ghost use Rattle.leaf_cell.specs.Releasing.{one_if, own_if, IsLeafReleased, AreHome, Releasing, IsReleased};
 
 use crate::leaf_table::{CELL_PAGES, LeafTable};
-use crate::lookups::place_in;
-use crate::snapshot::SnapshotLeaf;
+use crate::lookups::{own_place, place_in};
+use crate::snapshot::{Snapshot, SnapshotLeaf};
 use vm_base::{Allot, Frame};
 
 /// Gives back what a snapshot's leaf alone names, and its own table.
@@ -49,37 +49,65 @@ fn release_pages<A: Allot>(
     requires others { AreHome (table_places other.now) }
     requires out { count_by is_some frames.old.items ≤ A.out (A.state allot.old) }
     requires untold { A.grants allot.old ≡ None }
-    ensures released { Releasing A.goes (A.state allot.old) (A.state allot.new) table.now (table_places other.now) frames.old.items frames.new.items 512 }
+    ensures released { Releasing A.goes (A.state allot.old) (A.state allot.new) table.now (table_places other.now) frames.old.items frames.new.items 0 512 }
     ensures out { A.out (A.state allot.new) + count_by is_some frames.old.items ≡ A.out (A.state allot.old) + count_by is_some frames.new.items }
     ensures untold { A.grants allot.new ≡ None }
     ensures unrefused { A.refused (A.state allot.new) ≡ A.refused (A.state allot.old) }
 {
     for page in 0..CELL_PAGES {
-        release_page(table, other, frames, page, allot);
+        release_page(table.get(page), place_in(other, page), frames, allot);
     }
 }
 
-/// Gives back the frame of one page of a table, where the other table does not name it.
-fn release_page<A: Allot>(
-    table: &LeafTable,
-    other: &Option<LeafTable>,
+/// Gives back the frames of a range of pages that the parent names and the snapshot's own
+/// table does not.
+pub(crate) fn release_range<A: Allot>(
+    parent: &Option<LeafTable>,
+    snapshot: &Option<Snapshot>,
     frames: &mut Vec<Option<Frame>>,
-    page: u16,
+    first: u16,
+    pages: u16,
     allot: &mut A,
 )
-    requires page { page < CELL_PAGES }
+    requires range { first + pages ≤ CELL_PAGES }
     requires size { length frames.old.items ≡ 1024 }
-    requires home { AreHome table.now }
-    requires others { AreHome (table_places other.now) }
+    requires home { AreHome (table_places parent.now) }
+    requires others { AreHome (own_places snapshot.now) }
     requires out { count_by is_some frames.old.items ≤ A.out (A.state allot.old) }
     requires untold { A.grants allot.old ≡ None }
-    ensures released { IsReleased A.goes (A.state allot.old) (A.state allot.new) table.now (table_places other.now) frames.old.items frames.new.items page }
+    ensures released { Releasing A.goes (A.state allot.old) (A.state allot.new) (table_places parent.now) (own_places snapshot.now) frames.old.items frames.new.items first (first + pages) }
     ensures out { A.out (A.state allot.new) + count_by is_some frames.old.items ≡ A.out (A.state allot.old) + count_by is_some frames.new.items }
     ensures untold { A.grants allot.new ≡ None }
     ensures unrefused { A.refused (A.state allot.new) ≡ A.refused (A.state allot.old) }
 {
-    if let Some(place) = table.get(page) {
-        if place_in(other, page) != Some(place) {
+    for page in first..first + pages {
+        release_page(
+            place_in(parent, page),
+            own_place(snapshot, page),
+            frames,
+            allot,
+        );
+    }
+}
+
+/// Gives back the frame at the place of a page, where the other place of it is another.
+fn release_page<A: Allot>(
+    place: Option<u32>,
+    other: Option<u32>,
+    frames: &mut Vec<Option<Frame>>,
+    allot: &mut A,
+)
+    requires size { length frames.old.items ≡ 1024 }
+    requires room { (q : ℕ) → place ≡ Some q → q < 1024 }
+    requires out { count_by is_some frames.old.items ≤ A.out (A.state allot.old) }
+    requires untold { A.grants allot.old ≡ None }
+    ensures released { IsReleased A.goes (A.state allot.old) (A.state allot.new) place other frames.old.items frames.new.items }
+    ensures out { A.out (A.state allot.new) + count_by is_some frames.old.items ≡ A.out (A.state allot.old) + count_by is_some frames.new.items }
+    ensures untold { A.grants allot.new ≡ None }
+    ensures unrefused { A.refused (A.state allot.new) ≡ A.refused (A.state allot.old) }
+{
+    if let Some(place) = place {
+        if other != Some(place) {
             give_place(frames, place, allot);
         }
     }

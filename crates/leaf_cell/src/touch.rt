@@ -1,4 +1,4 @@
-//! Touching absent pages, and storing.
+//! Touching pages, and storing.
 ghost use Rattle.std.specs.Prelude.{◌≡◌, ◌+◌, ◌<◌, ◌≤◌, ℕ, [], length, slice_set, slice_index_or, None, Some, true, IfErr, IsSome, OnErr, OnOk};
 ghost use Rattle.vm_base.specs.Counts.{next_count};
 ghost use Rattle.vm_base.specs.FlatMemory.{spliced};
@@ -9,17 +9,46 @@ ghost use Rattle.leaf_cell.specs.CellView.{AreUnjoined, held_of};
 ghost use Rattle.leaf_cell.specs.Renaming.{IsNamedBy};
 ghost use Rattle.leaf_cell.specs.Standing.{MadeAct, StandsFor, TakesAccount};
 ghost use Rattle.leaf_cell.specs.States.{refused_count};
+ghost use Rattle.leaf_cell.specs.Touching.{IsTouched};
 
 use crate::cell::Cell;
 use crate::leaf_table::{CELL_PAGES, put_bytes};
-use crate::lookups::place_in;
+use crate::lookups::{names_place, place_in};
 use crate::pages::add_page;
 use vm_base::{Allot, Frame, Refused};
 
 impl Cell {
+    /// Gives the parent a page of its own, which may then be stored to. An absent page becomes one
+    /// of zeros, with the leaf table where it is the first; after a refusal the cell is as before.
+    /// A present page that a snapshot names too is copied; where that frame is refused the
+    /// snapshot loses the cell, and the page stays where it is.
+    pub fn touch<A: Allot>(&mut self, page: u16, allot: &mut A) -> Result<(), Refused>
+        requires page { page < CELL_PAGES }
+        requires unjoined { AreUnjoined self.old.leaves.kept }
+        requires held { held_of self.old ≤ A.out (A.state allot.old) }
+        requires untold { A.grants allot.old ≡ None }
+        ensures made { MadeAct A.goes (A.state allot.old) (A.state allot.new) (Touch page) self.old self.new (refused_count result) }
+        ensures held { A.out (A.state allot.new) + held_of self.old ≡ A.out (A.state allot.old) + held_of self.new }
+        ensures untold { A.grants allot.new ≡ None }
+        ensures touched { OnOk result (IsTouched page (A.refused (A.state allot.old)) (A.refused (A.state allot.new)) self.old self.new) }
+
+        // Refused only at an absent page, where the allot's count rose, and the answer carries it.
+        ensures refused { OnErr result (self.new ≡ self.old) }
+        ensures absent { OnErr result (version_at self.old.leaves.parent page ≡ None) }
+        ensures counted { IfErr result (λ e. (A.refused (A.state allot.new) ≡ next_count (A.refused (A.state allot.old))) × (e.at ≡ A.refused (A.state allot.new))) }
+    {
+        match place_in(&self.parent, page) {
+            Some(place) => {
+                self.touch_present(page, place, allot);
+                Ok(())
+            }
+            None => self.touch_absent(page, allot),
+        }
+    }
+
     /// Makes an absent page of the parent present, as zeros, and the leaf table too where it is the
     /// first page. After a refusal the cell is as before.
-    pub fn touch_absent<A: Allot>(&mut self, page: u16, allot: &mut A) -> Result<(), Refused>
+    fn touch_absent<A: Allot>(&mut self, page: u16, allot: &mut A) -> Result<(), Refused>
         requires page { page < CELL_PAGES }
         requires absent { version_at self.old.leaves.parent page ≡ None }
         requires unjoined { AreUnjoined self.old.leaves.kept }
@@ -29,12 +58,27 @@ impl Cell {
         ensures held { A.out (A.state allot.new) + held_of self.old ≡ A.out (A.state allot.old) + held_of self.new }
         ensures untold { A.grants allot.new ≡ None }
         ensures refused { OnErr result (self.new ≡ self.old) }
-
-        // Refused only where the allot's count rose, and the answer carries it.
-        ensures unrefused { OnOk result (A.refused (A.state allot.new) ≡ A.refused (A.state allot.old)) }
+        ensures touched { OnOk result (IsTouched page (A.refused (A.state allot.old)) (A.refused (A.state allot.new)) self.old self.new) }
         ensures counted { IfErr result (λ e. (A.refused (A.state allot.new) ≡ next_count (A.refused (A.state allot.old))) × (e.at ≡ A.refused (A.state allot.new))) }
     {
         add_page(&mut self.parent, &mut self.frames, page, allot)
+    }
+
+    /// Gives the parent a present page of its own.
+    fn touch_present<A: Allot>(&mut self, page: u16, place: u32, allot: &mut A)
+        requires page { page < CELL_PAGES }
+        requires there { version_at self.old.leaves.parent page ≡ Some place }
+        requires unjoined { AreUnjoined self.old.leaves.kept }
+        requires held { held_of self.old ≤ A.out (A.state allot.old) }
+        requires untold { A.grants allot.old ≡ None }
+        ensures made { MadeAct A.goes (A.state allot.old) (A.state allot.new) (Touch page) self.old self.new None }
+        ensures held { A.out (A.state allot.new) + held_of self.old ≡ A.out (A.state allot.old) + held_of self.new }
+        ensures untold { A.grants allot.new ≡ None }
+        ensures touched { IsTouched page (A.refused (A.state allot.old)) (A.refused (A.state allot.new)) self.old self.new }
+    {
+        if names_place(&self.snapshot, page, place) {
+            self.unshare_page(page, place, allot);
+        }
     }
 
     /// Stores bytes in a page that no snapshot names.
@@ -44,6 +88,7 @@ impl Cell {
         requires present { IsSome (version_at self.old.leaves.parent page) }
         requires unnamed { (place : ℕ) → version_at self.old.leaves.parent page ≡ Some place → IsNamedBy page place self.old.leaves.kept → ⊥ }
         ensures stored { (account : CellAccount) → StandsFor self.old account → TakesAccount (Store page at bytes.now) self.old self.new [] None account }
+        ensures leaves { self.new.leaves ≡ self.old.leaves }
     {
         if let Some(place) = place_in(&self.parent, page) {
             store_place(&mut self.frames, place, at as usize, bytes);

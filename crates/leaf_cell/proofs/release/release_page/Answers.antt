@@ -2,7 +2,6 @@ use Rattle.std.proofs.Common.{◌≡◌, ◌∙◌, sym, refl, nat_eq, Some}
 use Rattle.std.specs.Prelude.{Bool, true, false, not}
 use Rattle.std.specs.Option.{option_eq}
 use Rattle.std.proofs.lemmas.Bool.{false≢true}
-use Rattle.leaf_cell.specs.Inside.{table_places}
 use Rattle.leaf_cell.proofs.CopyMade.{eq-some}
 use Rattle.leaf_cell.proofs.Releases.{not-released}
 use Rattle.leaf_cell.proofs.release.release_page.Goals as goal
@@ -13,6 +12,5 @@ not-false false h = absurd (false≢true (sym h))
 
 pub returns-else-ne-clause-released : goal.returns-else-ne-clause-released
 returns-else-ne-clause-released g c =
-    not-released g.A.Allot.goes (g.A.Allot.state c.args.allot.now) c.args.table.now (table_places c.args.other.now) c.args.frames.now.items c.args.page c.in-Some.place
-    (sym c.get.ensures ∙ c.in-Some.is)
-    (sym c.place_in.ensures ∙ eq-some c.place_in.result c.in-Some.place (not-false (option_eq nat_eq c.place_in.result (Some c.in-Some.place)) (sym c.ne.ensures ∙ c.if-ne.false)))
+    not-released g.A.Allot.goes (g.A.Allot.state c.args.allot.now) c.args.place c.args.other c.args.frames.now.items c.in-Some.place c.in-Some.is
+    (eq-some c.args.other c.in-Some.place (not-false (option_eq nat_eq c.args.other (Some c.in-Some.place)) (sym c.ne.ensures ∙ c.if-ne.false)))

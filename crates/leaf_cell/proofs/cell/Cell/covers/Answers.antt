@@ -1,10 +1,9 @@
-use Rattle.std.proofs.Common.{sym, ap, ◌∙◌}
+use Rattle.std.proofs.Common.{ap, ◌∙◌}
 use Rattle.kernel_meaning.specs.Leaves.{has_present}
-use Rattle.leaf_cell.specs.Inside.{table_places}
-use Rattle.leaf_cell.proofs.AbsentPages.{has_present-never}
+use Rattle.leaf_cell.proofs.SameReads.{present-stands}
 use Rattle.leaf_cell.proofs.cell.Cell.covers.Goals as goal
 
-pub returns-in-None : goal.returns-in-None
-returns-in-None c = sym (has_present-never c.args.first c.args.pages)
-    ∙ ap (λ table. has_present (table_places table) c.args.first c.args.pages) (sym c.in-None.is)
+pub returns-clause-account : goal.returns-clause-account
+returns-clause-account c = λ account stands. c.covers_in.ensures
     ∙ ap (λ view. has_present view.leaves.parent c.args.first c.args.pages) c.self.view_is
+    ∙ present-stands c.args.self.now account stands c.args.first c.args.pages

@@ -15,15 +15,13 @@ pub invariant_of-self : goal.invariant_of-self
 invariant_of-self c = inside-stored c.self.inside.parent c.self.inside.snapshot c.self.inside.frames.items c.self.invariant c.args.page c.in-Some.place c.args.at c.args.bytes.now
     c.requires.page (sym c.place_in.ensures ∙ c.in-Some.is) c.requires.room c.store_place.ensures.whole c.store_place.new.frames.items c.store_place.ensures.stored
 
-pub returns-in-Some : goal.returns-in-Some
-returns-in-Some c =
+pub returns-in-Some-clause-stored : goal.returns-in-Some-clause-stored
+returns-in-Some-clause-stored c =
     let old : CellView = cell_value c.self.inside.parent c.self.inside.snapshot c.self.inside.frames.items in
     let new : CellView = cell_value c.self.inside.parent c.self.inside.snapshot c.store_place.new.frames.items in
-    record {
-      stored = subst (λ view. (account : CellAccount) → StandsFor view account → TakesAccount (Store c.args.page c.args.at c.args.bytes.now) view new [] None account) c.self.view_is (λ account stands.
-          takes-stored c.self.inside.parent c.self.inside.snapshot c.self.inside.frames.items c.self.invariant c.args.page c.in-Some.place c.args.at c.args.bytes.now
-          c.requires.page (sym c.place_in.ensures ∙ c.in-Some.is) c.requires.room c.store_place.ensures.whole c.store_place.new.frames.items c.store_place.ensures.stored
-          (λ named. c.requires.unnamed c.in-Some.place (ap (λ view. version_at view.leaves.parent c.args.page) (sym c.self.view_is) ∙ sym c.place_in.ensures ∙ c.in-Some.is)
-          (subst (λ view. IsNamedBy c.args.page c.in-Some.place view.leaves.kept) c.self.view_is named))
-          account stands);
-    }
+    subst (λ view. (account : CellAccount) → StandsFor view account → TakesAccount (Store c.args.page c.args.at c.args.bytes.now) view new [] None account) c.self.view_is (λ account stands.
+    takes-stored c.self.inside.parent c.self.inside.snapshot c.self.inside.frames.items c.self.invariant c.args.page c.in-Some.place c.args.at c.args.bytes.now
+    c.requires.page (sym c.place_in.ensures ∙ c.in-Some.is) c.requires.room c.store_place.ensures.whole c.store_place.new.frames.items c.store_place.ensures.stored
+    (λ named. c.requires.unnamed c.in-Some.place (ap (λ view. version_at view.leaves.parent c.args.page) (sym c.self.view_is) ∙ sym c.place_in.ensures ∙ c.in-Some.is)
+    (subst (λ view. IsNamedBy c.args.page c.in-Some.place view.leaves.kept) c.self.view_is named))
+    account stands)

@@ -1,11 +1,14 @@
 use Rattle.std.proofs.Common.{◌∙◌, ◌+◌, sym, subst, ap}
+use Rattle.std.specs.Prelude.{OnOk}
 use Rattle.kernel_meaning.specs.Leaves.{version_at}
 use Rattle.kernel_meaning.specs.CellAccount.{Touch}
 use Rattle.leaf_cell.specs.CellView.{AreUnjoined, held_of}
 use Rattle.leaf_cell.specs.Inside.{cell_value}
 use Rattle.leaf_cell.specs.Standing.{MadeAct}
+use Rattle.leaf_cell.specs.Touching.{IsTouched}
 use Rattle.leaf_cell.specs.States.{refused_count}
 use Rattle.leaf_cell.proofs.TouchMade.{made-added, inside-added, held-added}
+use Rattle.leaf_cell.proofs.Touched.{touched-added}
 use Rattle.leaf_cell.proofs.cell.Cell.touch_absent.Goals as goal
 
 pub invariant_of-self : goal.invariant_of-self
@@ -27,3 +30,12 @@ returns-clause-held g c =
     c.add_page.new.parent c.add_page.new.frames.items c.add_page.result (g.A.Allot.out (g.A.Allot.state c.args.allot.now)) (g.A.Allot.out (g.A.Allot.state c.add_page.new.allot))
     (ap (λ view. version_at view.leaves.parent c.args.page) c.self.view_is ∙ c.requires.absent) (subst (λ view. AreUnjoined view.leaves.kept) (sym c.self.view_is) c.requires.unjoined)
     c.add_page.ensures.put c.add_page.ensures.kept c.add_page.ensures.taken c.add_page.ensures.returned
+
+pub returns-clause-touched : goal.returns-clause-touched
+returns-clause-touched g c =
+    subst (λ old. OnOk c.add_page.result (IsTouched c.args.page (g.A.Allot.refused (g.A.Allot.state c.args.allot.now)) (g.A.Allot.refused (g.A.Allot.state c.add_page.new.allot)) old
+    (cell_value c.add_page.new.parent c.self.inside.snapshot c.add_page.new.frames.items))) c.self.view_is
+    (touched-added c.self.inside.parent c.self.inside.snapshot c.self.inside.frames.items c.self.invariant c.args.page c.requires.page
+    c.add_page.new.parent c.add_page.new.frames.items c.add_page.result (g.A.Allot.refused (g.A.Allot.state c.args.allot.now)) (g.A.Allot.refused (g.A.Allot.state c.add_page.new.allot))
+    (ap (λ view. version_at view.leaves.parent c.args.page) c.self.view_is ∙ c.requires.absent) (subst (λ view. AreUnjoined view.leaves.kept) (sym c.self.view_is) c.requires.unjoined)
+    c.add_page.ensures.put c.add_page.ensures.unrefused)

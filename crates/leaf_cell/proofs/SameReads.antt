@@ -1,0 +1,75 @@
+-- What is read of a cell is what is read of each account that it stands for.
+use Rattle.std.proofs.Common.{◌≡◌, ℕ, zero, suc, ◌+◌, ◌<◌, List, [], ◌∷◌, Option, Some, None, refl, sym, ◌∙◌, ap}
+use Rattle.std.specs.Prelude.{is_some, IsSome, Bool, true, false, cond, ◌==◌, ◌||◌, count_by, Ok}
+use Rattle.std.specs.Option.{option_map}
+use Rattle.std.proofs.lemmas.Bool.{false≢true}
+use Rattle.std.proofs.lemmas.List.Sums.{sum_by-cons}
+use Rattle.kernel_meaning.specs.Leaves.{Versions, version_at, has_present, Leaf, Own, Joined, Lost, is_lost, Kept, kept_by}
+use Rattle.kernel_meaning.specs.CellAccount.{CellAccount}
+use Rattle.leaf_cell.specs.CellView.{CellView, kept_page, part_of}
+use Rattle.leaf_cell.specs.Renaming.{renamed_from, renamed, AreKeptAlike}
+use Rattle.leaf_cell.specs.Standing.{StandsFor, IsSnapRead, snapshot_page}
+use Rattle.leaf_cell.specs.States.{unless_lost, kept_part, snapshot_part}
+use Rattle.leaf_cell.proofs.AbsentPages.{has_present-more}
+use Rattle.leaf_cell.proofs.Renamed.{version_at-renamed}
+
+-- as many pages under other names
+count-renamed_from : (name : ℕ → ℕ → ℕ) (page : ℕ) (versions : Versions) → count_by is_some (renamed_from name page versions) ≡ count_by is_some versions
+count-renamed_from name page [] = refl
+count-renamed_from name page (None ∷ versions) =
+    sum_by-cons (λ o. cond (is_some o) 1 0) None (renamed_from name (page + 1) versions) ∙ ap (λ n. 0 + n) (count-renamed_from name (page + 1) versions)
+    ∙ sym (sum_by-cons (λ o. cond (is_some o) 1 0) None versions)
+count-renamed_from name page (Some v ∷ versions) =
+    sum_by-cons (λ o. cond (is_some o) 1 0) (Some (name page v)) (renamed_from name (page + 1) versions) ∙ ap (λ n. 1 + n) (count-renamed_from name (page + 1) versions)
+    ∙ sym (sum_by-cons (λ o. cond (is_some o) 1 0) (Some v) versions)
+
+some-mapped : (name : ℕ → ℕ) (o : Option ℕ) → is_some (option_map name o) ≡ is_some o
+some-mapped name None = refl
+some-mapped name (Some v) = refl
+
+-- pages of a range under other names
+pub has_present-renamed : (name : ℕ → ℕ → ℕ) (versions : Versions) (first n : ℕ) → has_present (renamed name versions) first n ≡ has_present versions first n
+has_present-renamed name versions first zero = refl
+has_present-renamed name versions first (suc n) =
+    has_present-more (renamed name versions) first n
+    ∙ ap (λ b. b || is_some (version_at (renamed name versions) (first + n))) (has_present-renamed name versions first n)
+    ∙ ap (λ b. has_present versions first n || b) (ap is_some (version_at-renamed name versions (first + n)) ∙ some-mapped (name (first + n)) (version_at versions (first + n)))
+    ∙ sym (has_present-more versions first n)
+
+module _ (view : CellView) (account : CellAccount) (stands : StandsFor view account) where
+  pub count-stands : count_by is_some view.leaves.parent ≡ count_by is_some account.state.leaves.parent
+  count-stands = ap (count_by is_some) stands.leaves.parent ∙ count-renamed_from stands.name 0 account.state.leaves.parent
+
+  pub present-stands : (first n : ℕ) → has_present view.leaves.parent first n ≡ has_present account.state.leaves.parent first n
+  present-stands first n = ap (λ versions. has_present versions first n) stands.leaves.parent ∙ has_present-renamed stands.name account.state.leaves.parent first n
+
+-- the same snapshots are there
+found-alike : (name : ℕ → ℕ → ℕ) (n : ℕ) (view meant : List Kept) → AreKeptAlike name view meant → is_some (kept_by view n) ≡ is_some (kept_by meant n)
+found-alike name n [] [] alike = refl
+found-alike name n [] (o ∷ os) alike = absurd alike
+found-alike name n (i ∷ is) [] alike = absurd alike
+found-alike name n (i ∷ is) (o ∷ os) alike =
+    ap (λ number. is_some (cond (number == n) (Some i) (kept_by is n))) alike.0.number ∙ by (o.number == n) (found-alike name n is os alike.1)
+  where
+    by : (b : Bool) → is_some (kept_by is n) ≡ is_some (kept_by os n) → is_some (cond b (Some i) (kept_by is n)) ≡ is_some (cond b (Some o) (kept_by os n))
+    by true rest = refl
+    by false rest = rest
+
+-- what is read of a leaf is what lies there, and the leaf is not lost
+ok_bytes : (leaf : Leaf) (bytes read : List ℕ) → unless_lost leaf bytes ≡ Ok read → (is_lost leaf ≡ false) × (bytes ≡ read)
+ok_bytes Own bytes read e = (refl, cc)
+ok_bytes Joined bytes read e = (refl, cc)
+ok_bytes (Lost at) bytes read e = cc
+
+-- bytes of a snapshot that has not lost the cell
+pub snap-stands : (view : CellView) (account : CellAccount) → StandsFor view account → (n page at size : ℕ) (bytes : List ℕ) → page < 512 → snapshot_part view n page at size ≡ Ok bytes → IsSnapRead account n page at size (Ok tt) bytes
+snap-stands view account stands n page at size bytes small read = record {
+  ok = λ there. by (kept_by view.leaves.kept n) refl (found-alike stands.name n view.leaves.kept account.state.leaves.kept stands.leaves.kept ∙ there) read;
+  lost = tt;
+}
+  where
+    by : (o : Option Kept) → kept_by view.leaves.kept n ≡ o → IsSome o → kept_part view o page at size ≡ Ok bytes → bytes ≡ part_of (snapshot_page account n page) at size
+    by None is some e = absurd (false≢true some)
+    by (Some kept) is some e =
+        let found : (is_lost kept.leaf ≡ false) × (part_of (kept_page view kept page) at size ≡ bytes) = ok_bytes kept.leaf (part_of (kept_page view kept page) at size) bytes e in
+        sym found.1 ∙ ap (λ o. part_of o at size) (stands.snapshots n page kept is found.0 small)
