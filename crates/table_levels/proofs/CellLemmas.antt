@@ -1,11 +1,11 @@
 -- Maps of the cells that a look-up finds.
-use Rattle.std.proofs.Common.{◌≡◌, ℕ, zero, suc, ◌+◌, ◌<◌, ◌≤◌, Bool, true, false, cond, eqb, ltb, Some, None, Option, refl, sym, ◌∙◌, ap, arith, inl, inr}
+use Rattle.std.proofs.Common.{◌≡◌, ℕ, zero, suc, ◌<◌, ◌≤◌, cond, eqb, ltb, Some, None, Option, refl, sym, ◌∙◌, ap, arith, inl, inr}
 use Rattle.std.specs.Ordering.{nat_cmp}
 use Rattle.std.specs.Cmp.{nat_cmp_total}
-use Rattle.std.specs.FinMap.{FinMap, get, insert, remove, empty, get-empty, get-remove}
+use Rattle.std.specs.FinMap.{get, insert, remove, empty, get-empty, get-remove}
 use Rattle.std.proofs.lemmas.Bool.{cases_lt, cases_eq, cond-true, cond-false, lt-ltb, le-ltb, eq-eqb, ne_eqb}
 use Rattle.std.proofs.lemmas.Bool.Decides.{nat_tests}
-use Rattle.vm_base.proofs.NumberedMaps.{get_inserted, get_inserted_here, get_inserted_apart, same_numbered}
+use Rattle.vm_base.proofs.NumberedMaps.{get_inserted_here, get_inserted_apart, same_numbered}
 use Rattle.table_levels.specs.Cells.{CellMap, with_cell, cells_below}
 
 more_below : (n : ℕ) (look : ℕ → Option ℕ) (c : ℕ) (found : Option ℕ) → look n ≡ found → get (cells_below n look) c ≡ cond (ltb c n) (look c) None
@@ -66,6 +66,13 @@ one_more_cell n old new cell slot below here others = same_numbered _ _ (λ c. e
 -- what a map has after a removal
 pub get_removed : (m : CellMap) (k q : ℕ) → get (remove m k) q ≡ cond (eqb q k) None (get m q)
 get_removed m k q = get-remove nat_cmp_total m k q ∙ ap (λ b. cond b None (get m q)) (grind (arith, nat_tests))
+
+-- to take out what is not there changes nothing
+pub remove_absent : (m : CellMap) (k : ℕ) → get m k ≡ None → remove m k ≡ m
+remove_absent m k absent = same_numbered _ _ (λ q. elim (cases_eq q k) [
+  | inl same ↦ get_removed m k q ∙ cond-true (eqb q k) None (get m q) (eq-eqb q k same) ∙ sym (ap (get m) same ∙ absent)
+  | inr apart ↦ get_removed m k q ∙ cond-false (eqb q k) None (get m q) (ne_eqb q k apart)
+])
 
 -- one cell less
 pub one_cell_less : (n : ℕ) (old new : ℕ → Option ℕ) (cell : ℕ) → new cell ≡ None → ((c : ℕ) → c < n → (c ≡ cell → ⊥) → new c ≡ old c)

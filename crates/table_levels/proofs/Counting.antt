@@ -1,12 +1,12 @@
 -- How many tables one cell more takes.
-use Rattle.std.proofs.Common.{◌≡◌, ℕ, zero, suc, ◌+◌, ◌/◌, ◌^◌, ◌<◌, ◌≤◌, Bool, true, false, cond, eqb, List, [], ◌∷◌, ◌++◌, map, length, Some, None, Option, refl, sym, ◌∙◌, ap, arith, inl, inr, subst, length-append}
+use Rattle.std.proofs.Common.{◌≡◌, ℕ, suc, ◌+◌, ◌/◌, ◌^◌, ◌≤◌, Bool, true, false, not, cond, List, [], ◌∷◌, ◌++◌, map, length, Some, None, refl, sym, ◌∙◌, ap, arith, inl, inr, subst, length-append}
 use Rattle.std.specs.Prelude.{◌==◌, ◌||◌}
 use Rattle.std.specs.List.{list_any}
 use Rattle.std.specs.Ordering.{nat_cmp, eq_by_cmp, is_eq}
 use Rattle.std.specs.declared.cmp.Ordering.{Ordering}
 use Rattle.std.specs.declared.cmp.Ordering.TheVariants.{Less, Equal, Greater}
 use Rattle.std.specs.Cmp.{nat_cmp_total}
-use Rattle.std.specs.FinMap.{FinMap, get, insert, entries, keys, put, find, get-entries, entries-insert, empty, len, len-entries, len-empty, nat_cmp-IsAntisymmetric}
+use Rattle.std.specs.FinMap.{get, insert, entries, keys, put, find, get-entries, entries-insert, empty, len, len-entries, len-empty, nat_cmp-IsAntisymmetric}
 use Rattle.std.specs.FinMap.Entries.{by_order}
 use Rattle.std.proofs.lemmas.Bool.{cases_Bool, cases_eq, cond-true, cond-false, eq-eqb, ne_eqb, eqb-true, or_cases, or_left, or_right, false≢true}
 use Rattle.std.proofs.lemmas.Bool.Decides.{nat_tests}
@@ -26,7 +26,7 @@ abbrev parts : ℕ → List (ℕ × ℕ) → List ℕ
 parts span es = map (λ c. c / span) (map (λ e. e.0) es)
 
 -- 1 unless the test holds
-abbrev unless_one : Bool → ℕ
+abbrev pub unless_one : Bool → ℕ
 unless_one b = cond b 0 1
 
 length-distinct : (x : ℕ) (xs : List ℕ) → length (distinct (x ∷ xs)) ≡ length (distinct xs) + unless_one (member x xs)
@@ -136,15 +136,43 @@ length-unless : (there : Bool) (want : Want) → length (unless there want) ≡ 
 length-unless true want = refl
 length-unless false want = refl
 
+same_test : (a b : ℕ) → (a == b) ≡ (b == a)
+same_test a b = elim (cases_eq a b) [
+  | inl same ↦ eq-eqb a b same ∙ sym (eq-eqb b a (sym same))
+  | inr apart ↦ ne_eqb a b apart ∙ sym (ne_eqb b a (λ same. apart (sym same)))
+]
+
+-- the cells that share a table, by their parts
+shares_parts : (span cell : ℕ) (cells : List ℕ) → shares span cells cell ≡ member (cell / span) (map (λ c. c / span) cells)
+shares_parts span cell [] = refl
+shares_parts span cell (c ∷ cells) =
+    ap (λ b. b || shares span cells cell) (same_test (c / span) (cell / span)) ∙ ap (λ b. (cell / span == c / span) || b) (shares_parts span cell cells)
+
+-- beside other cells no top table is missing
+pub missing_beside : (c : ℕ) (cs : List ℕ) (cell : ℕ) → missing_tables (c ∷ cs) cell ≡ unless (shares (2 ^ 18) (c ∷ cs) cell) Upper ++ unless (shares (2 ^ 9) (c ∷ cs) cell) Middle
+missing_beside c cs cell =
+    let some : (length (c ∷ cs) == 0) ≡ false = ne_eqb (length (c ∷ cs)) 0 (λ none. omega arith) in
+    ap (λ b. unless (not b) Top ++ unless (shares (2 ^ 18) (c ∷ cs) cell) Upper ++ unless (shares (2 ^ 9) (c ∷ cs) cell) Middle) some
+
 entry_tables : (k v : ℕ) (es : List (ℕ × ℕ)) → find nat_cmp k es ≡ None
     → directory_frames (map (λ e. e.0) (put nat_cmp k v es)) ≡ directory_frames (map (λ e. e.0) es) + length (missing_tables (map (λ e. e.0) es) k)
 entry_tables k v [] absent = refl
 entry_tables k v (e ∷ es) absent =
-    let upper = member (k / 2 ^ 18) (parts (2 ^ 18) (e ∷ es)) in
-    let middle = member (k / 2 ^ 9) (parts (2 ^ 9) (e ∷ es)) in
-    let both : length (unless upper Upper ++ unless middle Middle) ≡ unless_one upper + unless_one middle =
-    length-append (unless upper Upper) (unless middle Middle) ∙ ap (λ n. n + length (unless middle Middle)) (length-unless upper Upper) ∙ ap (λ n. unless_one upper + n) (length-unless middle Middle) in
-    omega (arith, put_tables k v (e ∷ es), count-put (2 ^ 18) k v (e ∷ es) absent, count-put (2 ^ 9) k v (e ∷ es) absent, both)
+    let cells = map (λ e. e.0) (e ∷ es) in
+    let upper = shares (2 ^ 18) cells k in
+    let middle = shares (2 ^ 9) cells k in
+    let both : length (missing_tables cells k) ≡ unless_one upper + unless_one middle =
+    ap length (missing_beside e.0 (map (λ e. e.0) es) k) ∙ length-append (unless upper Upper) (unless middle Middle)
+    ∙ ap (λ n. n + length (unless middle Middle)) (length-unless upper Upper) ∙ ap (λ n. unless_one upper + n) (length-unless middle Middle) in
+    omega (
+      arith,
+      put_tables k v (e ∷ es),
+      count-put (2 ^ 18) k v (e ∷ es) absent,
+      count-put (2 ^ 9) k v (e ∷ es) absent,
+      ap unless_one (shares_parts (2 ^ 18) k cells),
+      ap unless_one (shares_parts (2 ^ 9) k cells),
+      both,
+    )
 
 -- a new cell takes the tables that are missing
 pub tables_of-insert : (m : CellMap) (cell slot : ℕ) → get m cell ≡ None → tables_of (insert m cell slot) ≡ tables_of m + length (missing_tables (keys m) cell)
@@ -174,6 +202,7 @@ pub middle_tables_of-insert : (m : CellMap) (cell slot : ℕ) → get m cell ≡
 middle_tables_of-insert m cell slot absent =
     ap (λ es. length (distinct (parts (2 ^ 9) es))) (entries-insert nat_cmp_total m cell slot)
     ∙ count-put (2 ^ 9) cell slot (entries m) (sym (get-entries m cell) ∙ absent)
+    ∙ ap (λ b. middle_tables_of m + unless_one b) (sym (shares_parts (2 ^ 9) cell (keys m)))
 
 -- there are no more middle tables than cells
 few_distinct : (xs : List ℕ) → length (distinct xs) ≤ length xs
@@ -205,7 +234,7 @@ any_from part span c (e ∷ es) there at =
     later r is apart = subst IsSome (ap (λ b. cond b (Some e.1) (find nat_cmp c es)) (ap is_eq is ∙ apart)) there
 
 pub shares_from : (m : CellMap) (span cell c : ℕ) → IsSome (get m c) → c / span ≡ cell / span → shares span (keys m) cell ≡ true
-shares_from m span cell c there at = any_from (cell / span) span c (entries m) (subst IsSome (get-entries m c) there) at
+shares_from m span cell c there at = shares_parts span cell (keys m) ∙ any_from (cell / span) span c (entries m) (subst IsSome (get-entries m c) there) at
 
 found_more : (c : ℕ) (e : ℕ × ℕ) (es : List (ℕ × ℕ)) → IsSome (find nat_cmp c es) → IsSome (find nat_cmp c (e ∷ es))
 found_more c e es there = elim (cases_Bool (eq_by_cmp nat_cmp c e.0)) [
@@ -224,4 +253,6 @@ any_to part span (e ∷ es) there = elim (or_cases (part == e.0 / span) (member 
 ]
 
 pub shares_to : (m : CellMap) (span cell : ℕ) → shares span (keys m) cell ≡ true → (c : ℕ) × IsSome (get m c) × (c / span ≡ cell / span)
-shares_to m span cell there = let found = any_to (cell / span) span (entries m) there in (found.0, subst IsSome (sym (get-entries m found.0)) found.1, found.2)
+shares_to m span cell there =
+    let found = any_to (cell / span) span (entries m) (sym (shares_parts span cell (keys m)) ∙ there) in
+    (found.0, subst IsSome (sym (get-entries m found.0)) found.1, found.2)

@@ -1,12 +1,12 @@
 -- A directory with one cell more.
-use Rattle.std.proofs.Common.{◌≡◌, ◌≢◌, ℕ, ◌+◌, ◌/◌, ◌%◌, ◌^◌, ◌<◌, ◌≤◌, Bool, true, false, cond, List, length, Some, None, Option, refl, sym, ◌∙◌, ap, subst, arith, inl, inr}
-use Rattle.std.specs.Prelude.{IsSome, is_some}
+use Rattle.std.proofs.Common.{◌≡◌, ◌≢◌, ℕ, ◌+◌, ◌/◌, ◌%◌, ◌^◌, ◌<◌, cond, length, Some, None, Option, refl, sym, ◌∙◌, ap, subst, arith, inl, inr}
+use Rattle.std.specs.Prelude.{IsSome}
 use Rattle.std.specs.Option.{option_and_then}
 use Rattle.std.specs.FinMap.{get, insert, keys}
 use Rattle.std.proofs.lemmas.Bool.{cases_eq}
-use Rattle.table_levels.specs.Cells.{CellMap, tables_of, middle_tables_of}
+use Rattle.table_levels.specs.Cells.{tables_of, middle_tables_of}
 use Rattle.table_levels.specs.Requests.{shares, missing_tables}
-use Rattle.table_levels.specs.Walks.{Place, Levels, entry_in, table_at, tables_at, tables_in, middle_of, slot_of, cells_of, NamesUppers, AreNamed, IsDirectory}
+use Rattle.table_levels.specs.Walks.{Levels, entry_in, table_at, tables_at, tables_in, middle_of, slot_of, cells_of, NamesUppers, AreNamed, IsDirectory}
 use Rattle.table_levels.proofs.CellLemmas.{one_more_cell}
 use Rattle.table_levels.proofs.Counting.{tables_of-insert, middle_tables_of-insert}
 use Rattle.table_levels.proofs.Sharing.{upper_of_middle}

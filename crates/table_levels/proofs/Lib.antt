@@ -9,3 +9,9 @@ pub mod Inserted
 pub mod Linked
 pub mod Giving
 pub mod First
+pub mod Removed
+pub mod Unlinked
+pub mod LessCells
+pub mod Copied
+pub mod CopiedLevels
+pub mod FoundFirst

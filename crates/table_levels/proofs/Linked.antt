@@ -1,5 +1,5 @@
 -- A cell that had no middle table is linked.
-use Rattle.std.proofs.Common.{◌≡◌, ◌≢◌, ℕ, ◌+◌, ◌/◌, ◌%◌, ◌^◌, ◌<◌, ◌≤◌, Bool, true, false, not, cond, List, [], ◌∷◌, ◌++◌, length, Some, None, Option, refl, sym, ◌∙◌, ap, subst, arith, length-append}
+use Rattle.std.proofs.Common.{◌≡◌, ℕ, ◌+◌, ◌/◌, ◌%◌, ◌^◌, ◌<◌, ◌≤◌, Bool, true, false, not, cond, List, [], ◌∷◌, ◌++◌, length, Some, None, Option, refl, sym, ◌∙◌, ap, subst, arith, length-append}
 use Rattle.std.specs.Prelude.{IsSome, is_some}
 use Rattle.std.specs.Option.{option_and_then, option_or}
 use Rattle.std.specs.FinMap.{get, keys}
@@ -16,7 +16,7 @@ use Rattle.table_levels.specs.Links.{AddsMiddle, PutsMiddle, LinksCell, wanted_a
 use Rattle.table_levels.proofs.TableLemmas.{entry_at-zeros}
 use Rattle.table_levels.proofs.Walking.{get-cells_of, slot_absent}
 use Rattle.table_levels.proofs.Asking.{fresh_count}
-use Rattle.table_levels.proofs.Sharing.{middle_shared, wanted_are_missing, nothing_missing, upper_of_middle, table_of_entry}
+use Rattle.table_levels.proofs.Sharing.{IsUsed, used, middle_shared, wanted_are_missing, nothing_missing, upper_of_middle, table_of_entry}
 use Rattle.table_levels.proofs.Inserted.{Inserts, cells_inserted, directory_inserted}
 
 -- a fresh table has no entry
@@ -65,9 +65,9 @@ cell_linked top new_top uppers new_uppers middles new_middles cell slot free fre
     ∙ ap (λ k. length (wanted_if (not (is_some top)) Top) + k) (length-append (wanted_if (not (is_some (entry_in top (cell / 512 / 512)))) Upper) (Middle ∷ []))
     ∙ ap (λ k. k + (length (wanted_if (not (is_some (entry_in top (cell / 512 / 512)))) Upper) + 1)) (sym (fresh_count (not (is_some top)) Top fresh.top is_fresh.0))
     ∙ ap (λ k. tables_at (fresh.top ∷ []) + (k + 1)) (sym (fresh_count (not (is_some (entry_in top (cell / 512 / 512)))) Upper fresh.upper is_fresh.1)) in
-    let missing : length (wanted_tables (wanted_at top (cell / 512 / 512))) ≡ length (missing_tables (keys cells) cell) = ap length (wanted_are_missing old (tables_in old) directory cell below absent) in
+    let missing : length (wanted_tables (wanted_at top (cell / 512 / 512))) ≡ length (missing_tables (keys cells) cell) = ap length (wanted_are_missing old (used old (tables_in old) directory) cell below absent) in
     let counted : tables_in new ≡ tables_in old + length (missing_tables (keys cells) cell) = omega (arith, counted_uppers, counted_middles, pair_counts fresh.top fresh.upper, one, wants, missing) in
-    let shared : shares (2 ^ 9) (keys cells) cell ≡ false = middle_shared old (tables_in old) directory cell below ∙ ap is_some absent in
+    let shared : shares (2 ^ 9) (keys cells) cell ≡ false = middle_shared old (used old (tables_in old) directory) cell below ∙ ap is_some absent in
     let middles_counted : tables_at new_middles ≡ tables_at middles + cond (shares (2 ^ 9) (keys cells) cell) 0 1 =
     counted_middles ∙ ap (λ k. tables_at middles + k) (one ∙ sym (ap (λ b. cond b 0 1) shared)) in
     record {
@@ -104,9 +104,9 @@ slot_linked top uppers middles new_middles cell slot middle below directory at a
     } in
     let there : IsSome (middle_of old (cell / 512)) = subst IsSome (sym at) refl in
     let no_slot : get cells cell ≡ None = get-cells_of old cell below ∙ absent in
-    let none : length (missing_tables (keys cells) cell) ≡ 0 = ap length (nothing_missing old (tables_in old) directory cell below there) in
+    let none : length (missing_tables (keys cells) cell) ≡ 0 = ap length (nothing_missing old (used old (tables_in old) directory) cell below there) in
     let counted : tables_in new ≡ tables_in old + length (missing_tables (keys cells) cell) = omega (arith, counted_middles, none) in
-    let shared : shares (2 ^ 9) (keys cells) cell ≡ true = middle_shared old (tables_in old) directory cell below ∙ there in
+    let shared : shares (2 ^ 9) (keys cells) cell ≡ true = middle_shared old (used old (tables_in old) directory) cell below ∙ there in
     let middles_counted : tables_at new_middles ≡ tables_at middles + cond (shares (2 ^ 9) (keys cells) cell) 0 1 =
     counted_middles ∙ ap (λ k. tables_at middles + k) (sym (ap (λ b. cond b 0 1) shared)) in
     record {
@@ -117,13 +117,13 @@ slot_linked top uppers middles new_middles cell slot middle below directory at a
     }
 
 -- what is wanted is what the definition misses
-pub wanted_for_missing : (levels : Levels) (n : ℕ) → IsDirectory levels n → (cell : ℕ) → cell < 2 ^ 27 → wanted_tables (wanted_for levels cell) ≡ missing_tables (keys (cells_of levels)) cell
-wanted_for_missing levels n directory cell below = by_middle (middle_of levels (cell / 512)) refl
+pub wanted_for_used : (levels : Levels) → IsUsed levels → (cell : ℕ) → cell < 2 ^ 27 → wanted_tables (wanted_for levels cell) ≡ missing_tables (keys (cells_of levels)) cell
+wanted_for_used levels directory cell below = by_middle (middle_of levels (cell / 512)) refl
   where
     by_middle : (found : Option ℕ) → middle_of levels (cell / 512) ≡ found → wanted_tables (wanted_for levels cell) ≡ missing_tables (keys (cells_of levels)) cell
     by_middle None at =
         ap (λ b. wanted_tables (record { top = not (is_some levels.top); upper = not (is_some (entry_in levels.top (cell / 512 / 512))); middle = not b })) (ap is_some at)
-        ∙ wanted_are_missing levels n directory cell below at
+        ∙ wanted_are_missing levels directory cell below at
     by_middle (Some m) at =
         let there : IsSome (middle_of levels (cell / 512)) = subst IsSome (sym at) refl in
         let upper : IsSome (entry_in levels.top (cell / 512 / 512)) = upper_of_middle levels (cell / 512) there in
@@ -131,7 +131,10 @@ wanted_for_missing levels n directory cell below = by_middle (middle_of levels (
         (table_of_entry levels.top (cell / 512 / 512) upper)
         ∙ ap (λ b. wanted_tables (record { top = false; upper = not b; middle = not (is_some (middle_of levels (cell / 512))) })) upper
         ∙ ap (λ b. wanted_tables (record { top = false; upper = false; middle = not b })) there
-        ∙ sym (nothing_missing levels n directory cell below there)
+        ∙ sym (nothing_missing levels directory cell below there)
+
+pub wanted_for_missing : (levels : Levels) (n : ℕ) → IsDirectory levels n → (cell : ℕ) → cell < 2 ^ 27 → wanted_tables (wanted_for levels cell) ≡ missing_tables (keys (cells_of levels)) cell
+wanted_for_missing levels n directory cell below = wanted_for_used levels (used levels n directory) cell below
 
 -- there are no more tables than places, and no more than three are wanted
 pub few_tables : (places : List Place) → tables_at places ≤ length places

@@ -1,9 +1,9 @@
 -- Tables put on the way to a cell.
-use Rattle.std.proofs.Common.{◌≡◌, ◌≢◌, ℕ, zero, suc, ◌+◌, ◌/◌, ◌%◌, ◌^◌, ◌<◌, ◌≤◌, Bool, true, false, not, List, [], ◌∷◌, length, Some, None, Option, refl, sym, ◌∙◌, ap, subst, arith, inl, inr}
+use Rattle.std.proofs.Common.{◌≡◌, ◌≢◌, ℕ, zero, suc, ◌+◌, ◌/◌, ◌%◌, ◌^◌, ◌<◌, ◌≤◌, not, List, [], ◌∷◌, length, Some, None, Option, refl, sym, ◌∙◌, ap, subst, arith, inl, inr}
 use Rattle.std.proofs.Math.ListN.{set, length-set}
 use Rattle.std.specs.Prelude.{IsSome, is_some}
 use Rattle.std.specs.Option.{option_and_then, option_or}
-use Rattle.std.proofs.lemmas.Bool.{cases_eq, cases_lt, false≢true, true≢false}
+use Rattle.std.proofs.lemmas.Bool.{cases_eq, cases_lt, false≢true}
 use Rattle.table_levels.specs.Tables.{entry_at}
 use Rattle.table_levels.specs.Walks.{Place, entry_in, table_at, tables_at, middle_at, NamesUppers, AreNamed}
 use Rattle.table_levels.specs.Fresh.{IsFresh}
@@ -33,14 +33,14 @@ pub tables_at-cons : (p : Place) (places : List Place) → tables_at (p ∷ plac
 tables_at-cons None places = omega arith
 tables_at-cons (Some table) places = omega arith
 
-some_counts : (p : Place) → IsSome p → tables_at (p ∷ []) ≡ 1
+pub some_counts : (p : Place) → IsSome p → tables_at (p ∷ []) ≡ 1
 some_counts None there = absurd (false≢true there)
 some_counts (Some table) there = refl
 
 none_counts : (p : Place) → p ≡ None → tables_at (p ∷ []) ≡ 0
 none_counts p none = ap (λ q. tables_at (q ∷ [])) none
 
-tables_at-set : (places : List Place) (i : ℕ) (new : Place) → i < length places → tables_at (set places i new) + tables_at (table_at places i ∷ []) ≡ tables_at places + tables_at (new ∷ [])
+pub tables_at-set : (places : List Place) (i : ℕ) (new : Place) → i < length places → tables_at (set places i new) + tables_at (table_at places i ∷ []) ≡ tables_at places + tables_at (new ∷ [])
 tables_at-set [] i new inside = absurd (omega arith)
 tables_at-set (p ∷ places) zero new inside = omega (arith, tables_at-cons new places, tables_at-cons p places)
 tables_at-set (p ∷ places) (suc i) new inside =
@@ -79,7 +79,7 @@ same_table top uppers i k None (Some u) inside names entry is_fresh = ap (λ j. 
 same_table top uppers i k (Some table) (Some u) inside names entry is_fresh = absurd is_fresh
 
 -- the entries of another upper table
-other_table : (top : Place) (uppers later : List Place) (i j k : ℕ) (found : Option ℕ) → j < 512 → j ≢ i → NamesUppers top uppers → entry_in top j ≡ found
+pub other_table : (top : Place) (uppers later : List Place) (i j k : ℕ) (found : Option ℕ) → j < 512 → j ≢ i → NamesUppers top uppers → entry_in top j ≡ found
     → ((l : ℕ) → l ≢ i → table_at later l ≡ table_at uppers l)
     → option_and_then (λ u. entry_in (table_at later u) k) found ≡ option_and_then (λ u. entry_in (table_at uppers u) k) found
 other_table top uppers later i j k None lt apart names entry kept = refl

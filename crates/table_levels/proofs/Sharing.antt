@@ -1,5 +1,5 @@
 -- Which tables the cells of a directory share.
-use Rattle.std.proofs.Common.{◌≡◌, ◌≢◌, ℕ, ◌+◌, ◌/◌, ◌%◌, ◌^◌, ◌<◌, ◌≤◌, Bool, true, false, not, cond, List, [], ◌∷◌, ◌++◌, length, Some, None, Option, refl, sym, ◌∙◌, ap, subst, arith, inl, inr}
+use Rattle.std.proofs.Common.{◌≡◌, ℕ, ◌/◌, ◌%◌, ◌^◌, ◌<◌, Bool, true, false, not, List, [], ◌∷◌, ◌++◌, Some, None, Option, refl, sym, ◌∙◌, ap, subst, arith, inl, inr}
 use Rattle.std.specs.Prelude.{IsSome, is_some}
 use Rattle.std.specs.List.{list_any}
 use Rattle.std.specs.Option.{option_and_then}
@@ -9,12 +9,11 @@ use Rattle.std.proofs.lemmas.Bool.{cases_lt, cases_Bool, false≢true, true≢fa
 use Rattle.std.proofs.lemmas.Bool.Decides.{nat_tests}
 use Rattle.vm_base.specs.declared.frame_request.Want.{Want}
 use Rattle.vm_base.specs.declared.frame_request.Want.TheVariants.{Top, Upper, Middle}
-use Rattle.table_levels.specs.declared.frames.Wanted.{Wanted}
 use Rattle.table_levels.specs.Cells.{CellMap}
 use Rattle.table_levels.specs.Requests.{shares, unless, missing_tables, wanted_if, wanted_tables}
-use Rattle.table_levels.specs.Walks.{Place, Levels, entry_in, table_at, middle_of, slot_of, cells_of, IsDirectory}
+use Rattle.table_levels.specs.Walks.{Place, Levels, entry_in, table_at, middle_of, slot_of, cells_of, NamesUppers, IsDirectory}
 use Rattle.table_levels.proofs.CellLemmas.{get_below, get_beyond}
-use Rattle.table_levels.proofs.Counting.{shares_from, shares_to}
+use Rattle.table_levels.proofs.Counting.{shares_from, shares_to, missing_beside}
 
 bool_same : (a b : Bool) → (a ≡ true → b ≡ true) → (b ≡ true → a ≡ true) → a ≡ b
 bool_same true true to back = refl
@@ -46,31 +45,42 @@ pub table_of_entry : (p : Place) (i : ℕ) → IsSome (entry_in p i) → is_some
 table_of_entry None i there = absurd (false≢true there)
 table_of_entry (Some table) i there = refl
 
+-- each table and each middle table's name has a cell under it
+pub record IsUsed (levels : Levels) : Type 0 where
+  pub upper_there : NamesUppers levels.top levels.uppers
+  pub top_used : IsSome levels.top → (i : ℕ) × (i < 512) × IsSome (entry_in levels.top i)
+  pub upper_used : (i : ℕ) → IsSome (table_at levels.uppers i) → (index : ℕ) × (index < 2 ^ 18) × (index / 512 ≡ i) × IsSome (middle_of levels index)
+  pub middle_used : (index : ℕ) → index < 2 ^ 18 → IsSome (middle_of levels index) → (cell : ℕ) × (cell < 2 ^ 27) × (cell / 512 ≡ index) × IsSome (slot_of levels cell)
+
+pub used : (levels : Levels) (n : ℕ) → IsDirectory levels n → IsUsed levels
+used levels n directory =
+    record { upper_there = directory.upper_there; top_used = directory.top_used; upper_used = directory.upper_used; middle_used = directory.middle_used }
+
 -- a cell under an entry of the top table
-slot_under : (levels : Levels) (n : ℕ) → IsDirectory levels n → (i : ℕ) → i < 512 → (found : Option ℕ) → entry_in levels.top i ≡ found → IsSome found
+slot_under : (levels : Levels) → IsUsed levels → (i : ℕ) → i < 512 → (found : Option ℕ) → entry_in levels.top i ≡ found → IsSome found
     → (c : ℕ) × (c < 2 ^ 27) × (c / 512 / 512 ≡ i) × IsSome (slot_of levels c)
-slot_under levels n directory i inside None entry there = absurd (false≢true there)
-slot_under levels n directory i inside (Some u) entry there =
+slot_under levels directory i inside None entry there = absurd (false≢true there)
+slot_under levels directory i inside (Some u) entry there =
     let under = directory.upper_used i (directory.upper_there i u inside entry).1 in
     let cell = directory.middle_used under.0 under.1 under.3 in
     (cell.0, cell.1, ap (λ index. index / 512) cell.2 ∙ under.2, cell.3)
 
-pub upper_shared : (levels : Levels) (n : ℕ) → IsDirectory levels n → (cell : ℕ) → cell < 2 ^ 27
+pub upper_shared : (levels : Levels) → IsUsed levels → (cell : ℕ) → cell < 2 ^ 27
     → shares (2 ^ 18) (keys (cells_of levels)) cell ≡ is_some (entry_in levels.top (cell / 512 / 512))
-upper_shared levels n directory cell below = bool_same _ _
+upper_shared levels directory cell below = bool_same _ _
     (λ shared.
     let other = shares_to (cells_of levels) (2 ^ 18) cell shared in
     let known = cell_of_key levels other.0 other.1 in
     let same : other.0 / 512 / 512 ≡ cell / 512 / 512 = omega (arith, other.2) in
     subst (λ i. IsSome (entry_in levels.top i)) same (upper_of_middle levels (other.0 / 512) (middle_of_slot levels other.0 known.1)))
     (λ there.
-    let other = slot_under levels n directory (cell / 512 / 512) (omega arith) (entry_in levels.top (cell / 512 / 512)) refl there in
+    let other = slot_under levels directory (cell / 512 / 512) (omega arith) (entry_in levels.top (cell / 512 / 512)) refl there in
     let same : other.0 / 2 ^ 18 ≡ cell / 2 ^ 18 = omega (arith, other.2) in
     shares_from (cells_of levels) (2 ^ 18) cell other.0 (key_of_cell levels other.0 other.1 other.3) same)
 
-pub middle_shared : (levels : Levels) (n : ℕ) → IsDirectory levels n → (cell : ℕ) → cell < 2 ^ 27
+pub middle_shared : (levels : Levels) → IsUsed levels → (cell : ℕ) → cell < 2 ^ 27
     → shares (2 ^ 9) (keys (cells_of levels)) cell ≡ is_some (middle_of levels (cell / 512))
-middle_shared levels n directory cell below = bool_same _ _
+middle_shared levels directory cell below = bool_same _ _
     (λ shared.
     let other = shares_to (cells_of levels) (2 ^ 9) cell shared in
     let known = cell_of_key levels other.0 other.1 in
@@ -97,46 +107,46 @@ no_entry : (p : Place) (i : ℕ) → is_some p ≡ false → is_some (entry_in p
 no_entry None i none = refl
 no_entry (Some table) i none = absurd (true≢false none)
 
-top_there : (levels : Levels) (c : ℕ) (cs : List ℕ) → keys (cells_of levels) ≡ c ∷ cs → is_some levels.top ≡ true
+pub top_there : (levels : Levels) (c : ℕ) (cs : List ℕ) → keys (cells_of levels) ≡ c ∷ cs → is_some levels.top ≡ true
 top_there levels c cs some =
     let known = cell_of_key levels c (first_key (cells_of levels) c cs some) in
     table_of_entry levels.top (c / 512 / 512) (upper_of_middle levels (c / 512) (middle_of_slot levels c known.1))
 
-top_absent : (levels : Levels) (n : ℕ) → IsDirectory levels n → keys (cells_of levels) ≡ [] → is_some levels.top ≡ false
-top_absent levels n directory none = elim (cases_Bool (is_some levels.top)) [
+pub top_absent : (levels : Levels) → IsUsed levels → keys (cells_of levels) ≡ [] → is_some levels.top ≡ false
+top_absent levels directory none = elim (cases_Bool (is_some levels.top)) [
   | inl there ↦
       let used = directory.top_used there in
-      let other = slot_under levels n directory used.0 used.1 (entry_in levels.top used.0) refl used.2 in
+      let other = slot_under levels directory used.0 used.1 (entry_in levels.top used.0) refl used.2 in
       absurd (no_key (cells_of levels) other.0 none (key_of_cell levels other.0 other.1 other.3))
   | inr absent ↦ absent
 ]
 
 -- the tables that are asked for are those that the definition misses
-pub wanted_are_missing : (levels : Levels) (n : ℕ) → IsDirectory levels n → (cell : ℕ) → cell < 2 ^ 27 → middle_of levels (cell / 512) ≡ None
+pub wanted_are_missing : (levels : Levels) → IsUsed levels → (cell : ℕ) → cell < 2 ^ 27 → middle_of levels (cell / 512) ≡ None
     → wanted_tables (record { top = not (is_some levels.top); upper = not (is_some (entry_in levels.top (cell / 512 / 512))); middle = true }) ≡ missing_tables (keys (cells_of levels)) cell
-wanted_are_missing levels n directory cell below absent = by_keys (keys (cells_of levels)) refl
+wanted_are_missing levels directory cell below absent = by_keys (keys (cells_of levels)) refl
   where
     by_keys : (ks : List ℕ) → keys (cells_of levels) ≡ ks
         → wanted_tables (record { top = not (is_some levels.top); upper = not (is_some (entry_in levels.top (cell / 512 / 512))); middle = true }) ≡ missing_tables ks cell
     by_keys [] at =
-        let none = top_absent levels n directory at in
+        let none = top_absent levels directory at in
         ap (λ b. wanted_if (not b) Top ++ (wanted_if (not (is_some (entry_in levels.top (cell / 512 / 512)))) Upper ++ Middle ∷ [])) none
         ∙ ap (λ b. Top ∷ (wanted_if (not b) Upper ++ Middle ∷ [])) (no_entry levels.top (cell / 512 / 512) none)
     by_keys (k ∷ ks) at =
-        let upper : shares (2 ^ 18) (k ∷ ks) cell ≡ is_some (entry_in levels.top (cell / 512 / 512)) = ap (λ l. shares (2 ^ 18) l cell) (sym at) ∙ upper_shared levels n directory cell below in
-        let middle : shares (2 ^ 9) (k ∷ ks) cell ≡ false = ap (λ l. shares (2 ^ 9) l cell) (sym at) ∙ middle_shared levels n directory cell below ∙ ap is_some absent in
+        let upper : shares (2 ^ 18) (k ∷ ks) cell ≡ is_some (entry_in levels.top (cell / 512 / 512)) = ap (λ l. shares (2 ^ 18) l cell) (sym at) ∙ upper_shared levels directory cell below in
+        let middle : shares (2 ^ 9) (k ∷ ks) cell ≡ false = ap (λ l. shares (2 ^ 9) l cell) (sym at) ∙ middle_shared levels directory cell below ∙ ap is_some absent in
         ap (λ b. wanted_if (not b) Top ++ (wanted_if (not (is_some (entry_in levels.top (cell / 512 / 512)))) Upper ++ Middle ∷ [])) (top_there levels k ks at)
         ∙ ap (λ l. l ++ Middle ∷ []) (wanted_unless (is_some (entry_in levels.top (cell / 512 / 512))) Upper ∙ ap (λ b. unless b Upper) (sym upper))
-        ∙ ap (λ b. unless (shares (2 ^ 18) (k ∷ ks) cell) Upper ++ unless b Middle) (sym middle)
+        ∙ ap (λ b. unless (shares (2 ^ 18) (k ∷ ks) cell) Upper ++ unless b Middle) (sym middle) ∙ sym (missing_beside k ks cell)
 
-pub nothing_missing : (levels : Levels) (n : ℕ) → IsDirectory levels n → (cell : ℕ) → cell < 2 ^ 27 → IsSome (middle_of levels (cell / 512)) → missing_tables (keys (cells_of levels)) cell ≡ []
-nothing_missing levels n directory cell below there = by_keys (keys (cells_of levels)) refl
+pub nothing_missing : (levels : Levels) → IsUsed levels → (cell : ℕ) → cell < 2 ^ 27 → IsSome (middle_of levels (cell / 512)) → missing_tables (keys (cells_of levels)) cell ≡ []
+nothing_missing levels directory cell below there = by_keys (keys (cells_of levels)) refl
   where
     by_keys : (ks : List ℕ) → keys (cells_of levels) ≡ ks → missing_tables ks cell ≡ []
     by_keys [] at =
         let other = directory.middle_used (cell / 512) (omega arith) there in
         absurd (no_key (cells_of levels) other.0 at (key_of_cell levels other.0 other.1 other.3))
     by_keys (k ∷ ks) at =
-        let upper : shares (2 ^ 18) (k ∷ ks) cell ≡ true = ap (λ l. shares (2 ^ 18) l cell) (sym at) ∙ upper_shared levels n directory cell below ∙ upper_of_middle levels (cell / 512) there in
-        let middle : shares (2 ^ 9) (k ∷ ks) cell ≡ true = ap (λ l. shares (2 ^ 9) l cell) (sym at) ∙ middle_shared levels n directory cell below ∙ there in
-        ap (λ b. unless b Upper ++ unless (shares (2 ^ 9) (k ∷ ks) cell) Middle) upper ∙ ap (λ b. unless b Middle) middle
+        let upper : shares (2 ^ 18) (k ∷ ks) cell ≡ true = ap (λ l. shares (2 ^ 18) l cell) (sym at) ∙ upper_shared levels directory cell below ∙ upper_of_middle levels (cell / 512) there in
+        let middle : shares (2 ^ 9) (k ∷ ks) cell ≡ true = ap (λ l. shares (2 ^ 9) l cell) (sym at) ∙ middle_shared levels directory cell below ∙ there in
+        missing_beside k ks cell ∙ ap (λ b. unless b Upper ++ unless (shares (2 ^ 9) (k ∷ ks) cell) Middle) upper ∙ ap (λ b. unless b Middle) middle

@@ -1,6 +1,5 @@
 -- The entries of a table, read and written.
-use Rattle.std.proofs.Common.{◌≡◌, ◌≢◌, ℕ, zero, suc, ◌+◌, ◌-◌, ◌*◌, ◌^◌, ◌<◌, ◌≤◌, Bool, true, false, cond, eqb, List, [], ◌∷◌, ◌++◌, length, take, drop, get_or, replicate, Some, None, Option, refl, sym, ◌∙◌, ap, arith, inl, inr, append_assoc, length-append, length-drop, get_or-drop, get_or-take, length-take-le, take_all, drop_of_length-le, append-nil, subst}
-use Rattle.std.specs.Prelude.{bit_and}
+use Rattle.std.proofs.Common.{◌≡◌, ℕ, zero, suc, ◌+◌, ◌-◌, ◌*◌, ◌^◌, ◌<◌, ◌≤◌, cond, eqb, List, [], ◌∷◌, ◌++◌, length, take, drop, get_or, replicate, Some, None, Option, refl, sym, ◌∙◌, ap, arith, inl, inr, length-drop, get_or-drop, get_or-take, length-take-le, take_all, drop_of_length-le, append-nil, subst}
 use Rattle.std.proofs.lemmas.Bool.{cases_lt}
 use borrow.Rule.Slice.PartMut.{put_mid}
 use Rattle.std.proofs.lemmas.List.{get_or-append_right, get_or_append_left}

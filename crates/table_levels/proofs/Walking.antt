@@ -1,5 +1,5 @@
 -- The walk through the levels, step by step.
-use Rattle.std.proofs.Common.{◌≡◌, ℕ, zero, suc, ◌+◌, ◌<◌, ◌/◌, ◌%◌, ◌^◌, List, [], ◌∷◌, length, get_or, replicate, Some, None, Option, refl, sym, ◌∙◌, ap, subst, arith}
+use Rattle.std.proofs.Common.{◌≡◌, ℕ, zero, suc, ◌+◌, ◌*◌, ◌<◌, ◌/◌, ◌%◌, ◌^◌, List, [], ◌∷◌, length, get_or, replicate, Some, None, refl, sym, ◌∙◌, ap, subst, arith}
 use Rattle.std.specs.Option.{option_and_then}
 use Rattle.std.specs.FinMap.{get, empty}
 use Rattle.std.specs.Prelude.{IsSome}
@@ -7,7 +7,7 @@ use Rattle.std.proofs.lemmas.List.{length-replicate}
 use Rattle.std.proofs.lemmas.Bool.{false≢true}
 use Rattle.table_levels.specs.Cells.{tables_of, middle_tables_of}
 use Rattle.table_levels.proofs.Counting.{tables_of-empty, middle_tables_of-empty}
-use Rattle.table_levels.specs.Walks.{Place, Levels, table_at, entry_in, middle_of, slot_of, cells_of, tables_at, IsDirectory}
+use Rattle.table_levels.specs.Walks.{Place, Levels, table_at, entry_in, middle_at, middle_of, slot_of, cells_of, tables_at, AreNamed, IsDirectory}
 use Rattle.table_levels.proofs.CellLemmas.{get_below, no_cells}
 
 -- the table at a place of the list
@@ -34,6 +34,21 @@ slot_there levels cell middle there = ap (option_and_then (λ m. entry_in (table
 pub slot_absent : (levels : Levels) (cell : ℕ) → middle_of levels (cell / 512) ≡ None → slot_of levels cell ≡ None
 slot_absent levels cell absent = ap (option_and_then (λ m. entry_in (table_at levels.middles m) (cell % 512))) absent
 
+-- the middle table under an upper table, by its place there
+pub middle_under : (top : Place) (uppers : List Place) (i j : ℕ) → AreNamed top uppers → i < 512 → j < 512 → IsSome (table_at uppers i) → middle_at top uppers (i * 512 + j) ≡ entry_in (table_at uppers i) j
+middle_under top uppers i j named inside below there =
+    let upper : (i * 512 + j) / 512 ≡ i = omega arith in
+    let place : (i * 512 + j) % 512 ≡ j = omega arith in
+    ap (λ k. option_and_then (λ u. entry_in (table_at uppers u) ((i * 512 + j) % 512)) (entry_in top k)) upper
+    ∙ ap (option_and_then (λ u. entry_in (table_at uppers u) ((i * 512 + j) % 512))) (named i there) ∙ ap (entry_in (table_at uppers i)) place
+
+-- the slot of a cell, by its place in its middle table
+pub slot_under_middle : (levels : Levels) (index middle j : ℕ) → j < 512 → middle_of levels index ≡ Some middle → slot_of levels (index * 512 + j) ≡ entry_in (table_at levels.middles middle) j
+slot_under_middle levels index middle j below there =
+    let upper : (index * 512 + j) / 512 ≡ index = omega arith in
+    let place : (index * 512 + j) % 512 ≡ j = omega arith in
+    slot_there levels (index * 512 + j) middle (ap (middle_of levels) upper ∙ there) ∙ ap (entry_in (table_at levels.middles middle)) place
+
 -- ---- no tables
 abbrev bare : List Place → List Place → Levels
 bare uppers middles = record { top = None; uppers = uppers; middles = middles }
@@ -44,7 +59,7 @@ no_levels uppers middles = no_cells (2 ^ 27) (slot_of (bare uppers middles)) (λ
 abbrev free : Place
 free = None
 
-tables_at-free : (n : ℕ) → tables_at (replicate n free) ≡ 0
+pub tables_at-free : (n : ℕ) → tables_at (replicate n free) ≡ 0
 tables_at-free zero = refl
 tables_at-free (suc n) = tables_at-free n
 

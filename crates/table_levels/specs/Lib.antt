@@ -5,3 +5,5 @@ pub mod Walks
 pub mod Requests
 pub mod Fresh
 pub mod Links
+pub mod Copies
+pub mod First

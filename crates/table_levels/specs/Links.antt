@@ -1,6 +1,6 @@
 -- What a table that is put on the way to a cell changes.
-use Rattle.std.specs.Prelude.{◌≡◌, ◌≢◌, ℕ, ◌+◌, ◌/◌, ◌<◌, ◌^◌, true, not, List, length, Option, Some, IsSome, is_some}
-use Rattle.std.specs.FinMap.{insert, keys}
+use Rattle.std.specs.Prelude.{◌≡◌, ◌≢◌, ℕ, ◌+◌, ◌/◌, ◌<◌, ◌^◌, true, not, List, length, Option, Some, IsSome, is_some, None}
+use Rattle.std.specs.FinMap.{insert, remove, keys}
 use Rattle.table_levels.specs.declared.frames.Wanted.{Wanted}
 use Rattle.table_levels.specs.Requests.{missing_tables}
 use Rattle.std.specs.Option.{option_or}
@@ -43,3 +43,27 @@ pub record LinksCell (old new : Levels) (cell slot : ℕ) : Type 0 where
   pub cells : cells_of new ≡ insert (cells_of old) cell slot
   pub directory : AreDirectory new
   pub counted : tables_in new ≡ tables_in old + length (missing_tables (keys (cells_of old)) cell)
+
+-- an entry of the table is left, if the table is there
+abbrev pub IsInUse : Place → Type 0
+IsInUse place = IsSome place → (i : ℕ) × (i < 512) × IsSome (entry_in place i)
+
+-- each table that is there has an entry
+abbrev pub AreInUse : List Place → Type 0
+AreInUse places = (i : ℕ) → IsInUse (table_at places i)
+
+-- a middle table is named no more, and each other keeps its place; of the tables above it those stay that have an entry
+pub record DropsMiddle (top : Place) (uppers : List Place) (new_top : Place) (new_uppers : List Place) (index : ℕ) : Type 0 where
+  pub here : middle_at new_top new_uppers index ≡ None
+  pub others : (other : ℕ) → other < 2 ^ 18 → other ≢ index → middle_at new_top new_uppers other ≡ middle_at top uppers other
+  pub names : NamesUppers new_top new_uppers
+  pub named : AreNamed new_top new_uppers
+  pub kept : (i : ℕ) → i ≢ index / 512 → table_at new_uppers i ≡ table_at uppers i
+  pub upper_used : IsInUse (table_at new_uppers (index / 512))
+  pub top_used : IsInUse new_top
+
+-- a cell less, without the tables that it alone needed
+pub record UnlinksCell (old new : Levels) (cell unused : ℕ) : Type 0 where
+  pub cells : cells_of new ≡ remove (cells_of old) cell
+  pub directory : AreDirectory new
+  pub counted : tables_in new + unused ≡ tables_in old

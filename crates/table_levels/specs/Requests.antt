@@ -1,24 +1,34 @@
 -- The frame requests of a directory, in their order, and what they leave of an allot.
-use Rattle.std.specs.Prelude.{◌≡◌, ℕ, ◌+◌, ◌/◌, ◌^◌, ◌==◌, Bool, List, [], ◌∷◌, ◌++◌, map, length, replicate, Result, Ok, Err, if◌then◌else◌}
+use Rattle.std.specs.Prelude.{◌≡◌, ℕ, ◌+◌, ◌/◌, ◌^◌, ◌==◌, Bool, not, List, [], ◌∷◌, ◌++◌, map, length, replicate, Result, Ok, Err, if◌then◌else◌}
 use Rattle.std.specs.List.{list_any}
 use Rattle.vm_base.specs.declared.frame_request.Want.{Want}
 use Rattle.vm_base.specs.declared.frame_request.Want.TheVariants.{Top, Upper, Middle}
 use Rattle.table_levels.specs.declared.frames.Wanted.{Wanted}
 use Rattle.vm_base.specs.declared.refusals.Refused.{Refused}
+use Rattle.vm_base.specs.Places.{distinct}
 use Rattle.vm_base.specs.Deals.{Deal, Granted, Denied, Returned, LeadsAlong}
 
 -- one of the cells lies with this cell under one table that spans so many cells
 abbrev pub shares : ℕ → List ℕ → ℕ → Bool
-shares span cells cell = list_any (λ part. cell / span == part) (map (λ c. c / span) cells)
+shares span cells cell = list_any (λ other. other / span == cell / span) cells
 
 -- one table is asked for, unless it is there
 abbrev pub unless : Bool → Want → List Want
 unless there want = if there then [] else want ∷ []
 
--- the tables that a cell needs beside those of the cells that are there: one of each level for the first cell
+-- the tables that a cell needs beside those of the cells that are there, top first: one of each level for the first cell
 abbrev pub missing_tables : List ℕ → ℕ → List Want
-missing_tables [] cell = Top ∷ Upper ∷ Middle ∷ []
-missing_tables (other ∷ cells) cell = unless (shares (2 ^ 18) (other ∷ cells) cell) Upper ++ unless (shares (2 ^ 9) (other ∷ cells) cell) Middle
+missing_tables cells cell =
+    unless (not (length cells == 0)) Top
+    ++ unless (shares (2 ^ 18) cells cell) Upper
+    ++ unless (shares (2 ^ 9) cells cell) Middle
+
+-- the tables of a directory of these cells, level after level from the top
+abbrev pub directory_wants : List ℕ → List Want
+directory_wants [] = []
+directory_wants (cell ∷ cells) =
+    Top ∷ replicate (length (distinct (map (λ c. c / 2 ^ 18) (cell ∷ cells)))) Upper
+    ++ replicate (length (distinct (map (λ c. c / 2 ^ 9) (cell ∷ cells)))) Middle
 
 -- one table is asked for where it is wanted
 abbrev pub wanted_if : Bool → Want → List Want

@@ -1,5 +1,5 @@
 -- The walk through the levels of a directory.
-use Rattle.std.specs.Prelude.{◌≡◌, ℕ, ◌+◌, ◌*◌, ◌/◌, ◌%◌, ◌^◌, ◌<◌, suc, List, [], ◌∷◌, length, Option, Some, None, IsSome, slice_get}
+use Rattle.std.specs.Prelude.{◌≡◌, ℕ, ◌+◌, ◌/◌, ◌%◌, ◌^◌, ◌<◌, suc, List, [], ◌∷◌, length, Option, Some, None, IsSome, slice_get}
 use Rattle.std.specs.Option.{option_and_then}
 use Rattle.vm_base.specs.Frames.{FrameView}
 use Rattle.table_levels.specs.Tables.{entry_at}

@@ -1,17 +1,20 @@
 //! The tables above the leaf tables, seen as a finite map from cells to slots.
-ghost use Rattle.std.specs.Prelude.{◌≡◌, ◌+◌, ◌<◌, ◌≤◌, ◌^◌, None, Some, IfOk, OnOk, OnErr, replicate, length};
+ghost use Rattle.std.specs.Prelude.{◌≡◌, ◌+◌, ◌-◌, ◌<◌, ◌≤◌, ◌^◌, None, Some, IfOk, OnOk, OnErr, replicate, length};
 ghost use Rattle.table_levels.specs.Walks.{entry_in, middle_at, NamesUppers};
 ghost use Rattle.std.specs.FinMap as map;
 ghost use Rattle.vm_base.specs.Deals.{LeadsAlong, Counts};
-ghost use Rattle.table_levels.specs.Cells.{tables_of};
-ghost use Rattle.table_levels.specs.Requests.{missing_tables, returned, Asks};
+ghost use Rattle.table_levels.specs.Cells.{first_from, tables_of};
+ghost use Rattle.table_levels.specs.Requests.{missing_tables, directory_wants, returned, Asks, Adds};
 
-use crate::frames::{Wanted, give_all, give_back, take_fresh};
+use crate::copying::{copy_lower, copy_of};
+use crate::frames::{Wanted, give_all, give_back, give_unused, take_fresh};
 use crate::linking::link;
+use crate::search::first_slot;
 use crate::table::{ENTRIES, entry};
+use crate::unlinking::unlink;
 use std::alloc::Global;
 use std::marker::Model;
-use vm_base::{Allot, Frame, NoMemory, Refused};
+use vm_base::{Allot, Frame, NoMemory, Refused, Want};
 
 /// How many cells a directory may have.
 const MOST_CELLS: usize = 512;
@@ -113,6 +116,72 @@ impl Directory {
         }
     }
 
+    /// The lowest cell that is there and not below this one, with its slot.
+    pub fn at_or_after(&self, cell: u32) -> Option<(u32, u32)>
+        ensures { result ≡ first_from self.now cell }
+    {
+        first_slot(&self.top, &self.uppers, &self.middles, cell)
+    }
+
+    /// Takes a cell out, where it is there. Each table that is left without an entry is given
+    /// back, the middle table first.
+    pub fn remove<A: Allot>(&mut self, cell: u32, allot: &mut A)
+        requires cell { cell < 2 ^ 27 }
+        requires lent { tables_of self.old ≤ A.out (A.state allot.old) }
+        ensures removed { self.new ≡ map.remove self.old cell }
+        ensures shrunk { tables_of self.new ≤ tables_of self.old }
+
+        // What the allot got back, and what it has afterwards.
+        ensures given { LeadsAlong A.goes (A.state allot.old) (returned (tables_of self.old - tables_of self.new)) (A.state allot.new) }
+        ensures out { A.out (A.state allot.new) + tables_of self.old ≡ A.out (A.state allot.old) + tables_of self.new }
+        ensures unrefused { A.refused (A.state allot.new) ≡ A.refused (A.state allot.old) }
+        ensures untold { A.grants allot.new ≡ A.grants allot.old }
+    {
+        if self.find(cell).is_none() {
+            return;
+        }
+        let unused = unlink(&mut self.top, &mut self.uppers, &mut self.middles, cell);
+        self.tables -= unused.count();
+        give_unused(unused, allot);
+    }
+
+    /// Copies another directory into an empty one. It asks for the top table, then for the upper
+    /// tables, then for the middle tables. After `Refused` what was granted has been given back.
+    pub fn copy_from<A: Allot>(&mut self, other: &Directory, allot: &mut A) -> Result<(), Refused>
+        requires empty { self.old ≡ map.empty }
+        requires untold { A.grants allot.old ≡ None }
+        ensures copied { OnOk result (self.new ≡ other.now) }
+        ensures kept { OnErr result (self.new ≡ self.old) }
+
+        // What the allot was asked for, and what it has afterwards.
+        ensures requests { Asks A.goes (A.state allot.old) (directory_wants (map.keys other.now)) result (A.state allot.new) }
+        ensures counts { Counts A.refused (A.state allot.old) result (A.state allot.new) }
+        ensures out { Adds A.out (A.state allot.old) (tables_of other.now) result (A.state allot.new) }
+        ensures untold { A.grants allot.new ≡ A.grants allot.old }
+    {
+        let top = match copy_of(&other.top, Want::Top, allot) {
+            Ok(top) => top,
+            Err(refused) => return Err(refused),
+        };
+        match copy_lower(
+            &mut self.uppers,
+            &mut self.middles,
+            &other.uppers,
+            &other.middles,
+            allot,
+        ) {
+            Ok(()) => {
+                self.top = top;
+                self.tables = other.tables;
+                Ok(())
+            }
+            Err(refused) => {
+                give_back(top, allot);
+                Err(refused)
+            }
+        }
+    }
+
     /// Gives all tables back. The directory is empty then.
     pub fn release<A: Allot>(&mut self, allot: &mut A)
         requires lent { tables_of self.old ≤ A.out (A.state allot.old) }
@@ -132,7 +201,7 @@ impl Directory {
 }
 
 /// The entry of a table, if the table is there.
-fn named_by(table: &Option<Frame>, i: usize) -> Option<u32>
+pub(crate) fn named_by(table: &Option<Frame>, i: usize) -> Option<u32>
     requires { i < 512 }
     ensures { result ≡ entry_in table.now i }
 {

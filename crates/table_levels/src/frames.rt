@@ -6,6 +6,7 @@ ghost use Rattle.table_levels.specs.Requests.{wanted_if, wanted_lower, wanted_ta
 ghost use Rattle.table_levels.specs.Fresh.{IsFresh, AreFresh, HasFresh};
 ghost use Rattle.table_levels.specs.Walks.{tables_at};
 
+use crate::unlinking::Unused;
 use vm_base::{Allot, Frame, Refused, Want};
 
 /// Which tables are missing on the way to a cell.
@@ -110,6 +111,19 @@ pub(crate) fn give_back<A: Allot>(table: Option<Frame>, allot: &mut A)
         Some(frame) => allot.give(frame),
         None => {}
     }
+}
+
+/// Gives back tables that no cell needs any more, the middle table first.
+pub(crate) fn give_unused<A: Allot>(unused: Unused, allot: &mut A)
+    requires { tables_at (unused.top ∷ unused.upper ∷ unused.middle ∷ []) ≤ A.out (A.state allot.old) }
+    ensures given { LeadsAlong A.goes (A.state allot.old) (returned (tables_at (unused.top ∷ unused.upper ∷ unused.middle ∷ []))) (A.state allot.new) }
+    ensures out { A.out (A.state allot.new) + tables_at (unused.top ∷ unused.upper ∷ unused.middle ∷ []) ≡ A.out (A.state allot.old) }
+    ensures unrefused { A.refused (A.state allot.new) ≡ A.refused (A.state allot.old) }
+    ensures untold { A.grants allot.new ≡ A.grants allot.old }
+{
+    give_back(unused.middle, allot);
+    give_back(unused.upper, allot);
+    give_back(unused.top, allot);
 }
 
 /// Gives back the tables of all places, which are free then.

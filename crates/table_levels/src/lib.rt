@@ -6,11 +6,14 @@
 //! and that as many frames are out as the directory's cells need. README.md goes on.
 #![tactic(auto)]
 
+mod copying;
 mod directory;
 mod frames;
 mod linking;
+mod search;
 mod table;
 #[cfg(test)]
 mod tests;
+mod unlinking;
 
 pub use directory::Directory;

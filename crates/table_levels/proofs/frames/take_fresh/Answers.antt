@@ -1,5 +1,4 @@
 -- The top table was granted, one below it refused, and the top table given back.
-use Rattle.table_levels.specs.declared.frames.Wanted.{Wanted}
 use Rattle.vm_base.specs.declared.frame_request.Want.TheVariants.{Top}
 use Rattle.table_levels.specs.Requests.{wanted_if, wanted_lower}
 use Rattle.table_levels.proofs.Asking.{refuses_after, fresh_count}

@@ -1,5 +1,5 @@
 -- The one want was refused.
-use Rattle.std.proofs.Common.{ap, ◌∙◌, sym, subst, ◌∷◌, []}
+use Rattle.std.proofs.Common.{sym, subst}
 use Rattle.table_levels.specs.Requests.{RefusesOne, wanted_if}
 use Rattle.table_levels.proofs.Asking.{refuses_alone}
 use Rattle.table_levels.proofs.frames.take_if.Goals as goal

@@ -1,6 +1,6 @@
 -- With a middle table on the way the slot is named in it, else the fresh tables are linked.
-use Rattle.std.proofs.Common.{◌≡◌, ◌/◌, ◌^◌, ◌<◌, Some, length, sym, ◌∙◌, ap, subst, arith}
-use Rattle.table_levels.specs.Walks.{Levels, levels_of, middle_of, middle_at, NamesUppers}
+use Rattle.std.proofs.Common.{◌≡◌, ◌/◌, ◌^◌, ◌<◌, Some, sym, ◌∙◌, ap, subst, arith}
+use Rattle.table_levels.specs.Walks.{levels_of, middle_of, middle_at, NamesUppers}
 use Rattle.table_levels.proofs.Linked.{slot_linked}
 use Rattle.table_levels.proofs.linking.link.Goals as goal
 

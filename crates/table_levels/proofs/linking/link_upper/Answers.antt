@@ -1,8 +1,8 @@
 -- The upper tables on the way are there and named.
-use Rattle.std.proofs.Common.{◌≡◌, ◌+◌, ◌/◌, ◌%◌, ◌<◌, Some, ◌∷◌, [], length, sym, ◌∙◌, ap, subst, arith, refl}
+use Rattle.std.proofs.Common.{◌≡◌, ◌/◌, ◌%◌, ◌<◌, Some, length, sym, ◌∙◌, ap, subst, arith, refl}
 use Rattle.std.specs.Option.{option_or}
 use Rattle.std.specs.Prelude.{IsSome}
-use Rattle.table_levels.specs.Walks.{table_at, entry_in, tables_at}
+use Rattle.table_levels.specs.Walks.{table_at, entry_in}
 use Rattle.std.proofs.Math.ListN.{set, length-set}
 use Rattle.table_levels.specs.Links.{SetsIn}
 use Rattle.table_levels.proofs.Walking.{table_at-get}

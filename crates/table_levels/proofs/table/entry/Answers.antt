@@ -1,8 +1,7 @@
 -- The word of the entry, in its parts.
-use Rattle.std.proofs.Common.{◌≡◌, true, false, eqb, cond, Some, None, sym, ◌∙◌, ap}
+use Rattle.std.proofs.Common.{◌≡◌, true, false, eqb, Some, None, sym, ◌∙◌, ap}
 use Rattle.std.proofs.lemmas.Bool.{cond-true, cond-false}
 use Rattle.vm_base.specs.Entries.{number_of, bits_of}
-use Rattle.table_levels.specs.Tables.{entry_at}
 use Rattle.table_levels.proofs.TableLemmas.{entry_read}
 use Rattle.table_levels.proofs.table.entry.Goals as goal
 

@@ -1,7 +1,7 @@
 -- The walk ends at the slot that the map has.
-use Rattle.std.proofs.Common.{◌≡◌, ◌+◌, ◌/◌, ◌%◌, ◌^◌, ◌<◌, Some, None, sym, ◌∙◌, ap, arith}
+use Rattle.std.proofs.Common.{◌≡◌, ◌/◌, ◌%◌, ◌^◌, ◌<◌, Some, None, sym, ◌∙◌, ap, arith}
 use Rattle.std.specs.FinMap.{get}
-use Rattle.table_levels.specs.Walks.{Levels, middle_at, middle_of, entry_in, table_at}
+use Rattle.table_levels.specs.Walks.{Levels, middle_at, middle_of, entry_in}
 use Rattle.table_levels.proofs.Walking.{table_at-get, get-cells_of, slot_there, slot_absent}
 use Rattle.table_levels.proofs.directory.Directory.find.Goals as goal
 

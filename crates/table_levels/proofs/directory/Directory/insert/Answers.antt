@@ -1,13 +1,12 @@
 -- The tables that are missing are asked for, and linked where all were granted.
-use Rattle.std.proofs.Common.{◌≡◌, ◌+◌, ◌/◌, ◌^◌, ◌<◌, ◌≤◌, ◌∷◌, not, None, length, refl, sym, ◌∙◌, ap, subst, arith}
+use Rattle.std.proofs.Common.{◌≡◌, ◌+◌, ◌/◌, ◌<◌, ◌∷◌, length, sym, ◌∙◌, ap, subst, arith}
 use Rattle.std.specs.Prelude.{is_some}
 use Rattle.std.specs.FinMap as map
 use Rattle.vm_base.specs.Deals.{LeadsAlong}
 use Rattle.table_levels.specs.declared.frames.Wanted.{Wanted}
 use Rattle.table_levels.specs.Cells.{tables_of}
 use Rattle.table_levels.specs.Requests.{granted, missing_tables, wanted_tables, RefusesOne}
-use Rattle.table_levels.specs.Walks.{Levels, entry_in, middle_at, middle_of, slot_of, cells_of, tables_at, tables_in, NamesUppers, IsDirectory, AreDirectory}
-use Rattle.table_levels.specs.Links.{wanted_for}
+use Rattle.table_levels.specs.Walks.{Levels, middle_at, cells_of, tables_at, tables_in, NamesUppers, IsDirectory}
 use Rattle.table_levels.proofs.Counting.{middle_tables_of-le}
 use Rattle.table_levels.proofs.Walking.{get-cells_of}
 use Rattle.table_levels.proofs.Linked.{wanted_for_missing, few_tables, few_wanted, wanted_same}

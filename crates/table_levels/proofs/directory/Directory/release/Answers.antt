@@ -1,7 +1,7 @@
 -- All places are free, and as many frames given back as the cells took.
 use Rattle.std.proofs.Common.{◌≡◌, ◌+◌, ◌∷◌, [], replicate, refl, sym, ◌∙◌, ap, subst, arith}
 use Rattle.table_levels.specs.Cells.{tables_of}
-use Rattle.table_levels.specs.Walks.{Place, levels_of, cells_of, tables_at, tables_in, IsDirectory}
+use Rattle.table_levels.specs.Walks.{Place, levels_of, cells_of, tables_at, IsDirectory}
 use Rattle.table_levels.proofs.Giving.{free, gives_more}
 use Rattle.table_levels.proofs.Links.{tables_at-cons}
 use Rattle.table_levels.proofs.Walking.{bare_directory, no_levels}

@@ -1,0 +1,14 @@
+-- Tables copied into other frames.
+use Rattle.std.specs.Prelude.{◌≡◌, ℕ, List, length, Option, Some, None}
+use Rattle.table_levels.specs.Walks.{Place, table_at, tables_at}
+
+-- the bytes of a table, if the table is there
+abbrev pub bytes_in : Place → Option (List ℕ)
+bytes_in None = None
+bytes_in (Some table) = Some table.bytes
+
+-- at each place the same table, in frames of their own
+pub record Copies (new old : List Place) : Type 0 where
+  pub bytes : (i : ℕ) → bytes_in (table_at new i) ≡ bytes_in (table_at old i)
+  pub places : length new ≡ length old
+  pub counted : tables_at new ≡ tables_at old
