@@ -1,0 +1,5 @@
+pub mod Courses
+pub mod Sides
+pub mod Standing
+pub mod Held
+pub mod Making
