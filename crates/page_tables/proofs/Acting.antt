@@ -16,9 +16,9 @@ use Rattle.table_levels.specs.Cells.{CellMap}
 use Rattle.page_tables.specs.declared.slot.Slot.{Slot}
 use Rattle.page_tables.specs.declared.tables.SnapshotTables.{SnapshotTables}
 use Rattle.page_tables.specs.Sides.{Sides}
-use Rattle.page_tables.specs.Standing.{owner_at, AreCellsOf, StandFor}
+use Rattle.page_tables.specs.Standing.{owner_at, AreCellsOf, StandFor, IsSlotFor}
 use Rattle.page_tables.proofs.LeafMap.{cell_at-here, cell_at-apart, kept-with_cell}
-use Rattle.page_tables.proofs.SlotLemmas.{IsSlotFor, cells_with, cells_with-here, cells_with-apart, slots-acted, length-set, slice_get-set-here, slice_get-set-apart}
+use Rattle.page_tables.proofs.SlotLemmas.{cells_with, cells_with-here, cells_with-apart, slots-acted, length-set, slice_get-set-here, slice_get-set-apart}
 
 module _ (directory : CellMap) (snapshot : Option SnapshotTables) (slots : List Slot) (sides : Sides) (st : StandFor directory snapshot slots sides)
     (c s : ℕ) (slot : Slot) (here : slice_get slots s ≡ Some slot) (fits : IsSlotFor sides.leaves c slot.owner)

@@ -6,3 +6,4 @@ pub mod TouchShapes
 pub mod PageMaps
 pub mod Missing
 pub mod KnownTouch
+pub mod OwnedSlots

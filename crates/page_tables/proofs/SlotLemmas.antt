@@ -14,7 +14,7 @@ use Rattle.kernel_meaning.specs.CellAccount.{CellState}
 use Rattle.leaf_cell.specs.CellView.{CellView}
 use Rattle.leaf_cell.specs.Standing.{StandsFor}
 use Rattle.page_tables.specs.declared.slot.Slot.{Slot}
-use Rattle.page_tables.specs.Standing.{owner_at, state_in, AreSlotsOf}
+use Rattle.page_tables.specs.Standing.{owner_at, state_in, AreSlotsOf, IsSlotFor}
 use Rattle.page_tables.proofs.LeafMap.{find-here, find-apart, length-with_cell}
 
 -- a cell stands for the same account behind more requests
@@ -53,10 +53,6 @@ cells_with-here cells c state q here = cond-true (eqb q c) _ _ (eq-eqb q c here)
 
 pub cells_with-apart : (cells : ℕ → CellState) (c : ℕ) (state : CellState) (q : ℕ) → q ≢ c → cells_with cells c state q ≡ cells q
 cells_with-apart cells c state q apart = cond-false (eqb q c) _ _ (ne_eqb q c apart)
-
--- a slot that a cell has, or that is free while the cell has none
-abbrev pub IsSlotFor : Leaves → ℕ → Option ℕ → Type 0
-IsSlotFor leaves c owner = (owner ≡ Some c) ⊎ ((owner ≡ None) × (is_some (find nat_cmp c leaves) ≡ false))
 
 module _ (leaves : Leaves) (cells : ℕ → CellState) (made : ℕ) (slots : List Slot) (of : AreSlotsOf leaves cells made slots)
     (c s : ℕ) (slot : Slot) (here : slice_get slots s ≡ Some slot) (fits : IsSlotFor leaves c slot.owner)

@@ -1,5 +1,5 @@
 -- When page tables stand for the two sides.
-use Rattle.std.specs.Prelude.{◌≡◌, ℕ, ◌+◌, ◌*◌, ◌<◌, ◌≤◌, Bool, true, cond, List, [], ◌∷◌, length, map, count_by, Option, Some, None, IsSome, is_some, T}
+use Rattle.std.specs.Prelude.{◌≡◌, ◌≢◌, ◌⊎◌, ℕ, ◌+◌, ◌*◌, ◌<◌, ◌≤◌, Bool, true, false, cond, List, [], ◌∷◌, length, map, count_by, Option, Some, None, IsSome, is_some, T}
 use Rattle.std.specs.Ordering.{nat_cmp}
 use Rattle.std.specs.Option.{option_and_then}
 use Rattle.std.specs.List.{slice_get, AllByRecursion}
@@ -90,3 +90,18 @@ TablesStandFor tables sides = StandFor tables.directory tables.snapshot tables.s
 -- how many slots there are
 abbrev pub slot_count : PageTables → ℕ
 slot_count tables = length tables.slots.items
+
+-- some slot has this owner, the one that was found; or none has
+abbrev pub IsSlotOf : List Slot → Option ℕ → Option ℕ → Type 0
+IsSlotOf slots owner None = (s : ℕ) (slot : Slot) → slice_get slots s ≡ Some slot → slot.owner ≢ owner
+IsSlotOf slots owner (Some s) = (slot : Slot) × ((slice_get slots s ≡ Some slot) × (slot.owner ≡ owner))
+
+-- a slot that the cell has, or a free one while the cell has none
+abbrev pub IsSlotFor : Leaves → ℕ → Option ℕ → Type 0
+IsSlotFor leaves c owner = (owner ≡ Some c) ⊎ ((owner ≡ None) × (is_some (find nat_cmp c leaves) ≡ false))
+
+-- the tables have such a slot
+pub record HasSlotFor (tables : PageTables) (leaves : Leaves) (c s : ℕ) : Type 0 where
+  pub slot : Slot
+  pub here : slice_get tables.slots.items s ≡ Some slot
+  pub fits : IsSlotFor leaves c slot.owner
