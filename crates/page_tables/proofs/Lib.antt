@@ -7,3 +7,5 @@ pub mod PageMaps
 pub mod Missing
 pub mod KnownTouch
 pub mod OwnedSlots
+pub mod FlatParts
+pub mod ParentPages

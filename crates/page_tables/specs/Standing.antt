@@ -41,6 +41,8 @@ pub record AreCellsOf (sides : Sides) (cells : ℕ → CellState) : Type 0 where
   pub pages : (c p : ℕ) → p < 512 → get (cells c).pages p ≡ get sides.pages (c * 512 + p)
   pub snapshots : (n c p : ℕ) → p < 512 → option_and_then (λ pages. get pages p) (get (cells c).snapshots n)
       ≡ option_and_then (λ pages. get pages (c * 512 + p)) (get sides.snapshots n)
+  -- where nobody has a cell, the parent has no page
+  pub unused : (c p : ℕ) → p < 512 → is_some (find nat_cmp c sides.leaves) ≡ false → get sides.pages (c * 512 + p) ≡ None
 
 -- the slots hold the cells, each one cell
 pub record AreSlotsOf (leaves : Leaves) (cells : ℕ → CellState) (made : ℕ) (slots : List Slot) : Type 0 where
@@ -70,6 +72,8 @@ pub record IsSnapshotOf (snapshot : Option SnapshotTables) (slots : List Slot) (
   pub numbers : (c : ℕ) → map (λ it. it.number) (cell_at sides.leaves c).kept ≡ numbers_at snapshot c
   pub named : (c s : ℕ) → slot_in snapshot c ≡ Some s → owner_at slots s ≡ Some c
   pub live : (n : ℕ) → is_some (get sides.snapshots n) ≡ holds_number (number_of snapshot) n
+  -- a snapshot has no page but in these cells
+  pub lacking : (n c p : ℕ) → p < 512 → slot_in snapshot c ≡ None → option_and_then (λ pages. get pages (c * 512 + p)) (get sides.snapshots n) ≡ None
 
 -- a directory, a snapshot's and slots stand for the two sides
 pub record StandFor (directory : CellMap) (snapshot : Option SnapshotTables) (slots : List Slot) (sides : Sides) : Type 0 where

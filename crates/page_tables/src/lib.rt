@@ -7,6 +7,8 @@
 //! beside this crate goes on from here.
 #![tactic(auto)]
 
+mod access;
+mod pieces;
 mod slot;
 mod tables;
 mod touch;
