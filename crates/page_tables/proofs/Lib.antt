@@ -9,3 +9,5 @@ pub mod KnownTouch
 pub mod OwnedSlots
 pub mod FlatParts
 pub mod ParentPages
+pub mod PieceByPiece
+pub mod ParentStore

@@ -7,8 +7,7 @@ use Rattle.page_tables.proofs.tables.PageTables.read.Given as goal
 
 abbrev pub invariant-loop-done : goal.invariant-loop-done
 invariant-loop-done l = record {
-  within : l.done ≤ length l.buf;
-  size : length l.buf ≡ length l.fn.buf;
+  within : l.done ≤ length l.fn.buf;
   read : (sides : Sides) → TablesStandFor l.self sides → take l.done l.buf ≡ bytes_at sides.pages l.addr l.done;
 }
 
