@@ -65,7 +65,7 @@ byte-outside pages c page at byte q small room apart =
 pub bytes-inside : (bytes : List ℕ) (part pages : PageMap) (c page at : ℕ) → page < 512 → at + length bytes ≤ 4096 → IsPartOf c part pages
     → IsPartOf c (with_bytes part (page * 4096 + at) bytes) (with_bytes pages ((c * 512 + page) * 4096 + at) bytes)
 bytes-inside [] part pages c page at small room alike = alike
-bytes-inside (byte ∷ bytes) part pages c page at small room alike p low =
+bytes-inside (byte ∷ bytes) part pages c page at small room alike = λ p low.
     let near : page * 4096 + at + 1 ≡ page * 4096 + (at + 1) = omega arith in
     let far : (c * 512 + page) * 4096 + at + 1 ≡ (c * 512 + page) * 4096 + (at + 1) = omega arith in
     ap (λ a. get (with_bytes (with_byte part (page * 4096 + at) byte) a bytes) p) near
