@@ -7,3 +7,6 @@ pub mod PageMaps
 pub mod Missing
 pub mod KnownTouch
 pub mod OwnedSlots
+pub mod Room
+pub mod Again
+pub mod Rows

@@ -1,8 +1,8 @@
 -- When page tables stand for the two sides.
-use Rattle.std.specs.Prelude.{◌≡◌, ◌≢◌, ◌⊎◌, ℕ, ◌+◌, ◌*◌, ◌<◌, ◌≤◌, Bool, true, false, cond, List, [], ◌∷◌, length, map, count_by, Option, Some, None, IsSome, is_some, T}
+use Rattle.std.specs.Prelude.{◌≡◌, ◌≢◌, ◌⊎◌, ℕ, ◌+◌, ◌*◌, ◌<◌, ◌≤◌, ◌==◌, Bool, true, false, cond, List, [], ◌∷◌, length, map, count_by, Option, Some, None, IsSome, is_some, T}
 use Rattle.std.specs.Ordering.{nat_cmp}
 use Rattle.std.specs.Option.{option_and_then}
-use Rattle.std.specs.List.{slice_get, AllByRecursion}
+use Rattle.std.specs.List.{slice_get, list_any, AllByRecursion}
 use Rattle.std.specs.FinMap.{get, find, is_sorted}
 use Rattle.leaf_cell.specs.CellView.{AreUnjoined, new_view}
 use Rattle.leaf_cell.specs.Standing.{StandsFor}
@@ -70,6 +70,8 @@ pub record IsSnapshotOf (snapshot : Option SnapshotTables) (slots : List Slot) (
   pub numbers : (c : ℕ) → map (λ it. it.number) (cell_at sides.leaves c).kept ≡ numbers_at snapshot c
   pub named : (c s : ℕ) → slot_in snapshot c ≡ Some s → owner_at slots s ≡ Some c
   pub live : (n : ℕ) → is_some (get sides.snapshots n) ≡ holds_number (number_of snapshot) n
+  -- it has no page in other cells
+  pub absent : (n c p : ℕ) → p < 512 → list_any (λ m. m == n) (numbers_at snapshot c) ≡ false → option_and_then (λ pages. get pages (c * 512 + p)) (get sides.snapshots n) ≡ None
 
 -- a directory, a snapshot's and slots stand for the two sides
 pub record StandFor (directory : CellMap) (snapshot : Option SnapshotTables) (slots : List Slot) (sides : Sides) : Type 0 where
@@ -77,6 +79,7 @@ pub record StandFor (directory : CellMap) (snapshot : Option SnapshotTables) (sl
   pub kept : AreKept sides.leaves
   pub each : AreCellsOf sides cells
   pub slots_of : AreSlotsOf sides.leaves cells sides.made slots
+  pub blank : (c : ℕ) → is_some (find nat_cmp c sides.leaves) ≡ false → cells c ≡ empty_state
   pub few : length slots ≤ 512
   -- the directory has the cells where the parent has a page, each with its slot
   pub parent : (c : ℕ) → is_some (get directory c) ≡ has_pages (cell_at sides.leaves c).parent

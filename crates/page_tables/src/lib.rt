@@ -9,6 +9,5 @@
 
 mod slot;
 mod tables;
-mod touch;
 
 pub use tables::PageTables;
