@@ -10,3 +10,4 @@ pub mod OwnedSlots
 pub mod Room
 pub mod Again
 pub mod Rows
+pub mod NewTouch

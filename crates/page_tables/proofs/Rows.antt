@@ -45,6 +45,14 @@ abbrev pub tables_back : Option ℕ → ℕ → List Deal
 tables_back None n = []
 tables_back (Some at) n = returned n
 
+-- these tables and then the cell's deals, and the tables back where those were refused
+abbrev pub deals_behind : List Want → List Deal → Option ℕ → List Deal
+deals_behind wants deals refused = granted wants ++ (deals ++ tables_back refused (length wants))
+
+-- these tables, the next one refused, and all back
+abbrev pub deals_up_to : List Want → Want → ℕ → List Deal
+deals_up_to front want at = granted front ++ Denied want at ∷ returned (length front)
+
 answers-back : (refused : Option ℕ) (n : ℕ) → answers_of (tables_back refused n) ≡ []
 answers-back None n = refl
 answers-back (Some at) n = answers-returned n
@@ -58,8 +66,8 @@ touch-ended-behind page n leaves made rest dealt (Some at) = refl
 module _ (page : ℕ) (leaves : Leaves) (made : ℕ) (wants : List Want) (missing : missing_tables (parent_cells leaves) (cell_of page) ≡ wants) where
   -- all tables were granted
   module _ (deals : List Deal) (after : CellLeaves) (later : ℕ) (refused : Option ℕ) (at_cell : RunsAt (touched (page % 512)) (cell_at leaves (cell_of page)) (made + length wants) deals after later refused) where
-    abbrev pub all_deals : List Deal
-    all_deals = granted wants ++ (deals ++ tables_back refused (length wants))
+    abbrev all_deals : List Deal
+    all_deals = deals_behind wants deals refused
 
     all_answers : (rest : List Answer) → answers_of all_deals ++ rest ≡ answers_of (granted wants) ++ (answers_of deals ++ rest)
     all_answers rest =
@@ -67,7 +75,7 @@ module _ (page : ℕ) (leaves : Leaves) (made : ℕ) (wants : List Want) (missin
             (answers-append deals (tables_back refused (length wants)) ∙ ap (λ xs. answers_of deals ++ xs) (answers-back refused (length wants)) ∙ append-nil (answers_of deals)))
         ∙ append_assoc (answers_of (granted wants)) (answers_of deals) rest
 
-    pub new-runs : Runs (page_touched page) leaves made all_deals (with_cell leaves (cell_of page) after) later (refusal_at page refused)
+    pub new-runs : Runs (page_touched page) leaves made (deals_behind wants deals refused) (with_cell leaves (cell_of page) after) later (refusal_at page refused)
     new-runs = record {
       runs = λ before rest.
           let start : Progress = progress_between leaves made (answers_of all_deals ++ rest) before in
@@ -84,15 +92,15 @@ module _ (page : ℕ) (leaves : Leaves) (made : ℕ) (wants : List Want) (missin
 
   -- a table was refused
   module _ (front : List Want) (want : Want) (more : List Want) (order : wants ≡ front ++ want ∷ more) (at : ℕ) where
-    abbrev pub lacking_deals : List Deal
-    lacking_deals = granted front ++ Denied want at ∷ returned (length front)
+    abbrev lacking_deals : List Deal
+    lacking_deals = deals_up_to front want at
 
     lacking_answers : (rest : List Answer) → answers_of lacking_deals ++ rest ≡ answers_of (granted front) ++ No at ∷ rest
     lacking_answers rest =
         ap (λ xs. xs ++ rest) (answers-append (granted front) (Denied want at ∷ returned (length front)) ∙ ap (λ xs. answers_of (granted front) ++ No at ∷ xs) (answers-returned (length front)))
         ∙ append_assoc (answers_of (granted front)) (No at ∷ []) rest
 
-    pub lacking-runs : Runs (page_touched page) leaves made lacking_deals leaves (made + length front + 1) (refusal_at page (Some at))
+    pub lacking-runs : Runs (page_touched page) leaves made (deals_up_to front want at) leaves (made + length front + 1) (refusal_at page (Some at))
     lacking-runs = record {
       runs = λ before rest.
           let start : Progress = progress_between leaves made (answers_of lacking_deals ++ rest) before in
