@@ -41,13 +41,13 @@ use Rattle.page_tables.proofs.Rows.{deals_behind, deals_up_to, new-runs, lacking
 
 module _ (old : PageTables) (sides : Sides) (st : TablesStandFor old sides) (page s : ℕ) (slot : Slot)
     (absent : get old.directory (cell_of page) ≡ None) (here : slice_get old.slots.items s ≡ Some slot) (fits : IsSlotFor sides.leaves (cell_of page) slot.owner) where
-  abbrev c : ℕ
+  abbrev pub c : ℕ
   c = cell_of page
 
-  abbrev p : ℕ
+  abbrev pub p : ℕ
   p = page % 512
 
-  abbrev wants : List Want
+  abbrev pub wants : List Want
   wants = missing_tables (keys old.directory) c
 
   lacks : missing_tables (parent_cells sides.leaves) c ≡ wants
@@ -63,13 +63,13 @@ module _ (old : PageTables) (sides : Sides) (st : TablesStandFor old sides) (pag
         | inr free ↦ ap (state_in st.cells) free.0 ∙ sym (st.blank c free.1)
       ]
 
-  abbrev asked_for : ℕ
+  abbrev pub asked_for : ℕ
   asked_for = sides.made + length wants
 
-  abbrev account : CellAccount
+  abbrev pub account : CellAccount
   account = record { state = st.cells c; made = asked_for }
 
-  stood : StandsFor slot.cell account
+  pub stood : StandsFor slot.cell account
   stood = stands-later slot.cell (st.cells c) sides.made asked_for (omega arith) held_here
 
   size : length (st.cells c).leaves.parent ≡ 512

@@ -91,3 +91,17 @@ module _ (directory : CellMap) (snapshot : Option SnapshotTables) (slots : List 
       found-fails : (o : Option CellLeaves) → find nat_cmp c sides.leaves ≡ o → is_some o ≡ true → has_pages (unwrap_or o unused_cell).parent ≡ false → length (filter (λ e. has_pages e.1.parent) sides.leaves) < length sides.leaves
       found-fails None e there nope = absurd (false≢true there)
       found-fails (Some cell) e there nope = filter-shorter (λ cell. has_pages cell.parent) c cell sides.leaves e nope
+
+-- a slot that serves a cell serves it whatever sides the tables stand for
+pub fits-again : (directory : CellMap) (snapshot : Option SnapshotTables) (slots : List Slot) (first second : Sides) → StandFor directory snapshot slots first → StandFor directory snapshot slots second
+    → (c : ℕ) (owner : Option ℕ) → IsSlotFor first.leaves c owner → IsSlotFor second.leaves c owner
+fits-again directory snapshot slots first second st st_too c owner fits = elim fits [
+  | inl mine ↦ inl mine
+  | inr free ↦ inr (free.0, nobody (is_some (find nat_cmp c second.leaves)) refl free.1)
+]
+  where
+    nobody : (b : Bool) → is_some (find nat_cmp c second.leaves) ≡ b → is_some (find nat_cmp c first.leaves) ≡ false → is_some (find nat_cmp c second.leaves) ≡ false
+    nobody false e none = e
+    nobody true e none =
+        let owned : (s : ℕ) × (owner_at slots s ≡ Some c) = st_too.slots_of.owned c e in
+        absurd (false≢true (sym none ∙ st.slots_of.used owned.0 c owned.1))

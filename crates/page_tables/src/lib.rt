@@ -9,5 +9,6 @@
 
 mod slot;
 mod tables;
+mod touch;
 
 pub use tables::PageTables;
