@@ -11,3 +11,5 @@ pub mod Room
 pub mod Again
 pub mod Rows
 pub mod NewTouch
+pub mod SlotChoice
+pub mod Opening
