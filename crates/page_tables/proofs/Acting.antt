@@ -17,7 +17,7 @@ use Rattle.page_tables.specs.declared.slot.Slot.{Slot}
 use Rattle.page_tables.specs.declared.tables.SnapshotTables.{SnapshotTables}
 use Rattle.page_tables.specs.Sides.{Sides}
 use Rattle.page_tables.specs.Standing.{owner_at, AreCellsOf, StandFor, IsSlotFor}
-use Rattle.page_tables.proofs.LeafMap.{cell_at-here, cell_at-apart, find-here, find-apart, kept-with_cell}
+use Rattle.page_tables.proofs.LeafMap.{find-here, find-apart, cell_at-here, cell_at-apart, kept-with_cell}
 use Rattle.page_tables.proofs.SlotLemmas.{cells_with, cells_with-here, cells_with-apart, slots-acted, length-set, slice_get-set-here, slice_get-set-apart}
 
 module _ (directory : CellMap) (snapshot : Option SnapshotTables) (slots : List Slot) (sides : Sides) (st : StandFor directory snapshot slots sides)
@@ -49,11 +49,6 @@ module _ (directory : CellMap) (snapshot : Option SnapshotTables) (slots : List 
           ∙ ap (λ snaps. option_and_then (λ it. get it p) (get snaps n)) (snapshots ∙ ap (λ q. (st.cells q).snapshots) (sym same)) ∙ st.each.snapshots n q p small
       | inr apart ↦ ap (λ st. option_and_then (λ it. get it p) (get st.snapshots n)) (cells_with-apart st.cells c state q apart) ∙ st.each.snapshots n q p small
     ];
-    unused = λ q p small none. elim (cases_eq q c) [
-      | inl same ↦ absurd (false≢true (sym none ∙ ap is_some (find-here sides.leaves c state.leaves used q same)))
-      | inr apart ↦ outside (q * 512 + p) (λ e. apart (let d : (q * 512 + p) / 512 ≡ q = omega arith in sym d ∙ e))
-          ∙ st.each.unused q p small (ap is_some (sym (find-apart sides.leaves c state.leaves used q apart)) ∙ none)
-    ];
   }
 
   -- a cell keeps its slot
@@ -73,6 +68,10 @@ module _ (directory : CellMap) (snapshot : Option SnapshotTables) (slots : List 
     kept = kept-with_cell sides.leaves c state.leaves used size unjoined st.kept;
     each = cells-acted;
     slots_of = slots-acted sides.leaves st.cells sides.made slots st.slots_of c s slot here fits view state later more used stands st.kept.sorted;
+    blank = λ q none. elim (cases_eq q c) [
+      | inl same ↦ absurd (false≢true (sym none ∙ ap is_some (find-here sides.leaves c state.leaves used q same)))
+      | inr apart ↦ cells_with-apart st.cells c state q apart ∙ st.blank q (ap is_some (sym (find-apart sides.leaves c state.leaves used q apart)) ∙ none)
+    ];
     few = subst (λ n. n ≤ 512) (sym (length-set slots s (record { owner = Some c; cell = view }))) st.few;
     parent = parent;
     named = named;
@@ -83,6 +82,6 @@ module _ (directory : CellMap) (snapshot : Option SnapshotTables) (slots : List 
       ];
       named = λ q t e. owner-kept q t (st.snapshot_of.named q t e);
       live = st.snapshot_of.live;
-      lacking = st.snapshot_of.lacking;
+      absent = st.snapshot_of.absent;
     };
   }

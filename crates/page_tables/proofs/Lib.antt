@@ -11,3 +11,9 @@ pub mod FlatParts
 pub mod ParentPages
 pub mod PieceByPiece
 pub mod ParentStore
+pub mod Room
+pub mod Again
+pub mod Rows
+pub mod NewTouch
+pub mod SlotChoice
+pub mod Opening

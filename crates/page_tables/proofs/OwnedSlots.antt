@@ -70,3 +70,12 @@ module _ (directory : CellMap) (snapshot : Option SnapshotTables) (slots : List 
       meant : (owner : Option ℕ) → AreUnjoined (state_in st.cells owner).leaves.kept
       meant None = tt
       meant (Some c) = subst (λ cell. AreUnjoined cell.kept) (sym (st.each.leaves c)) (st.kept.unjoined c)
+
+-- one slot keeps its cell
+pub set-same : (slots : List Slot) (s : ℕ) (slot : Slot) → slice_get slots s ≡ Some slot → slice_set slots s slot ≡ slots
+set-same [] s slot e = refl
+set-same (it ∷ slots) zero slot e = ap (λ o. unwrap_or o it ∷ slots) (sym e)
+set-same (it ∷ slots) (suc s) slot e = ap (λ rest. it ∷ rest) (set-same slots s slot e)
+
+pub same_slot : (a b : Slot) → Some a ≡ Some b → a ≡ b
+same_slot a b e = ap (λ o. unwrap_or o a) e

@@ -4,7 +4,7 @@ use Rattle.std.specs.Prelude.{Bool, true, false, is_some, IsSome}
 use Rattle.std.specs.Ordering.{nat_cmp}
 use Rattle.std.specs.Option.{option_and_then, option_map}
 use Rattle.std.specs.List.{slice_get}
-use Rattle.std.specs.FinMap.{get, find}
+use Rattle.std.specs.FinMap.{get, find, get-empty}
 use Rattle.std.proofs.lemmas.Bool.{cases_Bool, false≢true}
 use Rattle.vm_base.specs.Places.{cell_of}
 use Rattle.kernel_meaning.specs.Leaves.{CellLeaves, version_at, has_pages}
@@ -49,7 +49,7 @@ module _ (directory : CellMap) (snapshot : Option SnapshotTables) (slots : List 
         sym (st.each.pages c p small) ∙ sym (stands.pages p small) ∙ ap (bytes_in there.0.cell.frames)
             (ap (λ vs. version_at vs p) stands.leaves.parent ∙ version_at-renamed stands.name (st.cells c).leaves.parent p
             ∙ ap (option_map (stands.name p)) (ap (λ cell. version_at cell.parent p) (st.each.leaves c) ∙ none))
-    | inr unused ↦ st.each.unused c p small unused
+    | inr unused ↦ sym (st.each.pages c p small) ∙ ap (λ state. get state.pages p) (st.blank c unused) ∙ get-empty nat_cmp p
   ]
 
   -- a page of a cell that the directory lacks

@@ -1,8 +1,8 @@
 -- When page tables stand for the two sides.
-use Rattle.std.specs.Prelude.{◌≡◌, ◌≢◌, ◌⊎◌, ℕ, ◌+◌, ◌*◌, ◌<◌, ◌≤◌, Bool, true, false, cond, List, [], ◌∷◌, length, map, count_by, Option, Some, None, IsSome, is_some, T}
+use Rattle.std.specs.Prelude.{◌≡◌, ◌≢◌, ◌⊎◌, ℕ, ◌+◌, ◌*◌, ◌<◌, ◌≤◌, ◌==◌, Bool, true, false, cond, List, [], ◌∷◌, length, map, count_by, Option, Some, None, IsSome, is_some, T}
 use Rattle.std.specs.Ordering.{nat_cmp}
 use Rattle.std.specs.Option.{option_and_then}
-use Rattle.std.specs.List.{slice_get, AllByRecursion}
+use Rattle.std.specs.List.{slice_get, list_any, AllByRecursion}
 use Rattle.std.specs.FinMap.{get, find, is_sorted}
 use Rattle.leaf_cell.specs.CellView.{AreUnjoined, new_view}
 use Rattle.leaf_cell.specs.Standing.{StandsFor}
@@ -41,8 +41,6 @@ pub record AreCellsOf (sides : Sides) (cells : ℕ → CellState) : Type 0 where
   pub pages : (c p : ℕ) → p < 512 → get (cells c).pages p ≡ get sides.pages (c * 512 + p)
   pub snapshots : (n c p : ℕ) → p < 512 → option_and_then (λ pages. get pages p) (get (cells c).snapshots n)
       ≡ option_and_then (λ pages. get pages (c * 512 + p)) (get sides.snapshots n)
-  -- where nobody has a cell, the parent has no page
-  pub unused : (c p : ℕ) → p < 512 → is_some (find nat_cmp c sides.leaves) ≡ false → get sides.pages (c * 512 + p) ≡ None
 
 -- the slots hold the cells, each one cell
 pub record AreSlotsOf (leaves : Leaves) (cells : ℕ → CellState) (made : ℕ) (slots : List Slot) : Type 0 where
@@ -72,8 +70,8 @@ pub record IsSnapshotOf (snapshot : Option SnapshotTables) (slots : List Slot) (
   pub numbers : (c : ℕ) → map (λ it. it.number) (cell_at sides.leaves c).kept ≡ numbers_at snapshot c
   pub named : (c s : ℕ) → slot_in snapshot c ≡ Some s → owner_at slots s ≡ Some c
   pub live : (n : ℕ) → is_some (get sides.snapshots n) ≡ holds_number (number_of snapshot) n
-  -- a snapshot has no page but in these cells
-  pub lacking : (n c p : ℕ) → p < 512 → slot_in snapshot c ≡ None → option_and_then (λ pages. get pages (c * 512 + p)) (get sides.snapshots n) ≡ None
+  -- it has no page in other cells
+  pub absent : (n c p : ℕ) → p < 512 → list_any (λ m. m == n) (numbers_at snapshot c) ≡ false → option_and_then (λ pages. get pages (c * 512 + p)) (get sides.snapshots n) ≡ None
 
 -- a directory, a snapshot's and slots stand for the two sides
 pub record StandFor (directory : CellMap) (snapshot : Option SnapshotTables) (slots : List Slot) (sides : Sides) : Type 0 where
@@ -81,6 +79,7 @@ pub record StandFor (directory : CellMap) (snapshot : Option SnapshotTables) (sl
   pub kept : AreKept sides.leaves
   pub each : AreCellsOf sides cells
   pub slots_of : AreSlotsOf sides.leaves cells sides.made slots
+  pub blank : (c : ℕ) → is_some (find nat_cmp c sides.leaves) ≡ false → cells c ≡ empty_state
   pub few : length slots ≤ 512
   -- the directory has the cells where the parent has a page, each with its slot
   pub parent : (c : ℕ) → is_some (get directory c) ≡ has_pages (cell_at sides.leaves c).parent
@@ -99,6 +98,11 @@ slot_count tables = length tables.slots.items
 abbrev pub IsSlotOf : List Slot → Option ℕ → Option ℕ → Type 0
 IsSlotOf slots owner None = (s : ℕ) (slot : Slot) → slice_get slots s ≡ Some slot → slot.owner ≢ owner
 IsSlotOf slots owner (Some s) = (slot : Slot) × ((slice_get slots s ≡ Some slot) × (slot.owner ≡ owner))
+
+-- the slot that a cell has, or else a free one; or there is neither
+abbrev pub IsSlotChosen : List Slot → ℕ → Option ℕ → Type 0
+IsSlotChosen slots c None = IsSlotOf slots (Some c) None × IsSlotOf slots None None
+IsSlotChosen slots c (Some s) = IsSlotOf slots (Some c) (Some s) ⊎ (IsSlotOf slots (Some c) None × IsSlotOf slots None (Some s))
 
 -- a slot that the cell has, or a free one while the cell has none
 abbrev pub IsSlotFor : Leaves → ℕ → Option ℕ → Type 0

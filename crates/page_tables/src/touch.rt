@@ -1,11 +1,11 @@
 //! Touching pages.
-ghost use Rattle.std.specs.Prelude.{◌≡◌, ◌+◌, ◌≤◌, ◌<◌, ◌^◌, None, Some, false, length, ◌⊎◌, ◌∷◌, []};
+ghost use Rattle.std.specs.Prelude.{◌≡◌, ◌+◌, ◌≤◌, ◌<◌, ◌^◌, None, Some, false, length, ◌∷◌, []};
 ghost use Rattle.std.specs.FinMap.{get};
 ghost use Rattle.vm_base.specs.Places.{cell_of};
 ghost use Rattle.kernel_meaning.specs.EventRequests.{page_touched};
 ghost use Rattle.kernel_meaning.specs.FrameLaw.{lacks_slots};
 ghost use Rattle.page_tables.specs.Sides.{Sides};
-ghost use Rattle.page_tables.specs.Standing.{TablesStandFor, HasSlotFor, IsSlotOf, slot_count};
+ghost use Rattle.page_tables.specs.Standing.{TablesStandFor, HasSlotFor, IsSlotOf, IsSlotChosen, slot_count};
 ghost use Rattle.page_tables.specs.Held.{frames_of};
 ghost use Rattle.page_tables.specs.Making.{MadeEvent, page_refusal, pages_with};
 
@@ -74,9 +74,10 @@ impl PageTables {
             Err(refused) => return Err(refused),
         }
         let index = (page % CELL_PAGES) as u16;
-        match self.slots[slot as usize].cell.touch(index, allot) {
+        let home = &mut self.slots[slot as usize];
+        match home.cell.touch(index, allot) {
             Ok(()) => {
-                self.slots[slot as usize].owner = Some(cell);
+                home.owner = Some(cell);
                 Ok(())
             }
             Err(refused) => {
@@ -88,7 +89,8 @@ impl PageTables {
 
     /// The slot that a cell has, or else a free one.
     fn slot_for(&self, cell: u32) -> Option<u32>
-        ensures { IsSlotOf self.now.slots.items (Some cell) result ⊎ (IsSlotOf self.now.slots.items (Some cell) None × IsSlotOf self.now.slots.items None result) }
+        requires { slot_count self.now ≤ 512 }
+        ensures { IsSlotChosen self.now.slots.items cell result }
     {
         match slot_of(&self.slots, Some(cell)) {
             Some(slot) => Some(slot),
