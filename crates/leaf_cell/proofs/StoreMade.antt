@@ -1,10 +1,11 @@
 -- What a store made.
 use Rattle.std.proofs.Common.{◌≡◌, ◌≢◌, ℕ, zero, ◌+◌, ◌*◌, ◌/◌, ◌%◌, ◌<◌, ◌≤◌, List, [], ◌∷◌, ◌++◌, length, take, drop, Option, Some, None, refl, sym, ◌∙◌, ap, subst, arith, inl, inr}
-use Rattle.std.specs.Prelude.{is_some, IsSome, false, slice_set, slice_index_or}
+use Rattle.std.specs.Prelude.{is_some, IsSome, false, cond, count_by, slice_set, slice_index_or}
 use Rattle.std.specs.Option.{option_map}
 use Rattle.std.specs.FinMap.{get}
 use Rattle.std.proofs.lemmas.Bool.{cases_eq, false≢true}
 use Rattle.std.proofs.lemmas.List.{get_or-set_same, get_or-set_other, length-set, append-nil, take-append-drop}
+use Rattle.std.proofs.lemmas.List.Sums.{sum_by-set}
 use Rattle.vm_base.specs.Frames.{FrameView}
 use Rattle.vm_base.specs.Places.{page_of, offset_of}
 use Rattle.vm_base.specs.FlatMemory.{PageMap, spliced}
@@ -112,6 +113,15 @@ module _ (parent : Option Versions) (snapshot : Option Snapshot) (frames : List 
     parent_size = inside.parent_size;
     own_size = inside.own_size;
   }
+
+  -- as many frames
+  pub count-stored : count_by is_some new ≡ count_by is_some frames
+  count-stored =
+      let then : Option FrameView = stored_in (slice_index_or frames place None) at bytes in
+      let moved : count_by is_some (slice_set frames place then) + cond (is_some (slice_index_or frames place None)) 1 0 ≡ count_by is_some frames + cond (is_some then) 1 0 =
+      sum_by-set (λ o. cond (is_some o) 1 0) frames place then None place_inside in
+      let same : ◌≡◌ {A = ℕ} (cond (is_some then) 1 0) (cond (is_some (slice_index_or frames place None)) 1 0) = ap (λ b. cond b 1 0) (still_some (slice_index_or frames place None) at bytes) in
+      ap (count_by is_some) stored ∙ omega (arith, moved, same)
 
   -- pages at other places are as before
   bytes_apart : (o : Option ℕ) → ((q : ℕ) → o ≡ Some q → q ≢ place) → bytes_in new o ≡ bytes_in frames o

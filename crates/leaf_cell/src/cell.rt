@@ -129,6 +129,14 @@ impl Cell {
         tables + count_frames(&self.frames)
     }
 
+    /// Tells a proof that the frames of the cell are the share of each account that it stands for,
+    /// without counting them.
+    pub fn tell_share(&self)
+        ensures { (account : CellAccount) → StandsFor self.now account → held_of self.now ≡ account_share account }
+    {
+        let _parent = &self.parent;
+    }
+
     /// Whether the parent has a page in a range of pages.
     pub fn covers(&self, first: u16, pages: u16) -> bool
         requires { first + pages ≤ CELL_PAGES }
