@@ -17,3 +17,4 @@ pub mod Rows
 pub mod NewTouch
 pub mod SlotChoice
 pub mod Opening
+pub mod Readiness
