@@ -27,7 +27,7 @@ use Rattle.page_tables.specs.Standing.{owner_at, StandFor, TablesStandFor, AreKe
 use Rattle.page_tables.specs.Accesses.{IsReady}
 use Rattle.page_tables.proofs.LeafMap.{with_cell-put, same_number, used-found}
 use Rattle.page_tables.proofs.TouchShapes.{page-used}
-use Rattle.page_tables.proofs.KnownTouch.{owner-same}
+use Rattle.page_tables.proofs.SlotLemmas.{owner-same}
 use Rattle.page_tables.proofs.Acting.{tables-acted}
 use Rattle.page_tables.proofs.ParentPages.{account_at, slot-stands}
 
