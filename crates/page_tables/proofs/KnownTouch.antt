@@ -29,7 +29,7 @@ use Rattle.page_tables.specs.Accesses.{IsReady}
 use Rattle.page_tables.specs.Making.{page_refusal, pages_with, Follows, FollowsTouch}
 use Rattle.page_tables.proofs.TouchRuns.{touched_alone, touch-runs}
 use Rattle.page_tables.proofs.TouchShapes.{IsTouchCourse, EndsTouch, touch-course, touch-size, touch-unjoined, touch-numbers, page-used, page-there}
-use Rattle.page_tables.proofs.LeafMap.{cell_at-here, cell_at-apart, found-used}
+use Rattle.page_tables.proofs.LeafMap.{found-with_cell, length-with_cell, cell_at-here, cell_at-apart, found-used}
 use Rattle.page_tables.proofs.Missing.{missing-known}
 use Rattle.page_tables.proofs.PageMaps.{with_page-inside, with_page-outside}
 use Rattle.page_tables.proofs.SlotLemmas.{owner-same}
@@ -175,12 +175,14 @@ module _ (old : PageTables) (sides : Sides) (st : TablesStandFor old sides) (pag
 
   -- each page that may be stored to, behind the touch
   pub known-touches : (from to : ℕ) → OnOk result (IsTouched (page % 512) from to slot.cell view) → (new : PageTables) → new.directory ≡ old.directory → new.snapshot ≡ old.snapshot → new.slots.items ≡ new_slots
-      → FollowsTouch (page_touched page) (pages_with page) page 1 new deals refused sides
+      → FollowsTouch page new deals refused sides
   unfolding known-follows
   known-touches from to touched new same alike set = record {
     follows = known-follows new same alike set;
-    ready = λ granted q low high. let here : q ≡ page = omega arith in subst (IsReady leaves) (sym here) (ready-as result refl granted);
+    ready = ready-as result refl;
     still = still-as result refl;
+    found = λ granted q. found-with_cell sides.leaves c end.cell used q;
+    size = λ granted. length-with_cell sides.leaves c end.cell used st.kept.sorted;
   }
     where
       ready-as : (r : Result (Unit {0}) Refused) → result ≡ r → page_refusal page result ≡ None → IsReady leaves page

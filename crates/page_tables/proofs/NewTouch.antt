@@ -32,7 +32,7 @@ use Rattle.page_tables.specs.Accesses.{IsReady}
 use Rattle.page_tables.specs.Making.{page_refusal, pages_with, Follows, FollowsTouch}
 use Rattle.page_tables.proofs.TouchRuns.{touch-runs}
 use Rattle.page_tables.proofs.TouchShapes.{IsTouchCourse, EndsTouch, touch-course, touch-size, touch-unjoined, touch-numbers, page-there}
-use Rattle.page_tables.proofs.LeafMap.{cell_at-here, cell_at-apart}
+use Rattle.page_tables.proofs.LeafMap.{found-with_cell, length-with_cell, cell_at-here, cell_at-apart}
 use Rattle.page_tables.proofs.PageMaps.{with_page-inside, with_page-outside}
 use Rattle.page_tables.proofs.SlotLemmas.{slice_get-set-here, stands-later}
 use Rattle.page_tables.proofs.Acting.{tables-acted, owner-kept}
@@ -175,14 +175,14 @@ module _ (old : PageTables) (sides : Sides) (st : TablesStandFor old sides) (pag
       }
 
       pub granted-touches : (from to : ℕ) → IsTouched p from to slot.cell view → (new : PageTables) → new.directory ≡ insert old.directory c s → new.snapshot ≡ old.snapshot → new.slots.items ≡ new_slots
-          → FollowsTouch (page_touched page) (pages_with page) page 1 new (deals_behind wants deals None) None sides
+          → FollowsTouch page new (deals_behind wants deals None) None sides
       unfolding granted-follows
       granted-touches from to touched new directory alike set = record {
         follows = granted-follows new directory alike set;
-        ready = λ granted q low high.
-            let here : q ≡ page = omega arith in
-            subst (IsReady leaves) (sym here) (touched-ready sides.leaves page slot.cell view account (record { state = state; made = end.requests.made }) stood takes.stands (st.each.leaves c) used from to touched);
+        ready = λ granted. touched-ready sides.leaves page slot.cell view account (record { state = state; made = end.requests.made }) stood takes.stands (st.each.leaves c) used from to touched;
         still = touched-still sides.leaves page slot.cell view account (record { state = state; made = end.requests.made }) stood takes.stands (st.each.leaves c) used from to touched;
+        found = λ granted q. found-with_cell sides.leaves c end.cell used q;
+        size = λ granted. length-with_cell sides.leaves c end.cell used st.kept.sorted;
       }
 
     -- the page was refused
@@ -208,12 +208,14 @@ module _ (old : PageTables) (sides : Sides) (st : TablesStandFor old sides) (pag
       }
 
       pub refused-touches : (new : PageTables) → new.directory ≡ old.directory → new.snapshot ≡ old.snapshot → new.slots.items ≡ old.slots.items
-          → FollowsTouch (page_touched page) (pages_with page) page 1 new (deals_behind wants deals (Some at)) (refusal_at page (Some at)) sides
+          → FollowsTouch page new (deals_behind wants deals (Some at)) (refusal_at page (Some at)) sides
       unfolding refused-follows
       refused-touches new directory alike set = record {
         follows = refused-follows new directory alike set;
         ready = λ granted. absurd (false≢true (ap is_some (sym granted)));
         still = λ q ready. subst (λ cells. IsReady cells q) same_leaves ready;
+        found = λ granted. absurd (false≢true (ap is_some (sym granted)));
+        size = λ granted. absurd (false≢true (ap is_some (sym granted)));
       }
 
   -- a table was refused
@@ -227,12 +229,14 @@ module _ (old : PageTables) (sides : Sides) (st : TablesStandFor old sides) (pag
   }
 
   pub lacking-touches : (front : List Want) (want : Want) (more : List Want) → wants ≡ front ++ want ∷ more → (at : ℕ)
-      → FollowsTouch (page_touched page) (pages_with page) page 1 old (deals_up_to front want at) (refusal_at page (Some at)) sides
+      → FollowsTouch page old (deals_up_to front want at) (refusal_at page (Some at)) sides
   unfolding lacking-follows
   lacking-touches front want more order at = record {
     follows = lacking-follows front want more order at;
     ready = λ granted. absurd (false≢true (ap is_some (sym granted)));
     still = λ q ready. ready;
+    found = λ granted. absurd (false≢true (ap is_some (sym granted)));
+    size = λ granted. absurd (false≢true (ap is_some (sym granted)));
   }
 
 -- a cell that was added and is taken out again leaves the directory as it was

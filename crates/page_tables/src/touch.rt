@@ -3,12 +3,11 @@ ghost use Rattle.std.specs.Prelude.{◌≡◌, ◌+◌, ◌≤◌, ◌<◌, ◌^
 ghost use Rattle.std.specs.FinMap.{get};
 ghost use Rattle.vm_base.specs.Counts.{next_count};
 ghost use Rattle.vm_base.specs.Places.{cell_of};
-ghost use Rattle.kernel_meaning.specs.EventRequests.{page_touched};
 ghost use Rattle.kernel_meaning.specs.FrameLaw.{lacks_slots};
 ghost use Rattle.page_tables.specs.Sides.{Sides};
 ghost use Rattle.page_tables.specs.Standing.{TablesStandFor, HasSlotFor, IsSlotOf, IsSlotChosen, slot_count};
 ghost use Rattle.page_tables.specs.Held.{frames_of};
-ghost use Rattle.page_tables.specs.Making.{MadeTouch, page_refusal, pages_with};
+ghost use Rattle.page_tables.specs.Making.{MadeTouch, page_refusal};
 
 use crate::slot::Slot;
 use crate::tables::PageTables;
@@ -26,7 +25,7 @@ impl PageTables {
         requires stands { (sides : Sides) × (TablesStandFor self.old sides × (lacks_slots (slot_count self.old) sides.leaves (cell_of page ∷ []) ≡ false)) }
         requires lent { frames_of self.old ≤ A.out (A.state allot.old) }
         requires untold { A.grants allot.old ≡ None }
-        ensures made { MadeTouch A.goes (A.state allot.old) (A.state allot.new) (page_touched page) (pages_with page) page 1 self.old self.new (page_refusal page result) }
+        ensures made { MadeTouch A.goes (A.state allot.old) (A.state allot.new) page self.old self.new (page_refusal page result) }
         ensures held { A.out (A.state allot.new) + frames_of self.old ≡ A.out (A.state allot.old) + frames_of self.new }
         ensures untold { A.grants allot.new ≡ None }
         ensures counted { IfErr result (λ e. (A.refused (A.state allot.new) ≡ next_count (A.refused (A.state allot.old))) × (e.at ≡ A.refused (A.state allot.new))) }
@@ -49,7 +48,7 @@ impl PageTables {
         requires stands { (sides : Sides) × TablesStandFor self.old sides }
         requires lent { frames_of self.old ≤ A.out (A.state allot.old) }
         requires untold { A.grants allot.old ≡ None }
-        ensures made { MadeTouch A.goes (A.state allot.old) (A.state allot.new) (page_touched page) (pages_with page) page 1 self.old self.new (page_refusal page result) }
+        ensures made { MadeTouch A.goes (A.state allot.old) (A.state allot.new) page self.old self.new (page_refusal page result) }
         ensures held { A.out (A.state allot.new) + frames_of self.old ≡ A.out (A.state allot.old) + frames_of self.new }
         ensures untold { A.grants allot.new ≡ None }
         ensures counted { IfErr result (λ e. (A.refused (A.state allot.new) ≡ next_count (A.refused (A.state allot.old))) × (e.at ≡ A.refused (A.state allot.new))) }
@@ -66,7 +65,7 @@ impl PageTables {
         requires stands { (sides : Sides) × (TablesStandFor self.old sides × HasSlotFor self.old sides.leaves (cell_of page) slot) }
         requires lent { frames_of self.old ≤ A.out (A.state allot.old) }
         requires untold { A.grants allot.old ≡ None }
-        ensures made { MadeTouch A.goes (A.state allot.old) (A.state allot.new) (page_touched page) (pages_with page) page 1 self.old self.new (page_refusal page result) }
+        ensures made { MadeTouch A.goes (A.state allot.old) (A.state allot.new) page self.old self.new (page_refusal page result) }
         ensures held { A.out (A.state allot.new) + frames_of self.old ≡ A.out (A.state allot.old) + frames_of self.new }
         ensures untold { A.grants allot.new ≡ None }
         ensures counted { IfErr result (λ e. (A.refused (A.state allot.new) ≡ next_count (A.refused (A.state allot.old))) × (e.at ≡ A.refused (A.state allot.new))) }

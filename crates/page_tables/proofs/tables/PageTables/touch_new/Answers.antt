@@ -18,8 +18,7 @@ use Rattle.page_tables.specs.declared.tables.PageTables.{PageTables}
 use Rattle.page_tables.specs.Sides.{Sides}
 use Rattle.page_tables.specs.Standing.{TablesStandFor, IsSlotFor}
 use Rattle.page_tables.specs.Held.{frames_in, snapshot_frames}
-use Rattle.kernel_meaning.specs.EventRequests.{page_touched}
-use Rattle.page_tables.specs.Making.{FollowsTouch, pages_with}
+use Rattle.page_tables.specs.Making.{FollowsTouch}
 use Rattle.page_tables.proofs.Room.{room-left, fits-again}
 use Rattle.page_tables.proofs.Rows.{deals_behind, deals_up_to}
 use Rattle.page_tables.proofs.NewTouch.{granted-touches, refused-touches, lacking-touches, added-removed, account, stood}
@@ -42,7 +41,7 @@ returns-in-Err-clause-made g c =
       deals = deals_up_to refuses.front refuses.want c.in-Err.refused.at;
       led = refuses.deals;
       follows = λ sides st.
-          subst (λ d. FollowsTouch (page_touched c.args.page) (pages_with c.args.page) c.args.page 1 (record { directory = d; snapshot = old.snapshot; slots = old.slots }) (deals_up_to refuses.front refuses.want c.in-Err.refused.at) (Some (record { at = c.in-Err.refused.at; page = Some c.args.page })) sides)
+          subst (λ d. FollowsTouch c.args.page (record { directory = d; snapshot = old.snapshot; slots = old.slots }) (deals_up_to refuses.front refuses.want c.in-Err.refused.at) (Some (record { at = c.in-Err.refused.at; page = Some c.args.page })) sides)
               (sym c.in-Err.ensures.kept)
               (lacking-touches old sides st c.args.page c.args.slot home.slot c.requires.new home.here (fits-again old.directory old.snapshot old.slots.items c.requires.stands.0 sides c.requires.stands.1.0 st (cell_of c.args.page) home.slot.owner home.fits)
                   refuses.front refuses.want refuses.rest refuses.order c.in-Err.refused.at);
