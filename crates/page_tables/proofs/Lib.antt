@@ -18,3 +18,5 @@ pub mod NewTouch
 pub mod SlotChoice
 pub mod Opening
 pub mod Readiness
+pub mod Presence
+pub mod TakenBack

@@ -4,3 +4,5 @@ pub mod Standing
 pub mod Held
 pub mod Accesses
 pub mod Making
+pub mod Clearing
+pub mod Ranges

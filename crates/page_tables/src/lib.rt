@@ -9,6 +9,8 @@
 
 mod access;
 mod pieces;
+mod clear;
+mod range;
 mod slot;
 mod tables;
 mod touch;
