@@ -20,3 +20,4 @@ pub mod Opening
 pub mod Readiness
 pub mod Presence
 pub mod TakenBack
+pub mod WithoutPages

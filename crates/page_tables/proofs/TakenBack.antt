@@ -1,6 +1,6 @@
 -- Pages that were added are taken out again, one after another.
-use Rattle.std.proofs.Common.{◌≡◌, ℕ, ◌+◌, ◌-◌, ◌*◌, ◌/◌, ◌%◌, ◌≤◌, ◌<◌, List, [], ◌∷◌, ◌++◌, length, take, drop, Option, Some, None, refl, sym, ◌∙◌, ap, subst, arith}
-use Rattle.std.specs.Prelude.{is_some, IsSome, replicate, zero, suc, true}
+use Rattle.std.proofs.Common.{◌≡◌, ℕ, ◌+◌, ◌-◌, ◌*◌, ◌/◌, ◌%◌, ◌≤◌, ◌<◌, List, [], ◌∷◌, ◌++◌, length, take, drop, drop-cons, Option, Some, None, refl, sym, ◌∙◌, ap, subst, arith}
+use Rattle.std.specs.Prelude.{is_some, IsSome, replicate, slice_index_or, zero, suc, true}
 use Rattle.vm_base.specs.Deals.{LeadsAlong, Deal, Returned}
 use Rattle.vm_base.specs.Places.{cell_of}
 use Rattle.vm_base.proofs.DealLemmas.{LeadsAlong-append}
@@ -78,3 +78,11 @@ none-taken goes refused out from left old sides st there = record {
 -- a page that is there is one of a range of one
 pub there-present : (leaves : Leaves) (page : ℕ) → IsSome (page_version leaves page) → has_present (cell_at leaves (cell_of page)).parent (page % 512) 1 ≡ true
 there-present leaves page there = one-present (cell_at leaves (cell_of page)).parent (page % 512) ∙ there
+
+pub take-one-more : (xs : List ℕ) (i : ℕ) → i < length xs → take (i + 1) xs ≡ take i xs ++ slice_index_or xs i 0 ∷ []
+take-one-more [] i small = absurd (omega arith)
+take-one-more (x ∷ xs) zero small = refl
+take-one-more (x ∷ xs) (suc i) small = ap (λ n. take n (x ∷ xs)) (let e : suc i + 1 ≡ suc (i + 1) = omega arith in e) ∙ ap (λ ys. x ∷ ys) (take-one-more xs i (omega arith))
+
+pub drop-one-more : (xs : List ℕ) (i : ℕ) → i < length xs → drop i xs ≡ slice_index_or xs i 0 ∷ drop (i + 1) xs
+drop-one-more xs i small = drop-cons xs i 0 small ∙ ap (λ n. slice_index_or xs i 0 ∷ drop n xs) (let e : suc i ≡ i + 1 = omega arith in e)
