@@ -21,3 +21,5 @@ pub mod Readiness
 pub mod Presence
 pub mod TakenBack
 pub mod WithoutPages
+pub mod RangeRoom
+pub mod RangeSteps
