@@ -23,3 +23,4 @@ pub mod TakenBack
 pub mod WithoutPages
 pub mod RangeRoom
 pub mod RangeSteps
+pub mod HeldFrames
