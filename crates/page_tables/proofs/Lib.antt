@@ -24,3 +24,4 @@ pub mod WithoutPages
 pub mod RangeRoom
 pub mod RangeSteps
 pub mod HeldFrames
+pub mod RangeEnds
