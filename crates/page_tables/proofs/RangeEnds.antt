@@ -6,6 +6,7 @@ use Rattle.std.specs.List.{range_with_len, list_any}
 use Rattle.std.specs.FinMap.{get, retain_keys, get-retain_keys, nat_cmp-IsAntisymmetric}
 use Rattle.std.proofs.lemmas.Bool.{cases_eq, cases_Bool, cases_lt, cond-true, cond-false, eq-eqb, ne_eqb, false≢true}
 use Rattle.std.proofs.lemmas.Bool.Decides.{nat_tests}
+use Rattle.std.proofs.lemmas.List.FromFn.{length-range_with_len}
 use Rattle.vm_base.specs.Places.{cell_of}
 use Rattle.vm_base.specs.Deals.{Deal, Returned}
 use Rattle.vm_base.specs.FlatMemory.{PageMap}
@@ -21,12 +22,12 @@ use Rattle.page_tables.specs.declared.tables.PageTables.{PageTables}
 use Rattle.page_tables.specs.Sides.{Sides}
 use Rattle.page_tables.specs.Courses.{requests_between, progress_between}
 use Rattle.page_tables.specs.Standing.{TablesStandFor}
-use Rattle.page_tables.specs.Held.{frames_in, snapshot_frames, frames_of}
+use Rattle.page_tables.specs.Held.{frames_in, shares_in, snapshot_frames, frames_of}
 use Rattle.page_tables.specs.Accesses.{IsReady}
 use Rattle.page_tables.specs.Clearing.{sides_without}
 use Rattle.page_tables.specs.Making.{FollowsTouch}
 use Rattle.page_tables.specs.Ranges.{absent_pages, IsTouchedUpTo, FollowsRange, pages_with_range, sides_without_pages, AreThere}
-use Rattle.page_tables.proofs.HeldFrames.{frames-law, shares_in}
+use Rattle.page_tables.proofs.HeldFrames.{frames-law}
 use Rattle.page_tables.proofs.PageMaps.{present_or_zeros, with_page-apart, with_page-here}
 use Rattle.page_tables.proofs.RangeRoom.{among-range}
 use Rattle.page_tables.proofs.RangeSteps.{sides_then, before-page, get-with_pages_above}
@@ -180,6 +181,20 @@ added-below pages first i n added new few fits = λ k d small.
     let within : (first ≤ slice_index_or added k d) × (slice_index_or added k d < first + i) = added-within pages first i added new (slice_index_or added k d) (at-among added k d small) in
     let high : slice_index_or added k d < first + i = within.1 in
     omega (arith, high, few, fits)
+
+filter-fewer : (test : ℕ → Bool) (xs : List ℕ) → length (filter test xs) ≤ length xs
+filter-fewer test [] = omega arith
+filter-fewer test (x ∷ xs) =
+    let rest : length (filter test xs) ≤ length xs = filter-fewer test xs in
+    elim (test x) as (λ b. length (cond b (x ∷ filter test xs) (filter test xs)) ≤ length (x ∷ xs)) [ true ↦ omega arith | false ↦ omega arith ]
+
+-- no more were added than were touched
+pub few-absent : (pages : PageMap) (first i : ℕ) (added : List ℕ) → added ≡ absent_pages pages first i → length added ≤ i
+few-absent pages first i added new =
+    let some : length added ≡ length (absent_pages pages first i) = ap length new in
+    let few : length (absent_pages pages first i) ≤ length (range_with_len first i) = filter-fewer (λ page. not (is_some (get pages page))) (range_with_len first i) in
+    let whole : length (range_with_len first i) ≡ i = length-range_with_len first i in
+    omega (arith, some, few, whole)
 
 -- ---- the end of a refused range
 

@@ -9,7 +9,7 @@ ghost use Rattle.page_tables.specs.Clearing.{sides_without, cell_unmapped};
 ghost use Rattle.page_tables.specs.Courses.{Runs};
 ghost use Rattle.page_tables.specs.Sides.{Sides};
 ghost use Rattle.page_tables.specs.Standing.{TablesStandFor, slot_count};
-ghost use Rattle.page_tables.specs.Held.{frames_of};
+ghost use Rattle.page_tables.specs.Held.{frames_of, frames_in, shares_in};
 
 use crate::tables::PageTables;
 use vm_base::Allot;
@@ -41,6 +41,10 @@ impl PageTables {
         ensures untold { A.grants allot.new ≡ None }
         ensures slots { slot_count self.new ≡ slot_count self.old }
         ensures unrefused { A.refused (A.state allot.new) ≡ A.refused (A.state allot.old) }
+
+        // What the cells hold fell by as much as their shares.
+        ensures even { frames_in self.old.slots.items + shares_in self.new.slots.items ≡ shares_in self.old.slots.items + frames_in self.new.slots.items }
+        ensures snapshot { self.new.snapshot ≡ self.old.snapshot }
     {
         unreachable!("stub")
     }
