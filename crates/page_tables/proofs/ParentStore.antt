@@ -19,7 +19,7 @@ use Rattle.leaf_cell.specs.CellView.{CellView, AreUnjoined}
 use Rattle.leaf_cell.specs.Renaming.{AreKeptAlike, IsNamedBy, IsLive, IsRenaming}
 use Rattle.leaf_cell.specs.Standing.{StandsFor, TakesAccount}
 use Rattle.leaf_cell.specs.Touching.{IsAlone}
-use Rattle.leaf_cell.proofs.Renamed.{version_at-renamed}
+use Rattle.leaf_cell.proofs.SameReads.{alone-stands}
 use Rattle.page_tables.specs.declared.slot.Slot.{Slot}
 use Rattle.page_tables.specs.declared.tables.PageTables.{PageTables}
 use Rattle.page_tables.specs.Sides.{Sides}
@@ -97,38 +97,6 @@ with_cell-same leaves c kept used =
       | inr apart ↦ cond-false (eqb q c) _ _ (ne_eqb q c apart)
     ]
 
--- a name of the page that a leaf of the cell has is that of a version that a leaf of the account has
-named-back : (name : ℕ → ℕ → ℕ) (page place : ℕ) (view meant : List Kept) → AreKeptAlike name view meant → IsNamedBy page place view → (version : ℕ) × (IsNamedBy page version meant × (name page version ≡ place))
-named-back name page place [] meant alike named = absurd named
-named-back name page place (it ∷ others) [] alike named = absurd alike
-named-back name page place (it ∷ others) (meant ∷ rest) alike (inl there) =
-    let unlost : is_lost meant.leaf ≡ false = sym (ap is_lost alike.0.leaf) ∙ there.0 in
-    let same : option_map (name page) (version_at meant.versions page) ≡ Some place =
-        sym (version_at-renamed name meant.versions page) ∙ ap (λ vs. version_at vs page) (sym (alike.0.versions unlost)) ∙ there.1 in
-    elim (version_at meant.versions page) as (λ o. version_at meant.versions page ≡ o → option_map (name page) o ≡ Some place → (version : ℕ) × (IsNamedBy page version (meant ∷ rest) × (name page version ≡ place))) [
-      | None ↦ λ e s. absurd (false≢true (ap is_some s))
-      | Some version ↦ λ e s. (version, (inl (unlost, e), ap (λ o. unwrap_or o place) s))
-    ] refl same
-named-back name page place (it ∷ others) (meant ∷ rest) alike (inr named) =
-    let back : (version : ℕ) × (IsNamedBy page version rest × (name page version ≡ place)) = named-back name page place others rest alike.1 named in
-    (back.0, (inr back.1.0, back.1.1))
-
--- a page that is the parent's alone in the account is so in the cell
-pub alone-view : (view : CellView) (account : CellAccount) → StandsFor view account → (page : ℕ) → IsAlone account.state.leaves page → IsAlone view.leaves page
-alone-view view account stands page alone = record {
-  present = ap is_some (is_renamed ∙ ap (option_map (stands.name page)) old.1);
-  unnamed = λ place there named.
-      let back : (version : ℕ) × (IsNamedBy page version account.state.leaves.kept × (stands.name page version ≡ place)) = named-back stands.name page place view.leaves.kept account.state.leaves.kept stands.leaves.kept named in
-      let here : stands.name page old.0 ≡ place = ap (λ o. unwrap_or o place) (sym (is_renamed ∙ ap (option_map (stands.name page)) old.1) ∙ there) in
-      let same : old.0 ≡ back.0 = stands.leaves.apart page old.0 back.0 (inl old.1) (inr back.1.0) (here ∙ sym back.1.1) in
-      alone.unnamed back.0 (old.1 ∙ ap Some same) back.1.0;
-}
-  where
-    is_renamed : version_at view.leaves.parent page ≡ option_map (stands.name page) (version_at account.state.leaves.parent page)
-    is_renamed = ap (λ vs. version_at vs page) stands.leaves.parent ∙ version_at-renamed stands.name account.state.leaves.parent page
-    old : (version : ℕ) × (version_at account.state.leaves.parent page ≡ Some version)
-    old = elim (version_at account.state.leaves.parent page) as (λ o. IsSome o → (version : ℕ) × (o ≡ Some version)) [ | Some version ↦ λ h. (version, refl) | None ↦ λ h. absurd (false≢true h) ] alone.present
-
 module _ (old : PageTables) (sides : Sides) (st : TablesStandFor old sides) (addr s : ℕ) (bytes : List ℕ) (slot : Slot)
     (known : get old.directory (cell_of (page_of addr)) ≡ Some s) (here : slice_get old.slots.items s ≡ Some slot) where
   abbrev c : ℕ
@@ -142,7 +110,7 @@ module _ (old : PageTables) (sides : Sides) (st : TablesStandFor old sides) (add
 
   -- the cell may be stored to where the page is ready
   pub ready-view : IsReady sides.leaves (page_of addr) → IsAlone slot.cell.leaves (page_of addr % 512)
-  ready-view ready = alone-view slot.cell (account_at old.directory old.snapshot old.slots.items sides st c) stood p (subst (λ cell. IsAlone cell p) (sym (st.each.leaves c)) ready)
+  ready-view ready = alone-stands slot.cell (account_at old.directory old.snapshot old.slots.items sides st c) stood p (subst (λ cell. IsAlone cell p) (sym (st.each.leaves c)) ready)
 
   module _ (view : CellView) (room : offset_of addr + length bytes ≤ 4096)
       (stored : (account : CellAccount) → StandsFor slot.cell account → TakesAccount (Store (page_of addr % 512) (offset_of addr) bytes) slot.cell view [] None account) where
