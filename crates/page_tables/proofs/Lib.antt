@@ -17,3 +17,7 @@ pub mod Rows
 pub mod NewTouch
 pub mod SlotChoice
 pub mod Opening
+pub mod RangeLosses
+pub mod LossAt
+pub mod SnapshotPages
+pub mod SnapshotPieces
