@@ -14,10 +14,10 @@ returns-in-None c = record {
       let last : cell_of (page_of (c.args.addr + length c.args.buf.now - 1)) ≡ cell_of (page_of c.args.addr) = omega arith in
       record {
         unlost = one-cell (losses_of sides.leaves) c.args.number c.args.addr (length c.args.buf.now) c.requires.some last
-            ∙ unlost-lacking c.args.self.now.directory c.args.self.now.snapshot c.args.self.now.slots.items sides st (cell_of (page_of c.args.addr)) c.args.number none;
+            ∙ unlost-lacking c.args.self.now sides st (cell_of (page_of c.args.addr)) c.args.number none;
         read = λ pages lives. c.fill.ensures.after (λ y h. h) ∙ bytes_at-nothing pages c.args.addr (length c.args.buf.now) (λ k small.
             let same : cell_of (page_of c.args.addr) ≡ cell_of (page_of (c.args.addr + k)) = omega arith in
-            snapshot-lacking c.args.self.now.directory c.args.self.now.snapshot c.args.self.now.slots.items sides st c.args.number (page_of (c.args.addr + k)) pages
+            snapshot-lacking c.args.self.now sides st c.args.number (page_of (c.args.addr + k)) pages
                 (subst (λ q. slot_in c.args.self.now.snapshot q ≡ None) same none) lives);
         lost = tt;
       };

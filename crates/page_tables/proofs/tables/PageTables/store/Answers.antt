@@ -1,5 +1,5 @@
 -- A piece is stored where the bytes so far end.
-use Rattle.std.proofs.Common.{◌≡◌, ◌+◌, ◌*◌, ◌<◌, ◌≤◌, length, take, ap, subst, ◌∙◌, arith}
+use Rattle.std.proofs.Common.{◌+◌, ◌*◌, ◌<◌, ◌≤◌, length, take, subst, ◌∙◌, arith}
 use Rattle.std.proofs.lemmas.List.{take_all}
 use Rattle.vm_base.specs.Places.{page_of}
 use Rattle.vm_base.specs.FlatStep.{with_bytes}
