@@ -21,3 +21,7 @@ pub mod RangeLosses
 pub mod LossAt
 pub mod SnapshotPages
 pub mod SnapshotPieces
+pub mod Readiness
+pub mod Presence
+pub mod TakenBack
+pub mod WithoutPages

@@ -25,7 +25,7 @@ use Rattle.page_tables.specs.Sides.{Sides}
 use Rattle.page_tables.specs.Standing.{StandFor, TablesStandFor, AreKept}
 use Rattle.page_tables.specs.Accesses.{IsReady}
 use Rattle.page_tables.proofs.LeafMap.{with_cell-put, same_number, used-found}
-use Rattle.page_tables.proofs.KnownTouch.{owner-same}
+use Rattle.page_tables.proofs.SlotLemmas.{owner-same}
 use Rattle.page_tables.proofs.Acting.{tables-acted}
 use Rattle.page_tables.proofs.ParentPages.{account_at, slot-stands, owned-here}
 
@@ -95,6 +95,10 @@ with_cell-same leaves c kept used =
       | inr apart ↦ cond-false (eqb q c) _ _ (ne_eqb q c apart)
     ]
 
+-- a page that is the parent's alone in the account is so in the cell
+pub alone-view : (view : CellView) (account : CellAccount) → StandsFor view account → (page : ℕ) → IsAlone account.state.leaves page → IsAlone view.leaves page
+alone-view view account stands page alone = alone-stands view account stands page alone
+
 module _ (old : PageTables) (sides : Sides) (st : TablesStandFor old sides) (addr s : ℕ) (bytes : List ℕ) (slot : Slot)
     (known : get old.directory (cell_of (page_of addr)) ≡ Some s) (read : slot ≡ slice_index_or old.slots.items s slot) (page at : ℕ) (page_is : page ≡ page_of addr % 512) (at_is : at ≡ offset_of addr) where
   abbrev c : ℕ
@@ -106,12 +110,12 @@ module _ (old : PageTables) (sides : Sides) (st : TablesStandFor old sides) (add
   here : slice_get old.slots.items s ≡ Some slot
   here = owned-here old.slots.items s c slot (st.named c s known) read
 
-  stood : StandsFor slot.cell (account_at old sides st c)
-  stood = slot-stands old sides st c s slot here (st.named c s known)
+  stood : StandsFor slot.cell (account_at old.directory old.snapshot old.slots.items sides st c)
+  stood = slot-stands old.directory old.snapshot old.slots.items sides st c s slot here (st.named c s known)
 
   -- the cell may be stored to where the page is ready
   pub ready-view : IsReady sides.leaves (page_of addr) → IsAlone slot.cell.leaves page
-  ready-view ready = subst (IsAlone slot.cell.leaves) (sym page_is) (alone-stands slot.cell (account_at old sides st c) stood p (subst (λ cell. IsAlone cell p) (sym (st.each.leaves c)) ready))
+  ready-view ready = subst (IsAlone slot.cell.leaves) (sym page_is) (alone-stands slot.cell (account_at old.directory old.snapshot old.slots.items sides st c) stood p (subst (λ cell. IsAlone cell p) (sym (st.each.leaves c)) ready))
 
   module _ (view : CellView) (room : offset_of addr + length bytes ≤ 4096)
       (stored : (account : CellAccount) → StandsFor slot.cell account → TakesAccount (Store page at bytes) slot.cell view [] None account) where
@@ -156,7 +160,7 @@ module _ (old : PageTables) (sides : Sides) (st : TablesStandFor old sides) (add
         (ap is_used (st.each.leaves c) ∙ used)
         (ap (λ cell. length cell.parent) (st.each.leaves c) ∙ st.kept.sizes c)
         (subst (λ cell. AreUnjoined cell.kept) (sym (st.each.leaves c)) (st.kept.unjoined c))
-        (subst (λ q. StandsFor view (stored_account q (offset_of addr))) page_is (subst (λ i. StandsFor view (stored_account page i)) at_is (stored (account_at old sides st c) stood).stands))
+        (subst (λ q. StandsFor view (stored_account q (offset_of addr))) page_is (subst (λ i. StandsFor view (stored_account page i)) at_is (stored (account_at old.directory old.snapshot old.slots.items sides st c) stood).stands))
         (with_bytes sides.pages addr bytes) inside outside refl
         (ap (λ cell. map (λ it. it.number) cell.kept) (st.each.leaves c)) old.directory
         (λ q. st.parent q ∙ ap (λ leaves. has_pages (cell_at leaves q).parent) (sym same_leaves))

@@ -142,10 +142,10 @@ module _ (tables : PageTables) (sides : Sides) (st : TablesStandFor tables sides
   c = cell_of (page_of addr)
 
   abbrev account : CellAccount
-  account = account_at tables sides st c
+  account = account_at tables.directory tables.snapshot tables.slots.items sides st c
 
-  stood : StandsFor slot.cell (account_at tables sides st c)
-  stood = slot-stands tables sides st c s slot (owned-here tables.slots.items s c slot (st.snapshot_of.named c s there) here) (st.snapshot_of.named c s there)
+  stood : StandsFor slot.cell (account_at tables.directory tables.snapshot tables.slots.items sides st c)
+  stood = slot-stands tables.directory tables.snapshot tables.slots.items sides st c s slot (owned-here tables.slots.items s c slot (st.snapshot_of.named c s there) here) (st.snapshot_of.named c s there)
 
   -- what the list of losses has of the range
   range_loss : lost_in_range sides.leaves n addr size ≡ loss_in (st.cells c).leaves.kept n

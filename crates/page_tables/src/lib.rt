@@ -8,7 +8,9 @@
 #![tactic(auto)]
 
 mod access;
+mod clear;
 mod pieces;
+mod range;
 mod slot;
 mod tables;
 mod touch;
