@@ -25,3 +25,6 @@ pub mod Readiness
 pub mod Presence
 pub mod TakenBack
 pub mod WithoutPages
+pub mod RangeRoom
+pub mod RangeSteps
+pub mod HeldFrames
