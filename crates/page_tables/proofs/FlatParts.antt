@@ -1,11 +1,11 @@
 -- The bytes of a range within one page.
-use Rattle.std.proofs.Common.{◌≡◌, ℕ, ◌+◌, ◌/◌, ◌%◌, ◌<◌, ◌≤◌, List, [], length, map, take, drop, get_or, replicate, Option, Some, None, refl, sym, ◌∙◌, ap, arith}
+use Rattle.std.proofs.Common.{◌≡◌, ℕ, ◌+◌, ◌/◌, ◌%◌, ◌<◌, ◌≤◌, List, [], length, drop, get_or, Option, Some, None, refl, sym, ◌∙◌, ap, arith}
 use Rattle.std.specs.Prelude.{unwrap_or}
 use Rattle.std.specs.FinMap.{get}
 use Rattle.std.proofs.lemmas.List.{same_lists, get_or-take, get_or-drop, get_or-replicate, get_or_default}
 use Rattle.std.proofs.lemmas.List.FromFn.{get_or-map-range_with_len}
 use Rattle.vm_base.specs.Places.{page_of, offset_of}
-use Rattle.vm_base.specs.FlatMemory.{PageMap, byte_at, bytes_at, zero_page}
+use Rattle.vm_base.specs.FlatMemory.{PageMap, byte_at, bytes_at}
 use Rattle.vm_base.proofs.FlatBytes.{length-bytes_at}
 use Rattle.leaf_cell.specs.CellView.{page_or_zeros, part_of}
 

@@ -17,6 +17,10 @@ pub mod Rows
 pub mod NewTouch
 pub mod SlotChoice
 pub mod Opening
+pub mod RangeLosses
+pub mod LossAt
+pub mod SnapshotPages
+pub mod SnapshotPieces
 pub mod Readiness
 pub mod Presence
 pub mod TakenBack

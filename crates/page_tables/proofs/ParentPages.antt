@@ -1,25 +1,28 @@
 -- What the two sides have where the directory has a cell, and where it lacks one.
-use Rattle.std.proofs.Common.{◌≡◌, ℕ, ◌+◌, ◌*◌, ◌/◌, ◌%◌, ◌<◌, List, Option, Some, None, refl, sym, ◌∙◌, ap, subst, arith, inl, inr}
-use Rattle.std.specs.Prelude.{Bool, true, false, is_some, IsSome}
+use Rattle.std.proofs.Common.{◌≡◌, ℕ, ◌+◌, ◌*◌, ◌/◌, ◌%◌, ◌<◌, ◌≤◌, List, length, Option, Some, None, refl, sym, ◌∙◌, ap, subst, arith, inl, inr}
+use Rattle.std.specs.Prelude.{false, is_some, slice_index_or}
 use Rattle.std.specs.Ordering.{nat_cmp}
 use Rattle.std.specs.Option.{option_and_then, option_map}
 use Rattle.std.specs.List.{slice_get}
 use Rattle.std.specs.FinMap.{get, find, get-empty}
 use Rattle.std.proofs.lemmas.Bool.{cases_Bool, false≢true}
-use Rattle.vm_base.specs.Places.{cell_of}
+use Rattle.vm_base.specs.Places.{page_of, offset_of, cell_of}
+use Rattle.vm_base.specs.FlatMemory.{bytes_at}
 use Rattle.kernel_meaning.specs.Leaves.{CellLeaves, version_at, has_pages}
 use Rattle.kernel_meaning.specs.FrameLaw.{cell_at}
 use Rattle.kernel_meaning.specs.CellAccount.{CellAccount}
-use Rattle.leaf_cell.specs.CellView.{bytes_in}
+use Rattle.leaf_cell.specs.CellView.{bytes_in, part_of}
 use Rattle.leaf_cell.specs.Standing.{StandsFor}
 use Rattle.leaf_cell.proofs.Renamed.{version_at-renamed}
 use Rattle.table_levels.specs.Cells.{CellMap}
 use Rattle.page_tables.specs.declared.slot.Slot.{Slot}
 use Rattle.page_tables.specs.declared.tables.SnapshotTables.{SnapshotTables}
+use Rattle.page_tables.specs.declared.tables.PageTables.{PageTables}
 use Rattle.page_tables.specs.Sides.{Sides}
-use Rattle.page_tables.specs.Standing.{owner_at, state_in, StandFor}
+use Rattle.page_tables.specs.Standing.{owner_at, state_in, StandFor, TablesStandFor}
+use Rattle.page_tables.proofs.FlatParts.{bytes_at-part}
 use Rattle.page_tables.proofs.TouchShapes.{page-there}
-use Rattle.page_tables.proofs.OwnedSlots.{owned-slot}
+use Rattle.page_tables.proofs.OwnedSlots.{owned-slot, owned-within, read-slot}
 
 -- a cell without pages has no version of any
 pub version-absent : (cell : CellLeaves) (page : ℕ) → has_pages cell.parent ≡ false → version_at cell.parent page ≡ None
@@ -27,6 +30,14 @@ version-absent cell page none = elim (version_at cell.parent page) as (λ o. ver
   | None ↦ λ e. refl
   | Some version ↦ λ e. absurd (false≢true (sym none ∙ page-there cell page (ap is_some e)))
 ] refl
+
+-- a slot that a cell has, as it was read
+pub owned-here : (slots : List Slot) (s c : ℕ) (slot : Slot) → owner_at slots s ≡ Some c → slot ≡ slice_index_or slots s slot → slice_get slots s ≡ Some slot
+owned-here slots s c slot owned read = read-slot slots s slot (owned-within slots s c owned) read
+
+-- the slot is one of the slots, as an index needs it
+pub owned-index : (slots : List Slot) (count s c : ℕ) → count ≡ length slots → owner_at slots s ≡ Some c → s < count
+owned-index slots count s c size owned = subst (λ n. s < n) (sym size) (owned-within slots s c owned)
 
 module _ (directory : CellMap) (snapshot : Option SnapshotTables) (slots : List Slot) (sides : Sides) (st : StandFor directory snapshot slots sides) where
   -- the account of a cell
@@ -66,3 +77,18 @@ module _ (directory : CellMap) (snapshot : Option SnapshotTables) (slots : List 
       let low : page % 512 < 512 = omega arith in
       let whole : page / 512 * 512 + page % 512 ≡ page = omega arith in
       st.each.pages (cell_of page) (page % 512) low ∙ ap (get sides.pages) whole
+
+-- a part of a page that the cell of a slot gave
+module _ (tables : PageTables) (sides : Sides) (st : TablesStandFor tables sides) (s addr size : ℕ) (slot : Slot) (known : get tables.directory (cell_of (page_of addr)) ≡ Some s)
+    (here : slot ≡ slice_index_or tables.slots.items s slot) (room : offset_of addr + size ≤ 4096) (bytes : List ℕ) (as_many : length bytes ≡ size)
+    (page at : ℕ) (page_is : page ≡ page_of addr % 512) (at_is : at ≡ offset_of addr)
+    (told : (account : CellAccount) → StandsFor slot.cell account → bytes ≡ part_of (get account.state.pages page) at size) where
+  abbrev c : ℕ
+  c = cell_of (page_of addr)
+
+  part : bytes ≡ part_of (get (st.cells c).pages (page_of addr % 512)) (offset_of addr) size
+  part = told (account_at tables.directory tables.snapshot tables.slots.items sides st c) (slot-stands tables.directory tables.snapshot tables.slots.items sides st c s slot (owned-here tables.slots.items s c slot (st.named c s known) here) (st.named c s known))
+      ∙ ap (λ p. part_of (get (st.cells c).pages p) at size) page_is ∙ ap (λ i. part_of (get (st.cells c).pages (page_of addr % 512)) i size) at_is
+
+  pub parent-read : bytes ≡ bytes_at sides.pages addr size
+  parent-read = part ∙ bytes_at-part sides.pages addr size (get (st.cells c).pages (page_of addr % 512)) (sym (page-known tables.directory tables.snapshot tables.slots.items sides st (page_of addr) s known)) room (sym (ap length part) ∙ as_many)

@@ -1,9 +1,9 @@
 -- The store of bytes within a page of a cell that the directory has.
-use Rattle.std.proofs.Common.{◌≡◌, ◌≢◌, ℕ, zero, suc, ◌+◌, ◌*◌, ◌/◌, ◌%◌, ◌<◌, ◌≤◌, List, [], ◌∷◌, length, map, Option, Some, None, cond, eqb, refl, sym, ◌∙◌, ap, subst, arith, inl, inr, ◌⊎◌}
-use Rattle.std.specs.Prelude.{true, not, ◌||◌, ◌==◌, is_some, IsSome, slice_set, unwrap_or, false}
+use Rattle.std.proofs.Common.{◌≡◌, ◌≢◌, ℕ, ◌+◌, ◌*◌, ◌/◌, ◌%◌, ◌<◌, ◌≤◌, List, [], ◌∷◌, length, map, Some, None, cond, eqb, refl, sym, ◌∙◌, ap, subst, arith, inl, inr}
+use Rattle.std.specs.Prelude.{true, not, ◌||◌, ◌==◌, is_some, IsSome, slice_set, slice_index_or, unwrap_or}
 use Rattle.std.specs.Ordering.{nat_cmp}
 use Rattle.std.specs.Cmp.{nat_cmp_total}
-use Rattle.std.specs.Option.{option_and_then, option_map}
+use Rattle.std.specs.Option.{option_and_then}
 use Rattle.std.specs.List.{slice_get}
 use Rattle.std.specs.FinMap.{get, insert, find, put, nat_cmp-IsAntisymmetric}
 use Rattle.std.specs.FinMap.Entries.{find-put, is_sorted-put, same_entries}
@@ -12,24 +12,22 @@ use Rattle.vm_base.specs.Places.{page_of, offset_of, cell_of}
 use Rattle.vm_base.specs.FlatMemory.{PageMap, zero_page}
 use Rattle.vm_base.specs.FlatStep.{with_byte, with_bytes}
 use Rattle.vm_base.proofs.NumberedMaps.{get_inserted_here, get_inserted_apart}
-use Rattle.kernel_meaning.specs.Leaves.{CellLeaves, Kept, version_at, has_pages, is_lost, unused_cell}
+use Rattle.kernel_meaning.specs.Leaves.{has_pages, unused_cell}
 use Rattle.kernel_meaning.specs.FrameLaw.{Leaves, cell_at, with_cell, is_used}
 use Rattle.kernel_meaning.specs.CellAccount.{CellState, CellAccount, Store}
 use Rattle.leaf_cell.specs.CellView.{CellView, AreUnjoined}
-use Rattle.leaf_cell.specs.Renaming.{AreKeptAlike, IsNamedBy, IsLive, IsRenaming}
 use Rattle.leaf_cell.specs.Standing.{StandsFor, TakesAccount}
 use Rattle.leaf_cell.specs.Touching.{IsAlone}
-use Rattle.leaf_cell.proofs.Renamed.{version_at-renamed}
+use Rattle.leaf_cell.proofs.SameReads.{alone-stands}
 use Rattle.page_tables.specs.declared.slot.Slot.{Slot}
 use Rattle.page_tables.specs.declared.tables.PageTables.{PageTables}
 use Rattle.page_tables.specs.Sides.{Sides}
-use Rattle.page_tables.specs.Standing.{owner_at, StandFor, TablesStandFor, AreKept}
+use Rattle.page_tables.specs.Standing.{StandFor, TablesStandFor, AreKept}
 use Rattle.page_tables.specs.Accesses.{IsReady}
 use Rattle.page_tables.proofs.LeafMap.{with_cell-put, same_number, used-found}
-use Rattle.page_tables.proofs.TouchShapes.{page-used}
 use Rattle.page_tables.proofs.SlotLemmas.{owner-same}
 use Rattle.page_tables.proofs.Acting.{tables-acted}
-use Rattle.page_tables.proofs.ParentPages.{account_at, slot-stands}
+use Rattle.page_tables.proofs.ParentPages.{account_at, slot-stands, owned-here}
 
 -- the pages of a cell, within all pages
 abbrev IsPartOf : ℕ → PageMap → PageMap → Type 0
@@ -97,57 +95,35 @@ with_cell-same leaves c kept used =
       | inr apart ↦ cond-false (eqb q c) _ _ (ne_eqb q c apart)
     ]
 
--- a name of the page that a leaf of the cell has is that of a version that a leaf of the account has
-named-back : (name : ℕ → ℕ → ℕ) (page place : ℕ) (view meant : List Kept) → AreKeptAlike name view meant → IsNamedBy page place view → (version : ℕ) × (IsNamedBy page version meant × (name page version ≡ place))
-named-back name page place [] meant alike named = absurd named
-named-back name page place (it ∷ others) [] alike named = absurd alike
-named-back name page place (it ∷ others) (meant ∷ rest) alike (inl there) =
-    let unlost : is_lost meant.leaf ≡ false = sym (ap is_lost alike.0.leaf) ∙ there.0 in
-    let same : option_map (name page) (version_at meant.versions page) ≡ Some place =
-        sym (version_at-renamed name meant.versions page) ∙ ap (λ vs. version_at vs page) (sym (alike.0.versions unlost)) ∙ there.1 in
-    elim (version_at meant.versions page) as (λ o. version_at meant.versions page ≡ o → option_map (name page) o ≡ Some place → (version : ℕ) × (IsNamedBy page version (meant ∷ rest) × (name page version ≡ place))) [
-      | None ↦ λ e s. absurd (false≢true (ap is_some s))
-      | Some version ↦ λ e s. (version, (inl (unlost, e), ap (λ o. unwrap_or o place) s))
-    ] refl same
-named-back name page place (it ∷ others) (meant ∷ rest) alike (inr named) =
-    let back : (version : ℕ) × (IsNamedBy page version rest × (name page version ≡ place)) = named-back name page place others rest alike.1 named in
-    (back.0, (inr back.1.0, back.1.1))
-
 -- a page that is the parent's alone in the account is so in the cell
 pub alone-view : (view : CellView) (account : CellAccount) → StandsFor view account → (page : ℕ) → IsAlone account.state.leaves page → IsAlone view.leaves page
-alone-view view account stands page alone = record {
-  present = ap is_some (is_renamed ∙ ap (option_map (stands.name page)) old.1);
-  unnamed = λ place there named.
-      let back : (version : ℕ) × (IsNamedBy page version account.state.leaves.kept × (stands.name page version ≡ place)) = named-back stands.name page place view.leaves.kept account.state.leaves.kept stands.leaves.kept named in
-      let here : stands.name page old.0 ≡ place = ap (λ o. unwrap_or o place) (sym (is_renamed ∙ ap (option_map (stands.name page)) old.1) ∙ there) in
-      let same : old.0 ≡ back.0 = stands.leaves.apart page old.0 back.0 (inl old.1) (inr back.1.0) (here ∙ sym back.1.1) in
-      alone.unnamed back.0 (old.1 ∙ ap Some same) back.1.0;
-}
-  where
-    is_renamed : version_at view.leaves.parent page ≡ option_map (stands.name page) (version_at account.state.leaves.parent page)
-    is_renamed = ap (λ vs. version_at vs page) stands.leaves.parent ∙ version_at-renamed stands.name account.state.leaves.parent page
-    old : (version : ℕ) × (version_at account.state.leaves.parent page ≡ Some version)
-    old = elim (version_at account.state.leaves.parent page) as (λ o. IsSome o → (version : ℕ) × (o ≡ Some version)) [ | Some version ↦ λ h. (version, refl) | None ↦ λ h. absurd (false≢true h) ] alone.present
+alone-view view account stands page alone = alone-stands view account stands page alone
 
 module _ (old : PageTables) (sides : Sides) (st : TablesStandFor old sides) (addr s : ℕ) (bytes : List ℕ) (slot : Slot)
-    (known : get old.directory (cell_of (page_of addr)) ≡ Some s) (here : slice_get old.slots.items s ≡ Some slot) where
+    (known : get old.directory (cell_of (page_of addr)) ≡ Some s) (read : slot ≡ slice_index_or old.slots.items s slot) (page at : ℕ) (page_is : page ≡ page_of addr % 512) (at_is : at ≡ offset_of addr) where
   abbrev c : ℕ
   c = cell_of (page_of addr)
 
   abbrev p : ℕ
   p = page_of addr % 512
 
+  here : slice_get old.slots.items s ≡ Some slot
+  here = owned-here old.slots.items s c slot (st.named c s known) read
+
   stood : StandsFor slot.cell (account_at old.directory old.snapshot old.slots.items sides st c)
   stood = slot-stands old.directory old.snapshot old.slots.items sides st c s slot here (st.named c s known)
 
   -- the cell may be stored to where the page is ready
-  pub ready-view : IsReady sides.leaves (page_of addr) → IsAlone slot.cell.leaves (page_of addr % 512)
-  ready-view ready = alone-view slot.cell (account_at old.directory old.snapshot old.slots.items sides st c) stood p (subst (λ cell. IsAlone cell p) (sym (st.each.leaves c)) ready)
+  pub ready-view : IsReady sides.leaves (page_of addr) → IsAlone slot.cell.leaves page
+  ready-view ready = subst (IsAlone slot.cell.leaves) (sym page_is) (alone-stands slot.cell (account_at old.directory old.snapshot old.slots.items sides st c) stood p (subst (λ cell. IsAlone cell p) (sym (st.each.leaves c)) ready))
 
   module _ (view : CellView) (room : offset_of addr + length bytes ≤ 4096)
-      (stored : (account : CellAccount) → StandsFor slot.cell account → TakesAccount (Store (page_of addr % 512) (offset_of addr) bytes) slot.cell view [] None account) where
+      (stored : (account : CellAccount) → StandsFor slot.cell account → TakesAccount (Store page at bytes) slot.cell view [] None account) where
     abbrev state : CellState
     state = record { leaves = (st.cells c).leaves; pages = with_bytes (st.cells c).pages (p * 4096 + offset_of addr) bytes; snapshots = (st.cells c).snapshots }
+
+    abbrev stored_account : ℕ → ℕ → CellAccount
+    stored_account q i = record { state = record { leaves = (st.cells c).leaves; pages = with_bytes (st.cells c).pages (q * 4096 + i) bytes; snapshots = (st.cells c).snapshots }; made = sides.made }
 
     abbrev new_slots : List Slot
     new_slots = slice_set old.slots.items s (record { owner = Some c; cell = view })
@@ -184,14 +160,15 @@ module _ (old : PageTables) (sides : Sides) (st : TablesStandFor old sides) (add
         (ap is_used (st.each.leaves c) ∙ used)
         (ap (λ cell. length cell.parent) (st.each.leaves c) ∙ st.kept.sizes c)
         (subst (λ cell. AreUnjoined cell.kept) (sym (st.each.leaves c)) (st.kept.unjoined c))
-        (stored (account_at old.directory old.snapshot old.slots.items sides st c) stood).stands
+        (subst (λ q. StandsFor view (stored_account q (offset_of addr))) page_is (subst (λ i. StandsFor view (stored_account page i)) at_is (stored (account_at old.directory old.snapshot old.slots.items sides st c) stood).stands))
         (with_bytes sides.pages addr bytes) inside outside refl
         (ap (λ cell. map (λ it. it.number) cell.kept) (st.each.leaves c)) old.directory
         (λ q. st.parent q ∙ ap (λ leaves. has_pages (cell_at leaves q).parent) (sym same_leaves))
         (λ q t e. owner-same old.slots.items s c slot view here mine t ∙ st.named q t e)
 
-    pub stands-stored : (new : PageTables) → new.directory ≡ old.directory → new.snapshot ≡ old.snapshot → new.slots.items ≡ new_slots → TablesStandFor new then
-    stands-stored new same alike set =
+    pub stands-stored : (new : PageTables) → new.directory ≡ old.directory → new.snapshot ≡ old.snapshot → new.slots.items ≡ slice_set old.slots.items s (record { owner = slot.owner; cell = view }) → TablesStandFor new then
+    stands-stored new same alike put =
+        let set : new.slots.items ≡ new_slots = put ∙ ap (λ owner. slice_set old.slots.items s (record { owner = owner; cell = view })) mine in
         subst (λ d. StandFor d new.snapshot new.slots.items then) (sym same) (subst (λ it. StandFor old.directory it new.slots.items then) (sym alike)
         (subst (λ items. StandFor old.directory old.snapshot items then) (sym set)
         (subst (λ leaves. StandFor old.directory old.snapshot new_slots (record { leaves = leaves; pages = with_bytes sides.pages addr bytes; snapshots = sides.snapshots; made = sides.made })) same_leaves stands_then)))

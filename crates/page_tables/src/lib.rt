@@ -8,8 +8,8 @@
 #![tactic(auto)]
 
 mod access;
-mod pieces;
 mod clear;
+mod pieces;
 mod range;
 mod slot;
 mod tables;

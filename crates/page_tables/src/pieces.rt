@@ -8,6 +8,9 @@ const PAGE_BYTES: u64 = 4096;
 /// Pages in a cell.
 const CELL_PAGES: u64 = 512;
 
+/// Bytes in a cell.
+const CELL_BYTES: u64 = PAGE_BYTES * CELL_PAGES;
+
 /// Where an address lies: its cell, the page's index in the cell, and the place in the page.
 #[derive(Clone, Copy, Debug)]
 pub(crate) struct Location {
@@ -39,5 +42,16 @@ pub(crate) fn piece_of_page(addr: u64, len: usize) -> usize
     ensures room { offset_of addr + result ≤ 4096 }
 {
     let room = (PAGE_BYTES - addr % PAGE_BYTES) as usize;
+    len.min(room)
+}
+
+/// How many bytes of a range lie in its first cell.
+pub(crate) fn piece_of_cell(addr: u64, len: usize) -> usize
+    requires { 0 < len }
+    ensures some { 0 < result }
+    ensures within { result ≤ len }
+    ensures room { addr % 2 ^ 21 + result ≤ 2 ^ 21 }
+{
+    let room = (CELL_BYTES - addr % CELL_BYTES) as usize;
     len.min(room)
 }

@@ -1,7 +1,5 @@
 -- A piece goes on where the bytes so far end.
-use Rattle.std.proofs.Common.{◌≡◌, ◌+◌, ◌≤◌, length, ap, ◌∙◌, arith}
-use Rattle.page_tables.specs.Sides.{Sides}
-use Rattle.page_tables.specs.Standing.{TablesStandFor}
+use Rattle.std.proofs.Common.{◌+◌, ◌≤◌, length, arith}
 use Rattle.page_tables.proofs.PieceByPiece.{read-more}
 use Rattle.page_tables.proofs.tables.PageTables.read.Goals as goal
 
