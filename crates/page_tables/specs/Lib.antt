@@ -3,3 +3,4 @@ pub mod Sides
 pub mod Standing
 pub mod Held
 pub mod Making
+pub mod Clearing
