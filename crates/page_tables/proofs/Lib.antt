@@ -13,3 +13,7 @@ pub mod Rows
 pub mod NewTouch
 pub mod SlotChoice
 pub mod Opening
+pub mod GoneCell
+pub mod FreedSlots
+pub mod LessShare
+pub mod ClearedCell
