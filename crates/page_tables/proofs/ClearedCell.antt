@@ -1,16 +1,16 @@
 -- The clear of some pages in a cell without joined leaves, and the pages that are left.
-use Rattle.std.proofs.Common.{◌≡◌, ◌≢◌, ℕ, ◌+◌, ◌-◌, ◌*◌, ◌/◌, ◌<◌, ◌≤◌, List, [], ◌∷◌, ◌++◌, length, replicate, take, drop, Option, Some, None, cond, refl, sym, ◌∙◌, ap, subst, arith, inl, inr, ◌⊎◌, append_assoc}
-use Rattle.std.specs.Prelude.{Bool, true, false, is_some, ◌||◌, suc, zero}
+use Rattle.std.proofs.Common.{◌≡◌, ◌≢◌, ℕ, ◌+◌, ◌-◌, ◌*◌, ◌/◌, ◌<◌, ◌≤◌, [], ◌∷◌, ◌++◌, replicate, take, drop, Some, None, cond, refl, sym, ◌∙◌, ap, arith, inl, inr, ◌⊎◌, append_assoc}
+use Rattle.std.specs.Prelude.{true, false, is_some, suc, zero}
 use Rattle.std.specs.List.{list_any}
 use Rattle.std.specs.FinMap.{get, retain_keys, get-retain_keys}
 use Rattle.std.proofs.lemmas.Bool.{cases_lt, false≢true}
 use Rattle.std.proofs.lemmas.Bool.Decides.{nat_tests}
 use Rattle.std.proofs.lemmas.Map.Lookups.{exact_unsigned}
-use Rattle.vm_base.specs.Deals.{Deal, Returned}
+use Rattle.vm_base.specs.Deals.{Returned}
 use Rattle.vm_base.specs.FlatMemory.{PageMap}
 use Rattle.vm_base.specs.FlatStep.{is_beyond}
 use Rattle.vm_base.specs.Places.{directory_frames}
-use Rattle.kernel_meaning.specs.Requests.{Answer, Requests, answers_of, given_back}
+use Rattle.kernel_meaning.specs.Requests.{Requests, answers_of, given_back}
 use Rattle.kernel_meaning.specs.Leaves.{CellLeaves, Versions, has_present, has_pages, share}
 use Rattle.kernel_meaning.specs.FrameLaw.{Leaves, cell_at, with_cell, parent_cells}
 use Rattle.kernel_meaning.specs.CellActs.{Course, opening_course, before_change, pages_cleared, cleared}
@@ -20,7 +20,7 @@ use Rattle.leaf_cell.proofs.TouchCourses.{before_change-none}
 use Rattle.leaf_cell.proofs.Releases.{replicate-both}
 use Rattle.table_levels.specs.Requests.{returned}
 use Rattle.page_tables.specs.Clearing.{cell_without, cell_unmapped}
-use Rattle.page_tables.specs.Courses.{requests_between, progress_between, Runs}
+use Rattle.page_tables.specs.Courses.{progress_between, Runs}
 use Rattle.page_tables.proofs.TouchRuns.{answers-returned}
 
 -- the frames that a cell gives back with these pages

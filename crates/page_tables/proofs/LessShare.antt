@@ -1,8 +1,8 @@
 -- A cell without some pages of the parent counts no more frames.
-use Rattle.std.proofs.Common.{◌≡◌, ◌≢◌, ℕ, suc, ◌+◌, ◌≤◌, List, [], ◌∷◌, length, Option, Some, None, cond, refl, sym, ◌∙◌, ap, subst, arith, inl, inr, ◌⊎◌}
-use Rattle.std.specs.Prelude.{Bool, true, false, is_some}
+use Rattle.std.proofs.Common.{◌≡◌, ℕ, suc, ◌+◌, ◌≤◌, List, [], ◌∷◌, length, cond, refl, sym, ◌∙◌, ap, subst, arith, inl, inr, ◌⊎◌}
+use Rattle.std.specs.Prelude.{true, false, is_some}
 use Rattle.std.proofs.lemmas.Bool.{false≢true}
-use Rattle.kernel_meaning.specs.Leaves.{CellLeaves, version_at, without_versions, has_pages, share, parent_leaves, own_leaves, named_pairs}
+use Rattle.kernel_meaning.specs.Leaves.{CellLeaves, without_versions, has_pages, share, parent_leaves, own_leaves, named_pairs}
 use Rattle.leaf_cell.specs.Renaming.{IsLive}
 use Rattle.leaf_cell.proofs.PairCounts.{IsIn, AreOnce, from-distinct, to-distinct, distinct-once}
 use Rattle.leaf_cell.proofs.LivePairs.{all_pairs, in-live, live-in}

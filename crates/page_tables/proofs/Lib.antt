@@ -17,3 +17,5 @@ pub mod GoneCell
 pub mod FreedSlots
 pub mod LessShare
 pub mod ClearedCell
+pub mod ClearedTables
+pub mod ClearedSlot

@@ -5,12 +5,14 @@ ghost use Rattle.vm_base.specs.Deals.{LeadsAlong};
 ghost use Rattle.table_levels.specs.Requests.{returned};
 ghost use Rattle.kernel_meaning.specs.Leaves.{has_present};
 ghost use Rattle.kernel_meaning.specs.FrameLaw.{cell_at};
-ghost use Rattle.page_tables.specs.Clearing.{sides_without, cell_unmapped};
+ghost use Rattle.leaf_cell.specs.States.{nth_number};
+ghost use Rattle.page_tables.specs.Clearing.{sides_without, cell_unmapped, owner_left};
 ghost use Rattle.page_tables.specs.Courses.{Runs};
 ghost use Rattle.page_tables.specs.Sides.{Sides};
 ghost use Rattle.page_tables.specs.Standing.{TablesStandFor, slot_count};
 ghost use Rattle.page_tables.specs.Held.{frames_of};
 
+use crate::slot::Slot;
 use crate::tables::PageTables;
 use vm_base::Allot;
 
@@ -69,10 +71,17 @@ impl PageTables {
         home.cell.clear(first, count, allot);
         prove!(home.cell.held() <= u32::MAX);
         if home.cell.pages() == 0 {
-            if home.cell.snap(0).is_none() {
-                home.owner = None;
-            }
+            leave_slot(home);
             self.directory.remove(cell, allot);
         }
+    }
+}
+
+/// The parent has left the cell of a slot: the slot is nobody's where no snapshot has the cell.
+fn leave_slot(home: &mut Slot)
+    ensures { home.new ≡ record home.old { owner = owner_left home.old.owner (nth_number home.old.cell.leaves.kept 0) } }
+{
+    if home.cell.snap(0).is_none() {
+        home.owner = None;
     }
 }

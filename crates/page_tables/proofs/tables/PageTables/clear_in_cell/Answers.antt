@@ -1,10 +1,7 @@
-use Rattle.std.proofs.Common.{◌≡◌, ◌∙◌, sym, ap}
+use Rattle.std.proofs.Common.{◌∙◌, sym, ap}
 use Rattle.std.specs.Prelude.{is_some}
 use Rattle.std.proofs.lemmas.Bool.{false≢true}
 use Rattle.page_tables.proofs.ClearedCell.{present-pages}
-use Rattle.page_tables.proofs.LessShare.{less-share}
-use Rattle.page_tables.proofs.FreedSlots.{slots-freed}
-use Rattle.page_tables.proofs.GoneCell.{kept-gone, stands-empty, unused-cell}
 use Rattle.page_tables.proofs.tables.PageTables.clear_in_cell.Goals as goal
 
 pub unreachable-requires : goal.unreachable-requires
