@@ -14,10 +14,6 @@ loop-page-init g c = record {
 }
 
 -- src/range.rt:100:13
-pub clear_in_cell-requires-clause-pending : goal.clear_in_cell-requires-clause-pending
-clear_in_cell-requires-clause-pending g c = ?
-
--- src/range.rt:100:13
 pub clear_in_cell-requires-clause-stands : goal.clear_in_cell-requires-clause-stands
 clear_in_cell-requires-clause-stands g c =
     let so_far = c.loop-page.invariant.taken in
