@@ -11,6 +11,8 @@ use Rattle.leaf_cell.specs.declared.snapshot.SnapshotLeaf.{SnapshotLeaf}
 use Rattle.leaf_cell.specs.declared.snapshot.SnapshotLeaf.TheVariants as code
 use Rattle.leaf_cell.specs.Inside.{AreInside, IsPlaceOf, table_places, own_places, snapshot_places, leaf_value, cell_value}
 use Rattle.leaf_cell.specs.Releasing.{AreHome}
+use Rattle.std.specs.Option.{option_map}
+use Rattle.leaf_cell.specs.CellView.{parent_page, bytes_in}
 use Rattle.leaf_cell.proofs.NewCell.{none_is_not_some}
 use Rattle.leaf_cell.proofs.NewVersion.{AreFilled}
 
@@ -52,6 +54,13 @@ module _ (parent : Option Versions) (snapshot : Option Snapshot) (frames : List 
   -- each place that lives has a frame
   pub parent_filled : (page place : ℕ) → version_at (table_places parent) page ≡ Some place → IsSome (slice_index_or frames place None)
   parent_filled page place there = (inside.parent_home page place (page_below (table_places parent) page place inside.parent_size there) there).1
+
+  -- a page of the parent has its bytes
+  pub page-filled : (page : ℕ) → is_some (parent_page (cell_value parent snapshot frames) page) ≡ is_some (version_at (table_places parent) page)
+  page-filled page = elim (version_at (table_places parent) page) as (λ o. version_at (table_places parent) page ≡ o → is_some (bytes_in frames o) ≡ is_some o) [
+    | None ↦ λ e. refl
+    | Some place ↦ λ e. elim (slice_index_or frames place None) as (λ f. IsSome f → is_some (option_map (λ frame. frame.bytes) f) ≡ true) [ | None ↦ λ h. h | Some frame ↦ λ h. refl ] (parent_filled page place e)
+  ] refl
 
   pub own_filled : (page place : ℕ) → version_at (own_places snapshot) page ≡ Some place → IsSome (slice_index_or frames place None)
   own_filled page place there = (inside.own_home page place (page_below (own_places snapshot) page place inside.own_size there) there).1

@@ -141,6 +141,7 @@ impl Cell {
     pub fn covers(&self, first: u16, pages: u16) -> bool
         requires { first + pages ≤ CELL_PAGES }
         ensures covers { result ≡ has_present self.now.leaves.parent first pages }
+        ensures filled { (p : ℕ) → is_some (parent_page self.now p) ≡ is_some (version_at self.now.leaves.parent p) }
         ensures account { (account : CellAccount) → StandsFor self.now account → result ≡ has_present account.state.leaves.parent first pages }
     {
         covers_in(&self.parent, first, pages)

@@ -1,0 +1,61 @@
+use Rattle.std.proofs.Common.{◌≡◌, ◌+◌, ◌≤◌, ◌<◌, ℕ, length, List, Some, sym, ◌∙◌, ap, subst, refl, arith}
+use Rattle.std.specs.Prelude.{slice_set}
+use Rattle.std.specs.List.{slice_get}
+use Rattle.std.specs.Option.{option_and_then}
+use Rattle.std.specs.Vec.{with_item}
+use Rattle.vm_base.specs.Places.{cell_of}
+use Rattle.leaf_cell.specs.CellView.{AreUnjoined, held_of}
+use Rattle.page_tables.specs.declared.slot.Slot.{Slot}
+use Rattle.page_tables.specs.Sides.{Sides}
+use Rattle.page_tables.specs.Standing.{owner_at, StandFor}
+use Rattle.page_tables.specs.Held.{frames_in, snapshot_frames}
+use Rattle.table_levels.specs.Cells.{tables_of}
+use Rattle.page_tables.proofs.KnownTouch.{known-touches}
+use Rattle.page_tables.proofs.OwnedSlots.{owned-slot, owned-within, held-within, frames-set, read-slot, slot-unjoined}
+use Rattle.page_tables.proofs.tables.PageTables.touch_known.Goals as goal
+
+-- src/touch.rt:56:9
+pub index_mut-requires : goal.index_mut-requires
+index_mut-requires g c =
+    let within : c.args.slot < length c.args.self.now.slots.items = owned-within c.args.self.now.slots.items c.args.slot (cell_of c.args.page) (c.requires.stands.1.named (cell_of c.args.page) c.args.slot c.requires.known) in
+    subst (λ n. c.args.slot < n) (sym c.args.self.now.slots.ok.0) within
+
+-- src/touch.rt:56:9
+pub touch-requires-clause-unjoined : goal.touch-requires-clause-unjoined
+touch-requires-clause-unjoined g c =
+    let within : c.args.slot < length c.args.self.now.slots.items = owned-within c.args.self.now.slots.items c.args.slot (cell_of c.args.page) (c.requires.stands.1.named (cell_of c.args.page) c.args.slot c.requires.known) in
+    slot-unjoined c.args.self.now.directory c.args.self.now.snapshot c.args.self.now.slots.items c.requires.stands.0 c.requires.stands.1 c.args.slot c.index_mut.result.now
+        (read-slot c.args.self.now.slots.items c.args.slot c.index_mut.result.now within c.index_mut.ensures.value)
+
+-- src/touch.rt:56:9
+pub touch-requires-clause-held : goal.touch-requires-clause-held
+touch-requires-clause-held g c =
+    let within : c.args.slot < length c.args.self.now.slots.items = owned-within c.args.self.now.slots.items c.args.slot (cell_of c.args.page) (c.requires.stands.1.named (cell_of c.args.page) c.args.slot c.requires.known) in
+    let part : held_of c.index_mut.result.now.cell ≤ frames_in c.args.self.now.slots.items = held-within c.args.self.now.slots.items c.args.slot c.index_mut.result.now (read-slot c.args.self.now.slots.items c.args.slot c.index_mut.result.now within c.index_mut.ensures.value) in
+    let lent : tables_of c.args.self.now.directory + snapshot_frames c.args.self.now.snapshot + frames_in c.args.self.now.slots.items ≤ g.A.Allot.out (g.A.Allot.state c.args.allot.now) = c.requires.lent in
+    omega (arith, part, lent)
+
+-- src/touch.rt:44:5
+pub returns-clause-made : goal.returns-clause-made
+returns-clause-made g c =
+    let s = c.args.slot in
+    let within : c.args.slot < length c.args.self.now.slots.items = owned-within c.args.self.now.slots.items c.args.slot (cell_of c.args.page) (c.requires.stands.1.named (cell_of c.args.page) c.args.slot c.requires.known) in
+    let here : slice_get c.args.self.now.slots.items c.args.slot ≡ Some c.index_mut.result.now = read-slot c.args.self.now.slots.items c.args.slot c.index_mut.result.now within c.index_mut.ensures.value in
+    let mine : c.index_mut.result.now.owner ≡ Some (cell_of c.args.page) = sym (ap (option_and_then (λ it. it.owner)) here) ∙ c.requires.stands.1.named (cell_of c.args.page) c.args.slot c.requires.known in
+    record {
+      deals = c.touch.ensures.made.deals;
+      led = c.touch.ensures.made.led;
+      follows = λ sides st. known-touches c.args.self.now sides st c.args.page c.args.slot c.index_mut.result.now c.requires.known here c.touch.new.self c.touch.ensures.made.deals c.touch.result c.touch.ensures.made.follows (g.A.Allot.refused (g.A.Allot.state c.args.allot.now)) (g.A.Allot.refused (g.A.Allot.state c.touch.new.allot)) c.touch.ensures.touched
+          (record { directory = c.args.self.now.directory; snapshot = c.args.self.now.snapshot; slots = with_item c.args.self.now.slots c.args.slot (record { owner = c.index_mut.result.now.owner; cell = c.touch.new.self }) })
+          refl refl (ap (λ owner. slice_set c.args.self.now.slots.items c.args.slot (record { owner = owner; cell = c.touch.new.self })) mine);
+    }
+
+-- src/touch.rt:44:5
+pub returns-clause-held : goal.returns-clause-held
+returns-clause-held g c =
+    let within : c.args.slot < length c.args.self.now.slots.items = owned-within c.args.self.now.slots.items c.args.slot (cell_of c.args.page) (c.requires.stands.1.named (cell_of c.args.page) c.args.slot c.requires.known) in
+    let here : slice_get c.args.self.now.slots.items c.args.slot ≡ Some c.index_mut.result.now = read-slot c.args.self.now.slots.items c.args.slot c.index_mut.result.now within c.index_mut.ensures.value in
+    let new : Slot = record { owner = c.index_mut.result.now.owner; cell = c.touch.new.self } in
+    let sums : frames_in (slice_set c.args.self.now.slots.items c.args.slot new) + held_of c.index_mut.result.now.cell ≡ frames_in c.args.self.now.slots.items + held_of c.touch.new.self = frames-set c.args.self.now.slots.items c.args.slot c.index_mut.result.now new here in
+    let held : g.A.Allot.out (g.A.Allot.state c.touch.new.allot) + held_of c.index_mut.result.now.cell ≡ g.A.Allot.out (g.A.Allot.state c.args.allot.now) + held_of c.touch.new.self = c.touch.ensures.held in
+    omega (arith, sums, held)

@@ -1,0 +1,137 @@
+use Rattle.std.proofs.Common.{◌≡◌, ◌+◌, ◌-◌, ◌≤◌, ◌<◌, ℕ, length, List, [], ◌++◌, Option, Some, None, sym, ◌∙◌, ap, subst, refl, arith}
+use Rattle.std.specs.Prelude.{slice_set}
+use Rattle.std.specs.FinMap.{insert, remove, keys}
+use Rattle.std.specs.List.{slice_get}
+use Rattle.std.specs.Vec.{with_item}
+use Rattle.std.proofs.lemmas.Option.{slice_get_within}
+use Rattle.vm_base.specs.Places.{cell_of}
+use Rattle.vm_base.specs.Deals.{Deal, Returned, LeadsAlong}
+use Rattle.vm_base.specs.declared.frame_request.Want.{Want}
+use Rattle.vm_base.proofs.DealLemmas.{LeadsAlong-append, no_deal_leads}
+use Rattle.leaf_cell.specs.CellView.{held_of}
+use Rattle.leaf_cell.specs.States.{refused_count}
+use Rattle.table_levels.specs.Cells.{CellMap, tables_of}
+use Rattle.table_levels.specs.Requests.{missing_tables, granted, returned}
+use Rattle.table_levels.proofs.Counting.{tables_of-insert}
+use Rattle.page_tables.specs.declared.slot.Slot.{Slot}
+use Rattle.page_tables.specs.declared.tables.PageTables.{PageTables}
+use Rattle.page_tables.specs.Sides.{Sides}
+use Rattle.page_tables.specs.Standing.{TablesStandFor, IsSlotFor}
+use Rattle.page_tables.specs.Held.{frames_in, snapshot_frames}
+use Rattle.page_tables.specs.Making.{FollowsTouch}
+use Rattle.page_tables.proofs.Room.{room-left, fits-again}
+use Rattle.page_tables.proofs.Rows.{deals_behind, deals_up_to}
+use Rattle.page_tables.proofs.NewTouch.{granted-touches, refused-touches, lacking-touches, added-removed, account, stood}
+use Rattle.page_tables.proofs.OwnedSlots.{held-within, frames-set, read-slot, slot-unjoined, set-same, same_slot}
+use Rattle.page_tables.proofs.tables.PageTables.touch_new.Goals as goal
+
+-- src/touch.rt:72:15
+pub insert-requires-clause-fewer : goal.insert-requires-clause-fewer
+insert-requires-clause-fewer g c =
+    let home = c.requires.stands.1.1 in
+    room-left c.args.self.now.directory c.args.self.now.snapshot c.args.self.now.slots.items c.requires.stands.0 c.requires.stands.1.0 (cell_of c.args.page) c.args.slot home.slot home.here home.fits c.requires.new
+
+-- src/touch.rt:74:29
+pub returns-in-Err-clause-made : goal.returns-in-Err-clause-made
+returns-in-Err-clause-made g c =
+    let home = c.requires.stands.1.1 in
+    let refuses = c.in-Err.ensures.requests in
+    let old : PageTables = c.args.self.now in
+    record {
+      deals = deals_up_to refuses.front refuses.want c.in-Err.refused.at;
+      led = refuses.deals;
+      follows = λ sides st.
+          subst (λ d. FollowsTouch c.args.page (record { directory = d; snapshot = old.snapshot; slots = old.slots }) (deals_up_to refuses.front refuses.want c.in-Err.refused.at) (Some (record { at = c.in-Err.refused.at; page = Some c.args.page })) sides)
+              (sym c.in-Err.ensures.kept)
+              (lacking-touches old sides st c.args.page c.args.slot home.slot c.requires.new home.here (fits-again old.directory old.snapshot old.slots.items c.requires.stands.0 sides c.requires.stands.1.0 st (cell_of c.args.page) home.slot.owner home.fits)
+                  refuses.front refuses.want refuses.rest refuses.order c.in-Err.refused.at);
+    }
+
+-- src/touch.rt:77:25
+pub index_mut-home-requires : goal.index_mut-home-requires
+index_mut-home-requires g c =
+    let home = c.requires.stands.1.1 in
+    subst (λ n. c.args.slot < n) (sym c.args.self.now.slots.ok.0) (slice_get_within c.args.self.now.slots.items c.args.slot home.slot home.here)
+
+-- src/touch.rt:78:15
+pub touch-requires-clause-unjoined : goal.touch-requires-clause-unjoined
+touch-requires-clause-unjoined g c =
+    let home = c.requires.stands.1.1 in
+    let within : c.args.slot < length c.args.self.now.slots.items = slice_get_within c.args.self.now.slots.items c.args.slot home.slot home.here in
+    slot-unjoined c.args.self.now.directory c.args.self.now.snapshot c.args.self.now.slots.items c.requires.stands.0 c.requires.stands.1.0 c.args.slot c.index_mut-home.result.now
+        (read-slot c.args.self.now.slots.items c.args.slot c.index_mut-home.result.now within c.index_mut-home.ensures.value)
+
+-- src/touch.rt:78:15
+pub touch-requires-clause-held : goal.touch-requires-clause-held
+touch-requires-clause-held g c =
+    let home = c.requires.stands.1.1 in
+    let within : c.args.slot < length c.args.self.now.slots.items = slice_get_within c.args.self.now.slots.items c.args.slot home.slot home.here in
+    let part : held_of c.index_mut-home.result.now.cell ≤ frames_in c.args.self.now.slots.items = held-within c.args.self.now.slots.items c.args.slot c.index_mut-home.result.now (read-slot c.args.self.now.slots.items c.args.slot c.index_mut-home.result.now within c.index_mut-home.ensures.value) in
+    let lent : tables_of c.args.self.now.directory + snapshot_frames c.args.self.now.snapshot + frames_in c.args.self.now.slots.items ≤ g.A.Allot.out (g.A.Allot.state c.args.allot.now) = c.requires.lent in
+    let moved : g.A.Allot.out (g.A.Allot.state c.insert.new.allot) + tables_of c.args.self.now.directory ≡ g.A.Allot.out (g.A.Allot.state c.args.allot.now) + tables_of c.insert.new.self = c.insert.ensures.out in
+    omega (arith, part, lent, moved)
+
+-- src/touch.rt:60:5
+pub returns-in-Ok-touch-clause-made : goal.returns-in-Ok-touch-clause-made
+returns-in-Ok-touch-clause-made g c =
+    let home = c.requires.stands.1.1 in
+    let old : PageTables = c.args.self.now in
+    let within : c.args.slot < length c.args.self.now.slots.items = slice_get_within c.args.self.now.slots.items c.args.slot home.slot home.here in
+    let here : slice_get c.args.self.now.slots.items c.args.slot ≡ Some c.index_mut-home.result.now = read-slot c.args.self.now.slots.items c.args.slot c.index_mut-home.result.now within c.index_mut-home.ensures.value in
+    let made = c.in-Ok-touch.ensures.made in
+    let wants : List Want = missing_tables (keys old.directory) (cell_of c.args.page) in
+    record {
+      deals = deals_behind (missing_tables (keys old.directory) (cell_of c.args.page)) made.deals None;
+      led = LeadsAlong-append g.A.Allot.goes (granted wants) (made.deals ++ []) (g.A.Allot.state c.args.allot.now) (g.A.Allot.state c.insert.new.allot) (g.A.Allot.state c.touch.new.allot) c.in-Ok.ensures.requests
+          (LeadsAlong-append g.A.Allot.goes made.deals [] (g.A.Allot.state c.insert.new.allot) (g.A.Allot.state c.touch.new.allot) (g.A.Allot.state c.touch.new.allot) made.led refl);
+      follows = λ sides st.
+          let fits : IsSlotFor sides.leaves (cell_of c.args.page) c.index_mut-home.result.now.owner =
+              fits-again old.directory old.snapshot old.slots.items c.requires.stands.0 sides c.requires.stands.1.0 st (cell_of c.args.page) c.index_mut-home.result.now.owner (subst (λ it. IsSlotFor c.requires.stands.0.leaves (cell_of c.args.page) it.owner) (same_slot home.slot c.index_mut-home.result.now (sym home.here ∙ here)) home.fits) in
+          granted-touches old sides st c.args.page c.args.slot c.index_mut-home.result.now c.requires.new here fits c.touch.new.self made.deals
+              (made.follows (account old sides st c.args.page c.args.slot c.index_mut-home.result.now c.requires.new here fits) (stood old sides st c.args.page c.args.slot c.index_mut-home.result.now c.requires.new here fits))
+              (g.A.Allot.refused (g.A.Allot.state c.insert.new.allot)) (g.A.Allot.refused (g.A.Allot.state c.touch.new.allot)) c.in-Ok-touch.ensures.touched
+              (record { directory = c.insert.new.self; snapshot = old.snapshot; slots = with_item old.slots c.args.slot (record { owner = Some (cell_of c.args.page); cell = c.touch.new.self }) })
+              c.in-Ok.ensures.added refl refl;
+    }
+
+-- src/touch.rt:60:5
+pub returns-in-Ok-touch-clause-held : goal.returns-in-Ok-touch-clause-held
+returns-in-Ok-touch-clause-held g c =
+    let home = c.requires.stands.1.1 in
+    let within : c.args.slot < length c.args.self.now.slots.items = slice_get_within c.args.self.now.slots.items c.args.slot home.slot home.here in
+    let here : slice_get c.args.self.now.slots.items c.args.slot ≡ Some c.index_mut-home.result.now = read-slot c.args.self.now.slots.items c.args.slot c.index_mut-home.result.now within c.index_mut-home.ensures.value in
+    let new : Slot = record { owner = Some (cell_of c.args.page); cell = c.touch.new.self } in
+    let sums : frames_in (slice_set c.args.self.now.slots.items c.args.slot new) + held_of c.index_mut-home.result.now.cell ≡ frames_in c.args.self.now.slots.items + held_of c.touch.new.self = frames-set c.args.self.now.slots.items c.args.slot c.index_mut-home.result.now new here in
+    let held : g.A.Allot.out (g.A.Allot.state c.touch.new.allot) + held_of c.index_mut-home.result.now.cell ≡ g.A.Allot.out (g.A.Allot.state c.insert.new.allot) + held_of c.touch.new.self = c.touch.ensures.held in
+    let moved : g.A.Allot.out (g.A.Allot.state c.insert.new.allot) + tables_of c.args.self.now.directory ≡ g.A.Allot.out (g.A.Allot.state c.args.allot.now) + tables_of c.insert.new.self = c.insert.ensures.out in
+    omega (arith, sums, held, moved)
+
+-- src/touch.rt:60:5
+pub returns-in-Err-touch-clause-made : goal.returns-in-Err-touch-clause-made
+returns-in-Err-touch-clause-made g c =
+    let home = c.requires.stands.1.1 in
+    let old : PageTables = c.args.self.now in
+    let cell : ℕ = cell_of c.args.page in
+    let within : c.args.slot < length c.args.self.now.slots.items = slice_get_within c.args.self.now.slots.items c.args.slot home.slot home.here in
+    let here : slice_get c.args.self.now.slots.items c.args.slot ≡ Some c.index_mut-home.result.now = read-slot c.args.self.now.slots.items c.args.slot c.index_mut-home.result.now within c.index_mut-home.ensures.value in
+    let made = c.in-Err-touch.ensures.made in
+    let wants : List Want = missing_tables (keys old.directory) cell in
+    let at : ℕ = c.in-Err-touch.refused.at in
+    let gone : c.remove.new.self ≡ old.directory = c.remove.ensures.removed ∙ ap (λ d. remove d cell) c.in-Ok.ensures.added ∙ added-removed old.directory cell c.args.slot c.requires.new in
+    let more : tables_of c.insert.new.self ≡ tables_of old.directory + length wants = ap tables_of c.in-Ok.ensures.added ∙ tables_of-insert old.directory cell c.args.slot c.requires.new in
+    let less : tables_of c.remove.new.self ≡ tables_of old.directory = ap tables_of gone in
+    let back : tables_of c.insert.new.self - tables_of c.remove.new.self ≡ length wants = omega (arith, more, less) in
+    record {
+      deals = deals_behind wants made.deals (Some at);
+      led = LeadsAlong-append g.A.Allot.goes (granted wants) (made.deals ++ returned (length wants)) (g.A.Allot.state c.args.allot.now) (g.A.Allot.state c.insert.new.allot) (g.A.Allot.state c.remove.new.allot) c.in-Ok.ensures.requests
+          (LeadsAlong-append g.A.Allot.goes made.deals (returned (length wants)) (g.A.Allot.state c.insert.new.allot) (g.A.Allot.state c.touch.new.allot) (g.A.Allot.state c.remove.new.allot) made.led
+              (subst (λ n. LeadsAlong g.A.Allot.goes (g.A.Allot.state c.touch.new.allot) (returned n) (g.A.Allot.state c.remove.new.allot)) back c.remove.ensures.given));
+      follows = λ sides st.
+          let fits : IsSlotFor sides.leaves cell c.index_mut-home.result.now.owner =
+              fits-again old.directory old.snapshot old.slots.items c.requires.stands.0 sides c.requires.stands.1.0 st cell c.index_mut-home.result.now.owner (subst (λ it. IsSlotFor c.requires.stands.0.leaves cell it.owner) (same_slot home.slot c.index_mut-home.result.now (sym home.here ∙ here)) home.fits) in
+          refused-touches old sides st c.args.page c.args.slot c.index_mut-home.result.now c.requires.new here fits c.touch.new.self made.deals at
+              (made.follows (account old sides st c.args.page c.args.slot c.index_mut-home.result.now c.requires.new here fits) (stood old sides st c.args.page c.args.slot c.index_mut-home.result.now c.requires.new here fits))
+              (record { directory = c.remove.new.self; snapshot = old.snapshot; slots = with_item old.slots c.args.slot (record { owner = c.index_mut-home.result.now.owner; cell = c.touch.new.self }) })
+              gone refl
+              (ap (λ view. slice_set old.slots.items c.args.slot (record { owner = c.index_mut-home.result.now.owner; cell = view })) c.in-Err-touch.ensures.refused ∙ set-same old.slots.items c.args.slot c.index_mut-home.result.now here);
+    }

@@ -1,0 +1,116 @@
+//! Touching pages.
+ghost use Rattle.std.specs.Prelude.{◌≡◌, ◌+◌, ◌≤◌, ◌<◌, ◌^◌, IfErr, None, Some, false, length, ◌∷◌, []};
+ghost use Rattle.std.specs.FinMap.{get};
+ghost use Rattle.vm_base.specs.Counts.{next_count};
+ghost use Rattle.vm_base.specs.Places.{cell_of};
+ghost use Rattle.kernel_meaning.specs.FrameLaw.{lacks_slots};
+ghost use Rattle.page_tables.specs.Sides.{Sides};
+ghost use Rattle.page_tables.specs.Standing.{TablesStandFor, HasSlotFor, IsSlotOf, IsSlotChosen, slot_count};
+ghost use Rattle.page_tables.specs.Held.{frames_of};
+ghost use Rattle.page_tables.specs.Making.{MadeTouch, page_refusal};
+
+use crate::slot::Slot;
+use crate::tables::PageTables;
+use vm_base::{Allot, Refused};
+
+/// Pages in a cell.
+const CELL_PAGES: u64 = 512;
+
+impl PageTables {
+    /// Touches a page: it is present then, and no snapshot names it. The frames are asked for in
+    /// this order: the missing top, upper, middle and leaf tables, then the page. After a refusal
+    /// what was granted has been given back, and both sides read as before.
+    pub(crate) fn touch_page<A: Allot>(&mut self, page: u64, allot: &mut A) -> Result<(), Refused>
+        requires page { page < 2 ^ 36 }
+        requires stands { (sides : Sides) × (TablesStandFor self.old sides × (lacks_slots (slot_count self.old) sides.leaves (cell_of page ∷ []) ≡ false)) }
+        requires lent { frames_of self.old ≤ A.out (A.state allot.old) }
+        requires untold { A.grants allot.old ≡ None }
+        ensures made { MadeTouch A.goes (A.state allot.old) (A.state allot.new) page self.old self.new (page_refusal page result) }
+        ensures held { A.out (A.state allot.new) + frames_of self.old ≡ A.out (A.state allot.old) + frames_of self.new }
+        ensures untold { A.grants allot.new ≡ None }
+        ensures counted { IfErr result (λ e. (A.refused (A.state allot.new) ≡ next_count (A.refused (A.state allot.old))) × (e.at ≡ A.refused (A.state allot.new))) }
+        ensures slots { slot_count self.new ≡ slot_count self.old }
+    {
+        let cell = (page / CELL_PAGES) as u32;
+        match self.directory.find(cell) {
+            Some(slot) => self.touch_known(slot, page, allot),
+            None => match self.slot_for(cell) {
+                Some(slot) => self.touch_new(slot, page, allot),
+                None => unreachable!("a slot is free or the cell's"),
+            },
+        }
+    }
+
+    /// Touches a page in a cell that the directory has.
+    fn touch_known<A: Allot>(&mut self, slot: u32, page: u64, allot: &mut A) -> Result<(), Refused>
+        requires page { page < 2 ^ 36 }
+        requires known { get self.old.directory (cell_of page) ≡ Some slot }
+        requires stands { (sides : Sides) × TablesStandFor self.old sides }
+        requires lent { frames_of self.old ≤ A.out (A.state allot.old) }
+        requires untold { A.grants allot.old ≡ None }
+        ensures made { MadeTouch A.goes (A.state allot.old) (A.state allot.new) page self.old self.new (page_refusal page result) }
+        ensures held { A.out (A.state allot.new) + frames_of self.old ≡ A.out (A.state allot.old) + frames_of self.new }
+        ensures untold { A.grants allot.new ≡ None }
+        ensures counted { IfErr result (λ e. (A.refused (A.state allot.new) ≡ next_count (A.refused (A.state allot.old))) × (e.at ≡ A.refused (A.state allot.new))) }
+        ensures slots { slot_count self.new ≡ slot_count self.old }
+    {
+        let index = (page % CELL_PAGES) as u16;
+        self.slots[slot as usize].cell.touch(index, allot)
+    }
+
+    /// Touches a page in a cell that the directory lacks, which gets this slot.
+    fn touch_new<A: Allot>(&mut self, slot: u32, page: u64, allot: &mut A) -> Result<(), Refused>
+        requires page { page < 2 ^ 36 }
+        requires new { get self.old.directory (cell_of page) ≡ None }
+        requires stands { (sides : Sides) × (TablesStandFor self.old sides × HasSlotFor self.old sides.leaves (cell_of page) slot) }
+        requires lent { frames_of self.old ≤ A.out (A.state allot.old) }
+        requires untold { A.grants allot.old ≡ None }
+        ensures made { MadeTouch A.goes (A.state allot.old) (A.state allot.new) page self.old self.new (page_refusal page result) }
+        ensures held { A.out (A.state allot.new) + frames_of self.old ≡ A.out (A.state allot.old) + frames_of self.new }
+        ensures untold { A.grants allot.new ≡ None }
+        ensures counted { IfErr result (λ e. (A.refused (A.state allot.new) ≡ next_count (A.refused (A.state allot.old))) × (e.at ≡ A.refused (A.state allot.new))) }
+        ensures slots { slot_count self.new ≡ slot_count self.old }
+    {
+        let cell = (page / CELL_PAGES) as u32;
+        match self.directory.insert(cell, slot, allot) {
+            Ok(()) => {}
+            Err(refused) => return Err(refused),
+        }
+        let index = (page % CELL_PAGES) as u16;
+        let home = &mut self.slots[slot as usize];
+        match home.cell.touch(index, allot) {
+            Ok(()) => {
+                home.owner = Some(cell);
+                Ok(())
+            }
+            Err(refused) => {
+                self.directory.remove(cell, allot);
+                Err(refused)
+            }
+        }
+    }
+
+    /// The slot that a cell has, or else a free one.
+    fn slot_for(&self, cell: u32) -> Option<u32>
+        requires { slot_count self.now ≤ 512 }
+        ensures { IsSlotChosen self.now.slots.items cell result }
+    {
+        match slot_of(&self.slots, Some(cell)) {
+            Some(slot) => Some(slot),
+            None => slot_of(&self.slots, None),
+        }
+    }
+}
+
+/// The lowest slot with this owner.
+fn slot_of(slots: &[Slot], owner: Option<u32>) -> Option<u32>
+    requires { length slots.now ≤ 512 }
+    ensures { IsSlotOf slots.now owner result }
+{
+    for i in 0..slots.len() {
+        if slots[i].owner == owner {
+            return Some(i as u32);
+        }
+    }
+    None
+}
