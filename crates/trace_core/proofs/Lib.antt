@@ -5,3 +5,4 @@ pub mod EventCounts
 pub mod RunLemmas
 pub mod SuppliedRuns
 pub mod Worked
+pub mod Writes

@@ -3,7 +3,6 @@ use Rattle.std.specs.Prelude.{◌≡◌, ℕ, List, Option, Some, None, IsSome}
 use Rattle.std.specs.Ordering.{nat_cmp}
 use Rattle.std.specs.Option.{option_map}
 use Rattle.std.specs.FinMap.{FinMap, empty, insert, get}
-use Rattle.vm_base.specs.declared.frame_request.Asker.TheVariants.{Parent}
 use Rattle.vm_base.specs.Deals.{Deal, LeadsAlong}
 use Rattle.vm_base.specs.FlatMemory.{Area, PageMap, FlatMemory}
 use Rattle.kernel_meaning.specs.Requests.{Answer, answers_of}
@@ -15,7 +14,7 @@ use Rattle.page_tables.specs.Held.{frames_of, frames_in, shares_in}
 use Rattle.trace_events.specs.declared.outcome.Outcome.{Outcome}
 use Rattle.trace_core.specs.declared.kernel.SnapshotAreas.{SnapshotAreas}
 use Rattle.trace_core.specs.SupplyState.{SupplyState, SupplyGoes}
-use Rattle.trace_core.specs.Answering.{pending_of}
+use Rattle.trace_core.specs.Supplied.{IsSupplied}
 use Rattle.trace_core.specs.KernelState.{Machine, KernelState}
 use Rattle.trace_core.specs.EventMeaning.{EventEnd}
 
@@ -46,13 +45,6 @@ kept_number (Some kept) = Some kept.number
 abbrev pub sides_of : KernelState → FinMap nat_cmp PageMap → Sides
 sides_of state pages = record { leaves = state.leaves; pages = state.world.parent.present; snapshots = pages; made = state.made }
 
--- the supply is the parent's, and has counted what the state has
-pub record IsSupplyOf (supply : SupplyState) (machine : Machine) (state : KernelState) : Type 0 where
-  pub made : supply.made ≡ machine.frames
-  pub asker : supply.asker ≡ Parent
-  pub refused : supply.refused ≡ state.world.refused
-  pub pending : supply.pending ≡ pending_of state.named state.made
-
 -- the parts stand for the state of a run on this machine
 pub record KernelStands (parts : KernelParts) (machine : Machine) (state : KernelState) : Type 0 where
   pub pages : FinMap nat_cmp PageMap
@@ -63,7 +55,7 @@ pub record KernelStands (parts : KernelParts) (machine : Machine) (state : Kerne
   pub losses : state.world.losses ≡ losses_of state.leaves
   pub last : state.world.last ≡ parts.last
   pub counts : state.world.refused_copies ≡ kept_counts parts.snapshot
-  pub supply : IsSupplyOf parts.supply machine state
+  pub supply : IsSupplied machine state parts.supply
   pub out : parts.supply.out ≡ frames_of parts.tables
   pub even : frames_in parts.tables.slots.items ≡ shares_in parts.tables.slots.items
   pub slots : slot_count parts.tables ≡ machine.slots

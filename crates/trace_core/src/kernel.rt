@@ -1,5 +1,5 @@
 //! The kernel: areas, page tables and a pool.
-ghost use Rattle.std.specs.Prelude.{◌≡◌, ◌≤◌, ◌<◌, IfOk, map};
+ghost use Rattle.std.specs.Prelude.{◌≡◌, ◌≤◌, ◌<◌, IfOk, map, vec_capacity};
 ghost use Rattle.frame_pool.specs.Policies.{standing};
 ghost use Rattle.trace_core.specs.SupplyState.{state_of};
 ghost use Rattle.trace_core.specs.KernelState.{opening_state};
@@ -37,6 +37,8 @@ pub struct Kernel {
     pub(crate) added: Vec<u64>,
     // Clauses may name what boxed policies tell only where a field's own type has them.
     policies: PhantomData<Box<dyn FramePolicy + Send>>,
+
+    ghost room: { 1025 ≤ vec_capacity added },
 }
 
 /// What clauses may know of a value with a kernel in it.

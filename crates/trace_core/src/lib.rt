@@ -9,6 +9,7 @@
 mod kernel;
 mod laws;
 mod supply;
+mod writing;
 #[cfg(test)]
 mod tests;
 
