@@ -1,19 +1,16 @@
 -- The store of bytes within a page of a cell that the directory has.
-use Rattle.std.proofs.Common.{◌≡◌, ◌≢◌, ℕ, ◌+◌, ◌*◌, ◌/◌, ◌%◌, ◌<◌, ◌≤◌, List, [], ◌∷◌, length, map, Some, None, cond, eqb, refl, sym, ◌∙◌, ap, subst, arith, inl, inr}
-use Rattle.std.specs.Prelude.{true, not, ◌||◌, ◌==◌, is_some, IsSome, slice_set, slice_index_or, unwrap_or}
-use Rattle.std.specs.Ordering.{nat_cmp}
-use Rattle.std.specs.Cmp.{nat_cmp_total}
+use Rattle.std.proofs.Common.{◌≡◌, ◌≢◌, ℕ, ◌+◌, ◌*◌, ◌/◌, ◌%◌, ◌<◌, ◌≤◌, List, [], ◌∷◌, length, map, Some, None, refl, sym, ◌∙◌, ap, subst, arith, inl, inr}
+use Rattle.std.specs.Prelude.{true, not, ◌||◌, ◌==◌, is_some, slice_set, slice_index_or, unwrap_or}
 use Rattle.std.specs.Option.{option_and_then}
 use Rattle.std.specs.List.{slice_get}
-use Rattle.std.specs.FinMap.{get, insert, find, put, nat_cmp-IsAntisymmetric}
-use Rattle.std.specs.FinMap.Entries.{find-put, is_sorted-put, same_entries}
-use Rattle.std.proofs.lemmas.Bool.{cases_eq, cond-true, cond-false, eq-eqb, ne_eqb, false≢true}
+use Rattle.std.specs.FinMap.{get, insert, put}
+use Rattle.std.proofs.lemmas.Bool.{cases_eq}
 use Rattle.vm_base.specs.Places.{page_of, offset_of, cell_of}
 use Rattle.vm_base.specs.FlatMemory.{PageMap, zero_page}
 use Rattle.vm_base.specs.FlatStep.{with_byte, with_bytes}
 use Rattle.vm_base.proofs.NumberedMaps.{get_inserted_here, get_inserted_apart}
-use Rattle.kernel_meaning.specs.Leaves.{has_pages, unused_cell}
-use Rattle.kernel_meaning.specs.FrameLaw.{Leaves, cell_at, with_cell, is_used}
+use Rattle.kernel_meaning.specs.Leaves.{has_pages}
+use Rattle.kernel_meaning.specs.FrameLaw.{cell_at, with_cell, is_used}
 use Rattle.kernel_meaning.specs.CellAccount.{CellState, CellAccount, Store}
 use Rattle.leaf_cell.specs.CellView.{CellView, AreUnjoined}
 use Rattle.leaf_cell.specs.Standing.{StandsFor, TakesAccount}
@@ -22,9 +19,8 @@ use Rattle.leaf_cell.proofs.SameReads.{alone-stands}
 use Rattle.page_tables.specs.declared.slot.Slot.{Slot}
 use Rattle.page_tables.specs.declared.tables.PageTables.{PageTables}
 use Rattle.page_tables.specs.Sides.{Sides}
-use Rattle.page_tables.specs.Standing.{StandFor, TablesStandFor, AreKept}
+use Rattle.page_tables.specs.Standing.{StandFor, TablesStandFor}
 use Rattle.page_tables.specs.Accesses.{IsReady}
-use Rattle.page_tables.proofs.LeafMap.{with_cell-put, same_number, used-found}
 use Rattle.page_tables.proofs.SlotLemmas.{owner-same}
 use Rattle.page_tables.proofs.Again.{with_cell-same}
 use Rattle.page_tables.proofs.Acting.{tables-acted}
