@@ -39,7 +39,8 @@ parent_place parent snapshot frames inside page place there = (inside.parent_hom
 own_place : (parent : Option Versions) (snapshot : Option Snapshot) (frames : List (Option FrameView)) → AreInside parent snapshot frames → (page place : ℕ) → version_at (own_places snapshot) page ≡ Some place → IsPlaceOf page place
 own_place parent snapshot frames inside page place there = (inside.own_home page place (page_below (own_places snapshot) page place inside.own_size there) there).0
 
-pub at_home : (parent : Option Versions) (snapshot : Option Snapshot) (frames : List (Option FrameView)) → AreInside parent snapshot frames → (page place : ℕ) → IsLive (cell_value parent snapshot frames).leaves page place → IsPlaceOf page place
+pub at_home : (parent : Option Versions) (snapshot : Option Snapshot) (frames : List (Option FrameView)) → AreInside parent snapshot frames
+    → (page place : ℕ) → IsLive (cell_value parent snapshot frames).leaves page place → IsPlaceOf page place
 at_home parent snapshot frames inside page place (inl there) = parent_place parent snapshot frames inside page place there
 at_home parent None frames inside page place (inr named) = absurd named
 at_home parent (Some it) frames inside page place (inr (inl named)) =
@@ -71,7 +72,8 @@ stored-apart pages page at old (b ∷ bytes) there whole room p apart =
     ap (λ m. get m p) (with_bytes_in pages (page * 4096 + at) (b ∷ bytes) old (ap (get pages) in_page ∙ there) whole (rw in_place room))
     ∙ get_inserted_apart pages (page_of (page * 4096 + at)) (spliced old (offset_of (page * 4096 + at)) (b ∷ bytes)) p (λ e. apart (e ∙ in_page))
 
-pub place-below : (parent : Option Versions) (snapshot : Option Snapshot) (frames : List (Option FrameView)) → AreInside parent snapshot frames → (page place : ℕ) → page < 512 → version_at (table_places parent) page ≡ Some place → place < length frames
+pub place-below : (parent : Option Versions) (snapshot : Option Snapshot) (frames : List (Option FrameView)) → AreInside parent snapshot frames
+    → (page place : ℕ) → page < 512 → version_at (table_places parent) page ≡ Some place → place < length frames
 place-below parent snapshot frames inside page place small there = elim (parent_place parent snapshot frames inside page place there) [
   | inl x ↦ omega (arith, small, x, inside.room)
   | inr x ↦ omega (arith, small, x, inside.room)

@@ -28,3 +28,10 @@ pub mod WithoutPages
 pub mod RangeRoom
 pub mod RangeSteps
 pub mod HeldFrames
+pub mod RangeEnds
+pub mod GoneCell
+pub mod FreedSlots
+pub mod LessShare
+pub mod ClearedCell
+pub mod ClearedTables
+pub mod ClearedSlot

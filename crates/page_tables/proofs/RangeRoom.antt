@@ -15,7 +15,7 @@ use Rattle.page_tables.specs.Ranges.{HasRoom, cells_of_pages}
 abbrev pub is_among : ℕ → List ℕ → Bool
 is_among c cells = list_any (eqb c) cells
 
-among-range : (c a n : ℕ) → a ≤ c → c < a + n → is_among c (range_with_len a n) ≡ true
+pub among-range : (c a n : ℕ) → a ≤ c → c < a + n → is_among c (range_with_len a n) ≡ true
 among-range c a zero low high = absurd (omega arith)
 among-range c a (suc n) low high = elim (cases_eq c a) [
   | inl here ↦ ap (λ b. b || is_among c (range_with_len (a + 1) n)) (eq-eqb c a here)

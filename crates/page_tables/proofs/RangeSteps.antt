@@ -1,9 +1,9 @@
 -- The touch of a range goes on by one page, and ends.
 use Rattle.std.proofs.Common.{◌≡◌, ◌≢◌, ℕ, ◌+◌, ◌-◌, ◌/◌, ◌<◌, ◌≤◌, List, [], ◌∷◌, ◌++◌, length, map, Option, Some, None, cond, eqb, refl, sym, ◌∙◌, ap, subst, arith, inl, inr, append_assoc, append-nil}
-use Rattle.std.specs.Prelude.{Bool, true, false, not, is_some, filter, zero, suc}
-use Rattle.std.specs.List.{range_with_len}
+use Rattle.std.specs.Prelude.{Bool, true, false, not, ◌||◌, is_some, filter, zero, suc}
+use Rattle.std.specs.List.{range_with_len, list_any}
 use Rattle.std.specs.FinMap.{get}
-use Rattle.std.proofs.lemmas.Bool.{cases_eq}
+use Rattle.std.proofs.lemmas.Bool.{cases_eq, ne_eqb}
 use Rattle.std.proofs.lemmas.List.Elements.{filter-append}
 use Rattle.vm_base.specs.Places.{cell_of}
 use Rattle.vm_base.specs.Deals.{Deal}
@@ -32,7 +32,7 @@ with_pages-push (suc n) pages first =
     ∙ with_pages-push n (with_page pages first) (first + 1)
     ∙ ap (with_pages pages first) (let e : suc (n + 1) ≡ suc n + 1 = omega arith in e)
 
-get-with_pages_above : (n : ℕ) (pages : PageMap) (first q : ℕ) → first + n ≤ q → get (with_pages pages first n) q ≡ get pages q
+pub get-with_pages_above : (n : ℕ) (pages : PageMap) (first q : ℕ) → first + n ≤ q → get (with_pages pages first n) q ≡ get pages q
 get-with_pages_above zero pages first q above = refl
 get-with_pages_above (suc n) pages first q above = get-with_pages_above n (with_page pages first) (first + 1) q (omega arith) ∙ with_page-apart pages first q (λ e. omega arith)
 
@@ -41,13 +41,17 @@ absent-push pages first n =
     ap (filter (λ page. not (is_some (get pages page)))) (range-split first n 1) ∙ filter-append (λ page. not (is_some (get pages page))) (range_with_len first n) ((first + n) ∷ [])
     ∙ ap (λ xs. absent_pages pages first n ++ xs) (elim (is_some (get pages (first + n))) as (λ b. cond (not b) ((first + n) ∷ []) [] ≡ cond b [] ((first + n) ∷ [])) [ true ↦ refl | false ↦ refl ])
 
+any-append : (test : ℕ → Bool) (xs ys : List ℕ) → list_any test xs ≡ false → list_any test ys ≡ false → list_any test (xs ++ ys) ≡ false
+any-append test [] ys e f = f
+any-append test (x ∷ xs) ys e f = elim (test x) as (λ b. (b || list_any test xs) ≡ false → (b || list_any test (xs ++ ys)) ≡ false) [ true ↦ λ e. e | false ↦ λ e. any-append test xs ys e f ] e
+
 module _ (first n i : ℕ) (small : i < n) (added : List ℕ) (now next : PageTables) (deals more : List Deal) (sides : Sides) (slots : ℕ) (so_far : IsTouchedUpTo first n i added now deals sides slots)
     (page : ℕ) (here : page ≡ first + i) where
   abbrev pub sides_then : Sides
   sides_then = record { leaves = so_far.leaves; pages = with_pages sides.pages first i; snapshots = sides.snapshots; made = so_far.made }
 
   -- the run as it stands before this page
-  before-page : (before : List Deal) (rest : List Answer) → pages_touched first n (progress_between sides.leaves sides.made (answers_of (deals ++ more) ++ rest) before)
+  pub before-page : (before : List Deal) (rest : List Answer) → pages_touched first n (progress_between sides.leaves sides.made (answers_of (deals ++ more) ++ rest) before)
       ≡ touch_goes_on (page_touched page (progress_between so_far.leaves so_far.made (answers_of more ++ rest) (before ++ deals))).refused added (page_touched page (progress_between so_far.leaves so_far.made (answers_of more ++ rest) (before ++ deals)))
           (pages_touched_behind (added ++ added_by so_far.leaves page) (page + 1) (n - (i + 1)) (page_touched page (progress_between so_far.leaves so_far.made (answers_of more ++ rest) (before ++ deals))))
   before-page before rest =
@@ -89,6 +93,11 @@ module _ (first n i : ℕ) (small : i < n) (added : List ℕ) (now next : PageTa
       new =
           let same : is_some (get (with_pages sides.pages first i) page) ≡ is_some (get sides.pages (first + i)) = ap is_some (get-with_pages_above i sides.pages first page (omega (arith, here)) ∙ ap (get sides.pages) here) in
           (λ j. so_far.new j ++ cond ((bytes ∙ same) j) [] (here j ∷ [])) ∙ sym (absent-push sides.pages first i);
+      apart = λ q ready.
+          any-append (eqb q) added (cond was [] (page ∷ [])) (so_far.apart q ready) (elim (cases_eq q page) [
+            | inl same ↦ ap (λ b. list_any (eqb q) (cond b [] (page ∷ []))) (version ∙ subst (λ p. is_some (page_version so_far.leaves p) ≡ true) same (so_far.still q ready).present)
+            | inr other ↦ elim was as (λ b. list_any (eqb q) (cond b [] (page ∷ [])) ≡ false) [ true ↦ refl | false ↦ ap (λ b. b || false) (ne_eqb q page other) ]
+          ]);
       room = λ room.
           let among : is_among (cell_of page) (cells_of_pages first n) ≡ true = page-among first n page (omega (arith, here)) (omega (arith, here, small)) in
           room-then slots so_far.leaves (cells_of_pages first n) (cell_of page) (so_far.room room) among touch.follows.leaves (touch.found refl) (touch.size refl);
@@ -117,5 +126,6 @@ none-touched first n now sides slots st = record {
   ready = λ q low high. absurd (omega arith);
   still = λ q ready. ready;
   new = refl;
+  apart = λ q ready. refl;
   room = λ room. room;
 }

@@ -11,9 +11,7 @@ use Rattle.kernel_meaning.specs.FrameLaw.{Leaves, cell_at, with_cell, is_used}
 use Rattle.kernel_meaning.specs.EventRequests.{page_version, without_page, page_in_cell}
 use Rattle.leaf_cell.specs.Touching.{IsAlone}
 use Rattle.page_tables.specs.Accesses.{IsReady}
-use Rattle.page_tables.specs.Ranges.{AreThere}
 use Rattle.page_tables.proofs.LeafMap.{cell_at-here, cell_at-apart}
-use Rattle.std.specs.List.{list_any}
 use Rattle.page_tables.proofs.TouchShapes.{page-there}
 use Rattle.page_tables.proofs.ParentPages.{version-absent}
 
@@ -88,24 +86,3 @@ ready-left leaves p q apart ready = elim (cases_eq (cell_of q) (cell_of p)) [
           (subst (λ cell. IsAlone cell (q % 512)) (sym (same-cell leaves (cell_of p) new (page-there new (q % 512) alone.present))) alone)
   | inr other ↦ subst (λ cell. IsAlone cell (q % 512)) (sym (other-cell leaves (cell_of p) (record (cell_at leaves (cell_of p)) { parent = without_versions (cell_at leaves (cell_of p)).parent (p % 512) 1 }) (cell_of q) other)) ready
 ]
-
--- the pages of a list rise, and each is above this one
-abbrev pub AreAbove : ℕ → List ℕ → Type 0
-AreAbove low [] = Unit {0}
-AreAbove low (page ∷ pages) = (low < page) × AreAbove page pages
-
--- a number is none of a list that rises above it
-pub not-above : (q : ℕ) (pages : List ℕ) (low : ℕ) → q ≤ low → AreAbove low pages → list_any (eqb q) pages ≡ false
-not-above q [] low small above = refl
-not-above q (page ∷ pages) low small above = ap (λ b. b || list_any (eqb q) pages) (ne_eqb q page (λ e. let a : low < page = above.0 in omega arith)) ∙ not-above q pages page (let a : low < page = above.0 in omega arith) above.1
-
-above-there : (leaves : Leaves) (pages : List ℕ) (low : ℕ) → AreAbove low pages → ((q : ℕ) → list_any (eqb q) pages ≡ true → IsSome (page_version leaves q)) → AreThere leaves pages
-above-there leaves [] low above there = tt
-above-there leaves (page ∷ pages) low above there =
-    (there page (ap (λ b. b || list_any (eqb page) pages) (eq-eqb page page refl)),
-     above-there (without_page page leaves) pages page above.1 (λ q e. ap is_some (version-left leaves page q (λ same. false≢true (sym (not-above q pages page (let s : q ≡ page = same in omega arith) above.1) ∙ e)))
-         ∙ there q (ap (λ b. eqb q page || b) e ∙ or-true (eqb q page))))
-  where
-    or-true : (a : Bool) → (a || true) ≡ true
-    or-true true = refl
-    or-true false = refl

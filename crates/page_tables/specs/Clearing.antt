@@ -1,5 +1,5 @@
 -- What the sides are without some pages of the parent in one cell, and the event that takes them out.
-use Rattle.std.specs.Prelude.{ℕ, ◌+◌, ◌*◌}
+use Rattle.std.specs.Prelude.{ℕ, ◌+◌, ◌*◌, Option, Some, None}
 use Rattle.std.specs.FinMap.{retain_keys}
 use Rattle.vm_base.specs.FlatStep.{is_beyond}
 use Rattle.kernel_meaning.specs.Leaves.{CellLeaves, without_versions}
@@ -24,3 +24,8 @@ sides_without c first n sides = record {
 -- the unmap of n pages in a cell, counted from the first of the cell
 abbrev pub cell_unmapped : ℕ → ℕ → ℕ → Progress → Progress
 cell_unmapped c first n progress = directory_shrunk progress.leaves (with_course c (cleared first n (course_at c progress)) progress)
+
+-- the owner of a slot whose cell the parent has left, where this snapshot has the cell or none has
+abbrev pub owner_left : Option ℕ → Option ℕ → Option ℕ
+owner_left owner None = None
+owner_left owner (Some number) = owner

@@ -1,7 +1,7 @@
 -- The touch of a range of pages, page after page, and what is taken back where one is refused.
-use Rattle.std.specs.Prelude.{◌≡◌, ℕ, ◌+◌, ◌-◌, ◌*◌, ◌/◌, ◌%◌, ◌≤◌, ◌<◌, ◌==◌, if◌then◌else◌, Bool, not, List, [], ◌∷◌, ◌++◌, filter, length, Option, Some, None, IsSome, is_some, Result, Ok, Err}
+use Rattle.std.specs.Prelude.{◌≡◌, ℕ, ◌+◌, ◌-◌, ◌*◌, ◌/◌, ◌%◌, ◌≤◌, ◌<◌, ◌==◌, if◌then◌else◌, Bool, not, false, List, [], ◌∷◌, ◌++◌, filter, length, Option, Some, None, IsSome, is_some, Result, Ok, Err}
 use Rattle.std.specs.FinMap.{get, retain_keys}
-use Rattle.std.specs.List.{range_with_len}
+use Rattle.std.specs.List.{range_with_len, list_any}
 use Rattle.vm_base.specs.Deals.{Deal, LeadsAlong}
 use Rattle.vm_base.specs.Places.{cell_of}
 use Rattle.vm_base.specs.FlatMemory.{PageMap}
@@ -63,6 +63,7 @@ pub record IsTouchedUpTo (first n i : ℕ) (added : List ℕ) (now : PageTables)
   pub ready : (q : ℕ) → first ≤ q → q < first + i → IsReady leaves q
   pub still : (q : ℕ) → IsReady sides.leaves q → IsReady leaves q
   pub new : added ≡ absent_pages sides.pages first i
+  pub apart : (q : ℕ) → IsReady sides.leaves q → list_any (λ page. q == page) added ≡ false
   pub room : HasRoom slots sides.leaves (cells_of_pages first n) → HasRoom slots leaves (cells_of_pages first n)
 
 -- a call has touched the first i of n pages, and noted those that it added

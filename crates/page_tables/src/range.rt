@@ -7,7 +7,7 @@ ghost use Rattle.table_levels.specs.Requests.{returned};
 ghost use Rattle.kernel_meaning.specs.EventRequests.{page_version};
 ghost use Rattle.page_tables.specs.Sides.{Sides};
 ghost use Rattle.page_tables.specs.Standing.{TablesStandFor, slot_count};
-ghost use Rattle.page_tables.specs.Held.{frames_of};
+ghost use Rattle.page_tables.specs.Held.{frames_of, frames_in, shares_in};
 ghost use Rattle.page_tables.specs.Ranges.{MadeRange, HasRoom, cells_of_pages, range_refusal, sides_without_pages, AreThere};
 
 use crate::tables::PageTables;
@@ -93,6 +93,8 @@ impl PageTables {
         ensures untold { A.grants allot.new ≡ None }
         ensures slots { slot_count self.new ≡ slot_count self.old }
         ensures unrefused { A.refused (A.state allot.new) ≡ A.refused (A.state allot.old) }
+        ensures even { frames_in self.old.slots.items + shares_in self.new.slots.items ≡ shares_in self.old.slots.items + frames_in self.new.slots.items }
+        ensures snapshot { self.new.snapshot ≡ self.old.snapshot }
     {
         for &page in added {
             let cell = (page / CELL_PAGES) as u32;

@@ -14,10 +14,6 @@ loop-page-init g c = record {
 }
 
 -- src/range.rt:100:13
-pub clear_in_cell-requires-clause-pending : goal.clear_in_cell-requires-clause-pending
-clear_in_cell-requires-clause-pending g c = ?
-
--- src/range.rt:100:13
 pub clear_in_cell-requires-clause-stands : goal.clear_in_cell-requires-clause-stands
 clear_in_cell-requires-clause-stands g c =
     let so_far = c.loop-page.invariant.taken in
@@ -35,7 +31,7 @@ loop-page-preserved g c =
       taken = subst (λ done. IsTakenBack g.A.Allot.goes g.A.Allot.refused g.A.Allot.out (g.A.Allot.state c.args.allot.now) (g.A.Allot.state c.clear_in_cell.new.allot) done (drop (i + 1) c.args.added.now) c.args.self.now c.clear_in_cell.new.self)
           (sym (take-one-more c.args.added.now i c.loop-page-test.true))
           (one-more g.A.Allot.goes g.A.Allot.refused g.A.Allot.out (g.A.Allot.state c.args.allot.now) (g.A.Allot.state c.loop-page.allot) (g.A.Allot.state c.clear_in_cell.new.allot) (take i c.args.added.now) (drop (i + 1) c.args.added.now) page c.args.self.now c.loop-page.self c.clear_in_cell.new.self
-              so_far c.clear_in_cell.ensures.given c.clear_in_cell.ensures.shrunk c.clear_in_cell.ensures.follows c.clear_in_cell.ensures.held c.clear_in_cell.ensures.slots c.clear_in_cell.ensures.unrefused);
+              so_far c.clear_in_cell.ensures.given c.clear_in_cell.ensures.shrunk c.clear_in_cell.ensures.follows c.clear_in_cell.ensures.held c.clear_in_cell.ensures.slots c.clear_in_cell.ensures.unrefused c.clear_in_cell.ensures.even c.clear_in_cell.ensures.snapshot);
       untold = c.clear_in_cell.ensures.untold;
     }
 
