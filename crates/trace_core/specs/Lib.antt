@@ -4,3 +4,4 @@ pub mod Answering
 pub mod KernelState
 pub mod EventMeaning
 pub mod RunMeaning
+pub mod Supplied
