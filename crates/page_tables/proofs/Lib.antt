@@ -11,3 +11,4 @@ pub mod Room
 pub mod Again
 pub mod Rows
 pub mod NewTouch
+pub mod HeldFrames
