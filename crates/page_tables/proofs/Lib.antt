@@ -12,3 +12,6 @@ pub mod Again
 pub mod Rows
 pub mod NewTouch
 pub mod HeldFrames
+pub mod SnapshotShares
+pub mod ForkSlots
+pub mod Changing

@@ -7,6 +7,7 @@
 //! beside this crate goes on from here.
 #![tactic(auto)]
 
+mod fork;
 mod slot;
 mod tables;
 mod touch;

@@ -46,7 +46,7 @@ returns-clause-made g c =
       deals = c.touch.ensures.made.deals;
       led = c.touch.ensures.made.led;
       follows = λ sides st. known-follows c.args.self.now sides st c.args.page c.args.slot c.index_mut.result.now c.requires.known here c.touch.new.self c.touch.ensures.made.deals c.touch.result c.touch.ensures.made.follows
-          (record { directory = c.args.self.now.directory; snapshot = c.args.self.now.snapshot; slots = with_item c.args.self.now.slots c.args.slot (record { owner = c.index_mut.result.now.owner; cell = c.touch.new.self }) })
+          (record { directory = c.args.self.now.directory; snapshot = c.args.self.now.snapshot; spare = c.args.self.now.spare; spared = c.self-2-1.given.0; slots = with_item c.args.self.now.slots c.args.slot (record { owner = c.index_mut.result.now.owner; cell = c.touch.new.self }) })
           refl refl (ap (λ owner. slice_set c.args.self.now.slots.items c.args.slot (record { owner = owner; cell = c.touch.new.self })) mine);
     }
 

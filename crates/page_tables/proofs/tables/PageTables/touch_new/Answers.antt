@@ -16,7 +16,7 @@ use Rattle.table_levels.proofs.Counting.{tables_of-insert}
 use Rattle.page_tables.specs.declared.slot.Slot.{Slot}
 use Rattle.page_tables.specs.declared.tables.PageTables.{PageTables}
 use Rattle.page_tables.specs.Sides.{Sides}
-use Rattle.page_tables.specs.Standing.{TablesStandFor, IsSlotFor}
+use Rattle.page_tables.specs.Standing.{TablesStandFor, StandFor, IsSlotFor}
 use Rattle.page_tables.specs.Held.{frames_in, snapshot_frames}
 use Rattle.kernel_meaning.specs.EventRequests.{page_touched}
 use Rattle.page_tables.specs.Making.{Follows, pages_with}
@@ -42,10 +42,11 @@ returns-in-Err-clause-made g c =
       deals = deals_up_to refuses.front refuses.want c.in-Err.refused.at;
       led = refuses.deals;
       follows = λ sides st.
-          subst (λ d. Follows (page_touched c.args.page) (pages_with c.args.page) (record { directory = d; snapshot = old.snapshot; slots = old.slots }) (deals_up_to refuses.front refuses.want c.in-Err.refused.at) (Some (record { at = c.in-Err.refused.at; page = Some c.args.page })) sides)
-              (sym c.in-Err.ensures.kept)
-              (lacking-follows old sides st c.args.page c.args.slot home.slot c.requires.new home.here (fits-again old.directory old.snapshot old.slots.items c.requires.stands.0 sides c.requires.stands.1.0 st (cell_of c.args.page) home.slot.owner home.fits)
-                  refuses.front refuses.want refuses.rest refuses.order c.in-Err.refused.at);
+          let before : Follows (page_touched c.args.page) (pages_with c.args.page) old (deals_up_to refuses.front refuses.want c.in-Err.refused.at) (Some (record { at = c.in-Err.refused.at; page = Some c.args.page })) sides =
+              lacking-follows old sides st c.args.page c.args.slot home.slot c.requires.new home.here (fits-again old.directory old.snapshot old.slots.items c.requires.stands.0 sides c.requires.stands.1.0 st (cell_of c.args.page) home.slot.owner home.fits)
+                  refuses.front refuses.want refuses.rest refuses.order c.in-Err.refused.at in
+          let then : Sides = record { leaves = before.leaves; pages = sides.pages; snapshots = sides.snapshots; made = before.made } in
+          record { leaves = before.leaves; made = before.made; runs = before.runs; stands = subst (λ d. StandFor d old.snapshot old.slots.items then) (sym c.in-Err.ensures.kept) before.stands };
     }
 
 -- src/touch.rt:77:25
@@ -90,7 +91,7 @@ returns-in-Ok-touch-clause-made g c =
               fits-again old.directory old.snapshot old.slots.items c.requires.stands.0 sides c.requires.stands.1.0 st (cell_of c.args.page) c.index_mut-home.result.now.owner (subst (λ it. IsSlotFor c.requires.stands.0.leaves (cell_of c.args.page) it.owner) (same_slot home.slot c.index_mut-home.result.now (sym home.here ∙ here)) home.fits) in
           granted-follows old sides st c.args.page c.args.slot c.index_mut-home.result.now c.requires.new here fits c.touch.new.self made.deals
               (made.follows (account old sides st c.args.page c.args.slot c.index_mut-home.result.now c.requires.new here fits) (stood old sides st c.args.page c.args.slot c.index_mut-home.result.now c.requires.new here fits))
-              (record { directory = c.insert.new.self; snapshot = old.snapshot; slots = with_item old.slots c.args.slot (record { owner = Some (cell_of c.args.page); cell = c.touch.new.self }) })
+              (record { directory = c.insert.new.self; snapshot = old.snapshot; spare = old.spare; spared = c.self-in-Ok-touch-2-1.given.0; slots = with_item old.slots c.args.slot (record { owner = Some (cell_of c.args.page); cell = c.touch.new.self }) })
               c.in-Ok.ensures.added refl refl;
     }
 
@@ -131,7 +132,7 @@ returns-in-Err-touch-clause-made g c =
               fits-again old.directory old.snapshot old.slots.items c.requires.stands.0 sides c.requires.stands.1.0 st cell c.index_mut-home.result.now.owner (subst (λ it. IsSlotFor c.requires.stands.0.leaves cell it.owner) (same_slot home.slot c.index_mut-home.result.now (sym home.here ∙ here)) home.fits) in
           refused-follows old sides st c.args.page c.args.slot c.index_mut-home.result.now c.requires.new here fits c.touch.new.self made.deals at
               (made.follows (account old sides st c.args.page c.args.slot c.index_mut-home.result.now c.requires.new here fits) (stood old sides st c.args.page c.args.slot c.index_mut-home.result.now c.requires.new here fits))
-              (record { directory = c.remove.new.self; snapshot = old.snapshot; slots = with_item old.slots c.args.slot (record { owner = c.index_mut-home.result.now.owner; cell = c.touch.new.self }) })
+              (record { directory = c.remove.new.self; snapshot = old.snapshot; spare = old.spare; spared = c.self-in-Err-touch-2.given.0; slots = with_item old.slots c.args.slot (record { owner = c.index_mut-home.result.now.owner; cell = c.touch.new.self }) })
               gone refl
               (ap (λ view. slice_set old.slots.items c.args.slot (record { owner = c.index_mut-home.result.now.owner; cell = view })) c.in-Err-touch.ensures.refused ∙ set-same old.slots.items c.args.slot c.index_mut-home.result.now here);
     }
