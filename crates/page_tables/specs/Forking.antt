@@ -82,7 +82,7 @@ owner_left slot = if is_used slot.cell.leaves then slot.owner else None
 -- slots whose cells nobody has have no owner
 pub record AreFreed (old new : List Slot) : Type 0 where
   pub size : length new ≡ length old
-  pub each : (s : ℕ) (slot : Slot) → slice_get old s ≡ Some slot → (it : Slot) × ((slice_get new s ≡ Some it) × (it.cell ≡ slot.cell) × (it.owner ≡ owner_left slot))
+  pub each : (s : ℕ) (slot : Slot) → slice_get old s ≡ Some slot → (it : Slot) × ((slice_get new s ≡ Some it) × ((it.cell ≡ slot.cell) × (it.owner ≡ owner_left slot)))
 
 -- ---- both sides
 

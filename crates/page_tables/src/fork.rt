@@ -14,7 +14,7 @@ ghost use Rattle.table_levels.specs.Requests.{Asks, directory_wants};
 ghost use Rattle.page_tables.specs.Sides.{Sides};
 ghost use Rattle.page_tables.specs.Standing.{TablesStandFor, number_of, slot_count};
 ghost use Rattle.page_tables.specs.Held.{frames_in, frames_of};
-ghost use Rattle.page_tables.specs.Forking.{Becomes, AllBecome, HaveAccounts, AreAlone, AreFreed, is_forked, forked_count, forked_leaves, forked_state, same_leaves, same_state, dropped_state, fork_refusal, snapshots_with, snapshots_without, MadeOfSnapshots};
+ghost use Rattle.page_tables.specs.Forking.{Becomes, AllBecome, HaveAccounts, AreAlone, AreFreed, owner_left, is_forked, forked_count, forked_leaves, forked_state, same_leaves, same_state, dropped_state, fork_refusal, snapshots_with, snapshots_without, MadeOfSnapshots};
 ghost use Rattle.page_tables.specs.Returning.{Returning};
 
 use crate::slot::Slot;
@@ -209,14 +209,22 @@ fn free_unused(slots: &mut Vec<Slot>)
     ensures { AreFreed slots.old.items slots.new.items }
 {
     for i in 0..slots.len() {
-        if is_unused(&slots[i].cell) {
-            slots[i].owner = None;
-        }
+        free_if_unused(&mut slots[i]);
+    }
+}
+
+/// Takes the owner of a cell that nobody has any more.
+pub(crate) fn free_if_unused(slot: &mut Slot)
+    ensures cell { slot.new.cell ≡ slot.old.cell }
+    ensures owner { slot.new.owner ≡ owner_left slot.old }
+{
+    if is_unused(&slot.cell) {
+        slot.owner = None;
     }
 }
 
 /// Whether nobody has a cell.
-pub(crate) fn is_unused(cell: &Cell) -> bool
+fn is_unused(cell: &Cell) -> bool
     ensures { result ≡ not (is_used cell.now.leaves) }
 {
     cell.pages() == 0 && cell.snap(0).is_none()
