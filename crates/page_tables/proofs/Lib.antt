@@ -15,3 +15,4 @@ pub mod HeldFrames
 pub mod SnapshotShares
 pub mod ForkSlots
 pub mod Changing
+pub mod ForkWants
