@@ -26,7 +26,7 @@ use Rattle.page_tables.proofs.SnapshotShares.{share-forked}
 use Rattle.page_tables.proofs.ForkSlots.{alone-meant, stands-alone}
 use Rattle.page_tables.proofs.SlotLemmas.{slice_get-set-here, slice_get-set-apart, length-set}
 
-slice_get_there : (slots : List Slot) (s : ℕ) → s < length slots → (slot : Slot) × (slice_get slots s ≡ Some slot)
+pub slice_get_there : (slots : List Slot) (s : ℕ) → s < length slots → (slot : Slot) × (slice_get slots s ≡ Some slot)
 slice_get_there [] s within = absurd (omega arith)
 slice_get_there (slot ∷ slots) zero within = (slot, refl)
 slice_get_there (slot ∷ slots) (suc s) within = slice_get_there slots s (omega arith)

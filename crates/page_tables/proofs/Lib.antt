@@ -16,3 +16,8 @@ pub mod SnapshotShares
 pub mod ForkSlots
 pub mod Changing
 pub mod ForkWants
+pub mod StandingFacts
+pub mod ForkedLeaves
+pub mod ForkedTables
+pub mod DroppedLeaves
+pub mod DroppedTables
