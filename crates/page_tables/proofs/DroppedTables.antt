@@ -155,7 +155,7 @@ module _ (directory : CellMap) (tables : SnapshotTables) (slots : List Slot) (si
   owner-then slot to it s here become left = left ∙ ap (λ o. cond (is_used to.cell.leaves) o None) become.owner ∙ by slot.owner (stood slot to s here become)
     where
       by : (owner : Option ℕ) → StandsFor to.cell (record { state = dropped_state n (state_in st.cells owner); made = sides.made }) → cond (is_used to.cell.leaves) owner None ≡ still owner
-      by None stands = elim (is_used to.cell.leaves) as (λ b. cond b None None ≡ None) [ true ↦ refl | false ↦ refl ]
+      by None stands = elim (is_used to.cell.leaves) as (λ b. cond {A = Option ℕ} b None None ≡ None) [ true ↦ refl | false ↦ refl ]
       by (Some c) stands = ap (λ b. cond b (Some c) None) (used-viewed to.cell (record { state = dropped_state n (st.cells c); made = sides.made }) stands (kept-gone c) ∙ ap is_used (leaves-dropped c))
 
   -- the changed slots, and those with their owners taken
