@@ -20,8 +20,9 @@ use Rattle.table_levels.specs.Requests.{granted, returned, RefusesOne}
 use Rattle.table_levels.proofs.Asking.{returned-append, refuses_after}
 use Rattle.table_levels.proofs.Copied.{replicate-append, refuses_before}
 use Rattle.page_tables.specs.declared.slot.Slot.{Slot}
+use Rattle.page_tables.specs.Held.{shares_in}
 use Rattle.page_tables.specs.Forking.{Becomes, AllBecome, HaveAccounts, AreAlone, is_forked, forked_count, forked_leaves, forked_state, same_leaves, same_state, dropped_state}
-use Rattle.page_tables.specs.Returning.{shares_in, Returning}
+use Rattle.page_tables.specs.Returning.{Returning}
 use Rattle.page_tables.proofs.SnapshotShares.{share-forked}
 use Rattle.page_tables.proofs.ForkSlots.{alone-meant, stands-alone}
 use Rattle.page_tables.proofs.SlotLemmas.{slice_get-set-here, slice_get-set-apart, length-set}

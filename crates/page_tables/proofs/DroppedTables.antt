@@ -26,10 +26,10 @@ use Rattle.page_tables.specs.declared.tables.SnapshotTables.{SnapshotTables}
 use Rattle.page_tables.specs.declared.tables.PageTables.{PageTables}
 use Rattle.page_tables.specs.Sides.{Sides}
 use Rattle.page_tables.specs.Courses.{requests_between, progress_between, Runs}
-use Rattle.page_tables.specs.Held.{frames_in}
+use Rattle.page_tables.specs.Held.{frames_in, shares_in}
 use Rattle.page_tables.specs.Standing.{owner_at, state_in, AreKept, AreCellsOf, AreSlotsOf, StandFor, TablesStandFor, number_of}
-use Rattle.page_tables.specs.Forking.{AllBecome, Becomes, AreFreed, owner_left, dropped_state, snapshots_without, MadeOfSnapshots}
-use Rattle.page_tables.specs.Returning.{shares_in, Returning}
+use Rattle.page_tables.specs.Forking.{AllBecome, Becomes, AreFreed, owner_if_used, dropped_state, snapshots_without, MadeOfSnapshots}
+use Rattle.page_tables.specs.Returning.{Returning}
 use Rattle.page_tables.proofs.TouchRuns.{answers-returned}
 use Rattle.page_tables.proofs.LeafMap.{same_number}
 use Rattle.page_tables.proofs.HeldFrames.{frames-law}
@@ -86,7 +86,7 @@ owners-mapped f none (slot ∷ old) (it ∷ new) size each (suc t) = owners-mapp
 
 -- slots with the same cells
 pub freed-sum : (f : Slot → ℕ) → ((slot it : Slot) → it.cell ≡ slot.cell → f it ≡ f slot) → (old new : List Slot) → AreFreed old new → sum_by f new ≡ sum_by f old
-freed-sum f same old new freed = sums-same f old new freed.size (λ s slot here. let it : (it : Slot) × ((slice_get new s ≡ Some it) × ((it.cell ≡ slot.cell) × (it.owner ≡ owner_left slot))) = freed.each s slot here in (it.0, (it.1.0, same slot it.0 it.1.1.0)))
+freed-sum f same old new freed = sums-same f old new freed.size (λ s slot here. let it : (it : Slot) × ((slice_get new s ≡ Some it) × ((it.cell ≡ slot.cell) × (it.owner ≡ owner_if_used slot))) = freed.each s slot here in (it.0, (it.1.0, same slot it.0 it.1.1.0)))
 
 -- a slot behind the drop, with the owner that is left
 record IsLeft (n : ℕ) (slot : Slot) (new : List Slot) (s : ℕ) (owner : Option ℕ) : Type 0 where
@@ -151,7 +151,7 @@ module _ (directory : CellMap) (tables : SnapshotTables) (slots : List Slot) (si
   kept-gone c = ap (λ cell. cell.kept) (leaves-dropped c) ∙ alone c
 
   -- the owner of a slot then
-  owner-then : (slot to it : Slot) (s : ℕ) → slice_get slots s ≡ Some slot → Becomes (without_snapshot n) (dropped_state n) slot to → it.owner ≡ owner_left to → it.owner ≡ still slot.owner
+  owner-then : (slot to it : Slot) (s : ℕ) → slice_get slots s ≡ Some slot → Becomes (without_snapshot n) (dropped_state n) slot to → it.owner ≡ owner_if_used to → it.owner ≡ still slot.owner
   owner-then slot to it s here become left = left ∙ ap (λ o. cond (is_used to.cell.leaves) o None) become.owner ∙ by slot.owner (stood slot to s here become)
     where
       by : (owner : Option ℕ) → StandsFor to.cell (record { state = dropped_state n (state_in st.cells owner); made = sides.made }) → cond (is_used to.cell.leaves) owner None ≡ still owner
@@ -162,7 +162,7 @@ module _ (directory : CellMap) (tables : SnapshotTables) (slots : List Slot) (si
   both : (s : ℕ) (slot : Slot) → slice_get slots s ≡ Some slot → IsLeft n slot new s (still slot.owner)
   both s slot here =
       let first : (to : Slot) × ((slice_get mid s ≡ Some to) × Becomes (without_snapshot n) (dropped_state n) slot to) = dropped.each s slot here in
-      let second : (it : Slot) × ((slice_get new s ≡ Some it) × ((it.cell ≡ first.0.cell) × (it.owner ≡ owner_left first.0))) = freed.each s first.0 first.1.0 in
+      let second : (it : Slot) × ((slice_get new s ≡ Some it) × ((it.cell ≡ first.0.cell) × (it.owner ≡ owner_if_used first.0))) = freed.each s first.0 first.1.0 in
       record { to = first.0; it = second.0; become = first.1.1; there = second.1.0; cell = second.1.1.0; owned = owner-then slot first.0 second.0 s here first.1.1 second.1.1.1 }
 
   size_then : length new ≡ length slots

@@ -20,8 +20,9 @@ use Rattle.leaf_cell.proofs.Renamed.{has_pages-renamed}
 use Rattle.leaf_cell.proofs.HeldShare.{share-stands}
 use Rattle.table_levels.specs.Requests.{Asks, returned}
 use Rattle.page_tables.specs.declared.slot.Slot.{Slot}
+use Rattle.page_tables.specs.Held.{shares_in}
 use Rattle.page_tables.specs.Forking.{Becomes, is_forked, forked_leaves, forked_state, same_leaves, same_state, dropped_state}
-use Rattle.page_tables.specs.Returning.{shares_in, Returning}
+use Rattle.page_tables.specs.Returning.{Returning}
 use Rattle.page_tables.proofs.SnapshotShares.{share-falls}
 
 -- ---- no snapshot on one side

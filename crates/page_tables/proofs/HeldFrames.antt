@@ -21,8 +21,7 @@ use Rattle.page_tables.specs.declared.slot.Slot.{Slot}
 use Rattle.page_tables.specs.declared.tables.SnapshotTables.{SnapshotTables}
 use Rattle.page_tables.specs.Sides.{Sides}
 use Rattle.page_tables.specs.Standing.{owner_at, state_in, numbers_at, free_slot, StandFor}
-use Rattle.page_tables.specs.Held.{frames_in, snapshot_frames}
-use Rattle.page_tables.specs.Returning.{shares_in}
+use Rattle.page_tables.specs.Held.{frames_in, shares_in, snapshot_frames}
 use Rattle.page_tables.proofs.LeafMap.{same_number, missed-below, passes, keys-alike, sorted-filter, is_some-filter}
 use Rattle.page_tables.proofs.SlotLemmas.{slice_get-set-here, slice_get-set-apart}
 use Rattle.page_tables.proofs.Room.{directory-cells}

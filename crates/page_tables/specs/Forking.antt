@@ -76,13 +76,13 @@ abbrev pub dropped_state : ℕ → CellState → CellState
 dropped_state n state = record { leaves = without_snapshot n state.leaves; pages = state.pages; snapshots = remove state.snapshots n }
 
 -- the owner that a slot keeps: none where nobody has the cell
-abbrev pub owner_left : Slot → Option ℕ
-owner_left slot = if is_used slot.cell.leaves then slot.owner else None
+abbrev pub owner_if_used : Slot → Option ℕ
+owner_if_used slot = if is_used slot.cell.leaves then slot.owner else None
 
 -- slots whose cells nobody has have no owner
 pub record AreFreed (old new : List Slot) : Type 0 where
   pub size : length new ≡ length old
-  pub each : (s : ℕ) (slot : Slot) → slice_get old s ≡ Some slot → (it : Slot) × ((slice_get new s ≡ Some it) × ((it.cell ≡ slot.cell) × (it.owner ≡ owner_left slot)))
+  pub each : (s : ℕ) (slot : Slot) → slice_get old s ≡ Some slot → (it : Slot) × ((slice_get new s ≡ Some it) × ((it.cell ≡ slot.cell) × (it.owner ≡ owner_if_used slot)))
 
 -- ---- both sides
 

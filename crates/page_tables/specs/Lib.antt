@@ -2,7 +2,10 @@ pub mod Courses
 pub mod Sides
 pub mod Standing
 pub mod Held
+pub mod Accesses
 pub mod Making
-pub mod Forking
+pub mod Clearing
+pub mod Ranges
 pub mod Spare
 pub mod Returning
+pub mod Forking

@@ -1,13 +1,9 @@
 -- Frames that cells give back.
-use Rattle.std.specs.Prelude.{◌≡◌, ℕ, ◌+◌, List, sum_by}
+use Rattle.std.specs.Prelude.{◌≡◌, ℕ, ◌+◌, List}
 use Rattle.vm_base.specs.Deals.{Deal, LeadsAlong}
-use Rattle.kernel_meaning.specs.Leaves.{share}
 use Rattle.table_levels.specs.Requests.{returned}
 use Rattle.page_tables.specs.declared.slot.Slot.{Slot}
-
--- the shares of the cells that lie in slots
-abbrev pub shares_in : List Slot → ℕ
-shares_in slots = sum_by (λ slot. share slot.cell.leaves) slots
+use Rattle.page_tables.specs.Held.{shares_in}
 
 -- so many frames were given back as the shares have shrunk by
 pub record Returning {State : Type 0} (goes : State → Deal → State → Type 0) (from to : State) (old new : List Slot) : Type 0 where

@@ -99,6 +99,11 @@ abbrev pub IsSlotOf : List Slot → Option ℕ → Option ℕ → Type 0
 IsSlotOf slots owner None = (s : ℕ) (slot : Slot) → slice_get slots s ≡ Some slot → slot.owner ≢ owner
 IsSlotOf slots owner (Some s) = (slot : Slot) × ((slice_get slots s ≡ Some slot) × (slot.owner ≡ owner))
 
+-- the slot that a cell has, or else a free one; or there is neither
+abbrev pub IsSlotChosen : List Slot → ℕ → Option ℕ → Type 0
+IsSlotChosen slots c None = IsSlotOf slots (Some c) None × IsSlotOf slots None None
+IsSlotChosen slots c (Some s) = IsSlotOf slots (Some c) (Some s) ⊎ (IsSlotOf slots (Some c) None × IsSlotOf slots None (Some s))
+
 -- a slot that the cell has, or a free one while the cell has none
 abbrev pub IsSlotFor : Leaves → ℕ → Option ℕ → Type 0
 IsSlotFor leaves c owner = (owner ≡ Some c) ⊎ ((owner ≡ None) × (is_some (find nat_cmp c leaves) ≡ false))

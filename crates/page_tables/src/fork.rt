@@ -14,7 +14,7 @@ ghost use Rattle.table_levels.specs.Requests.{Asks, directory_wants};
 ghost use Rattle.page_tables.specs.Sides.{Sides};
 ghost use Rattle.page_tables.specs.Standing.{TablesStandFor, number_of, slot_count};
 ghost use Rattle.page_tables.specs.Held.{frames_in, frames_of};
-ghost use Rattle.page_tables.specs.Forking.{Becomes, AllBecome, HaveAccounts, AreAlone, AreFreed, owner_left, is_forked, forked_count, forked_leaves, forked_state, same_leaves, same_state, dropped_state, fork_refusal, snapshots_with, snapshots_without, MadeOfSnapshots};
+ghost use Rattle.page_tables.specs.Forking.{Becomes, AllBecome, HaveAccounts, AreAlone, AreFreed, owner_if_used, is_forked, forked_count, forked_leaves, forked_state, same_leaves, same_state, dropped_state, fork_refusal, snapshots_with, snapshots_without, MadeOfSnapshots};
 ghost use Rattle.page_tables.specs.Returning.{Returning};
 
 use crate::slot::Slot;
@@ -216,7 +216,7 @@ fn free_unused(slots: &mut Vec<Slot>)
 /// Takes the owner of a cell that nobody has any more.
 pub(crate) fn free_if_unused(slot: &mut Slot)
     ensures cell { slot.new.cell ≡ slot.old.cell }
-    ensures owner { slot.new.owner ≡ owner_left slot.old }
+    ensures owner { slot.new.owner ≡ owner_if_used slot.old }
 {
     if is_unused(&slot.cell) {
         slot.owner = None;

@@ -7,7 +7,11 @@
 //! beside this crate goes on from here.
 #![tactic(auto)]
 
+mod access;
+mod clear;
 mod fork;
+mod pieces;
+mod range;
 mod slot;
 mod tables;
 mod touch;

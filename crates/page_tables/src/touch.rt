@@ -1,13 +1,13 @@
 //! Touching pages.
-ghost use Rattle.std.specs.Prelude.{◌≡◌, ◌+◌, ◌≤◌, ◌<◌, ◌^◌, None, Some, false, length, ◌⊎◌, ◌∷◌, []};
+ghost use Rattle.std.specs.Prelude.{◌≡◌, ◌+◌, ◌≤◌, ◌<◌, ◌^◌, IfErr, None, Some, false, length, ◌∷◌, []};
 ghost use Rattle.std.specs.FinMap.{get};
+ghost use Rattle.vm_base.specs.Counts.{next_count};
 ghost use Rattle.vm_base.specs.Places.{cell_of};
-ghost use Rattle.kernel_meaning.specs.EventRequests.{page_touched};
 ghost use Rattle.kernel_meaning.specs.FrameLaw.{lacks_slots};
 ghost use Rattle.page_tables.specs.Sides.{Sides};
-ghost use Rattle.page_tables.specs.Standing.{TablesStandFor, HasSlotFor, IsSlotOf, slot_count};
+ghost use Rattle.page_tables.specs.Standing.{TablesStandFor, HasSlotFor, IsSlotOf, IsSlotChosen, slot_count};
 ghost use Rattle.page_tables.specs.Held.{frames_of};
-ghost use Rattle.page_tables.specs.Making.{MadeEvent, page_refusal, pages_with};
+ghost use Rattle.page_tables.specs.Making.{MadeTouch, page_refusal};
 
 use crate::slot::Slot;
 use crate::tables::PageTables;
@@ -25,9 +25,10 @@ impl PageTables {
         requires stands { (sides : Sides) × (TablesStandFor self.old sides × (lacks_slots (slot_count self.old) sides.leaves (cell_of page ∷ []) ≡ false)) }
         requires lent { frames_of self.old ≤ A.out (A.state allot.old) }
         requires untold { A.grants allot.old ≡ None }
-        ensures made { MadeEvent A.goes (A.state allot.old) (A.state allot.new) (page_touched page) (pages_with page) self.old self.new (page_refusal page result) }
+        ensures made { MadeTouch A.goes (A.state allot.old) (A.state allot.new) page self.old self.new (page_refusal page result) }
         ensures held { A.out (A.state allot.new) + frames_of self.old ≡ A.out (A.state allot.old) + frames_of self.new }
         ensures untold { A.grants allot.new ≡ None }
+        ensures counted { IfErr result (λ e. (A.refused (A.state allot.new) ≡ next_count (A.refused (A.state allot.old))) × (e.at ≡ A.refused (A.state allot.new))) }
         ensures slots { slot_count self.new ≡ slot_count self.old }
     {
         let cell = (page / CELL_PAGES) as u32;
@@ -47,9 +48,10 @@ impl PageTables {
         requires stands { (sides : Sides) × TablesStandFor self.old sides }
         requires lent { frames_of self.old ≤ A.out (A.state allot.old) }
         requires untold { A.grants allot.old ≡ None }
-        ensures made { MadeEvent A.goes (A.state allot.old) (A.state allot.new) (page_touched page) (pages_with page) self.old self.new (page_refusal page result) }
+        ensures made { MadeTouch A.goes (A.state allot.old) (A.state allot.new) page self.old self.new (page_refusal page result) }
         ensures held { A.out (A.state allot.new) + frames_of self.old ≡ A.out (A.state allot.old) + frames_of self.new }
         ensures untold { A.grants allot.new ≡ None }
+        ensures counted { IfErr result (λ e. (A.refused (A.state allot.new) ≡ next_count (A.refused (A.state allot.old))) × (e.at ≡ A.refused (A.state allot.new))) }
         ensures slots { slot_count self.new ≡ slot_count self.old }
     {
         let index = (page % CELL_PAGES) as u16;
@@ -63,9 +65,10 @@ impl PageTables {
         requires stands { (sides : Sides) × (TablesStandFor self.old sides × HasSlotFor self.old sides.leaves (cell_of page) slot) }
         requires lent { frames_of self.old ≤ A.out (A.state allot.old) }
         requires untold { A.grants allot.old ≡ None }
-        ensures made { MadeEvent A.goes (A.state allot.old) (A.state allot.new) (page_touched page) (pages_with page) self.old self.new (page_refusal page result) }
+        ensures made { MadeTouch A.goes (A.state allot.old) (A.state allot.new) page self.old self.new (page_refusal page result) }
         ensures held { A.out (A.state allot.new) + frames_of self.old ≡ A.out (A.state allot.old) + frames_of self.new }
         ensures untold { A.grants allot.new ≡ None }
+        ensures counted { IfErr result (λ e. (A.refused (A.state allot.new) ≡ next_count (A.refused (A.state allot.old))) × (e.at ≡ A.refused (A.state allot.new))) }
         ensures slots { slot_count self.new ≡ slot_count self.old }
     {
         let cell = (page / CELL_PAGES) as u32;
@@ -90,7 +93,7 @@ impl PageTables {
     /// The slot that a cell has, or else a free one.
     fn slot_for(&self, cell: u32) -> Option<u32>
         requires { slot_count self.now ≤ 512 }
-        ensures { IsSlotOf self.now.slots.items (Some cell) result ⊎ (IsSlotOf self.now.slots.items (Some cell) None × IsSlotOf self.now.slots.items None result) }
+        ensures { IsSlotChosen self.now.slots.items cell result }
     {
         match slot_of(&self.slots, Some(cell)) {
             Some(slot) => Some(slot),

@@ -8,9 +8,8 @@ use Rattle.leaf_cell.specs.CellView.{held_of, without_snapshot}
 use Rattle.table_levels.specs.Requests.{granted}
 use Rattle.table_levels.proofs.Copied.{grants_more, replicate-append}
 use Rattle.page_tables.specs.declared.slot.Slot.{Slot}
-use Rattle.page_tables.specs.Held.{frames_in}
+use Rattle.page_tables.specs.Held.{frames_in, shares_in}
 use Rattle.page_tables.specs.Forking.{Becomes, AllBecome, HaveAccounts, is_forked, forked_count, forked_leaves, forked_state, same_leaves, same_state, dropped_state}
-use Rattle.page_tables.specs.Returning.{shares_in}
 use Rattle.page_tables.proofs.Changing.{none-changed, one-changed, all-changed, accounts-now, undone, same-shares, count-next, shares-next, refused-behind}
 use Rattle.page_tables.proofs.OwnedSlots.{frames-set, read-slot, held-within}
 use Rattle.page_tables.proofs.fork.fork_cells.Goals as goal

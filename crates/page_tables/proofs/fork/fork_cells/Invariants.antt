@@ -2,9 +2,8 @@ use Rattle.std.proofs.Common.{◌≡◌, ◌+◌, None, take, replicate}
 use Rattle.vm_base.specs.declared.frame_request.Want.TheVariants as want
 use Rattle.vm_base.specs.Deals.{LeadsAlong}
 use Rattle.table_levels.specs.Requests.{granted}
-use Rattle.page_tables.specs.Held.{frames_in}
+use Rattle.page_tables.specs.Held.{frames_in, shares_in}
 use Rattle.page_tables.specs.Forking.{Becomes, forked_count, forked_leaves, forked_state}
-use Rattle.page_tables.specs.Returning.{shares_in}
 use Rattle.page_tables.proofs.Changing.{ChangedBelow}
 use Rattle.page_tables.proofs.fork.fork_cells.Given as goal
 

@@ -10,7 +10,7 @@ use Rattle.page_tables.specs.Sides.{Sides}
 use Rattle.page_tables.specs.Standing.{owner_at, StandFor}
 use Rattle.page_tables.specs.Held.{frames_in, snapshot_frames}
 use Rattle.table_levels.specs.Cells.{tables_of}
-use Rattle.page_tables.proofs.KnownTouch.{known-follows}
+use Rattle.page_tables.proofs.KnownTouch.{known-touches}
 use Rattle.page_tables.proofs.OwnedSlots.{owned-slot, owned-within, held-within, frames-set, read-slot, slot-unjoined}
 use Rattle.page_tables.proofs.tables.PageTables.touch_known.Goals as goal
 
@@ -45,8 +45,8 @@ returns-clause-made g c =
     record {
       deals = c.touch.ensures.made.deals;
       led = c.touch.ensures.made.led;
-      follows = λ sides st. known-follows c.args.self.now sides st c.args.page c.args.slot c.index_mut.result.now c.requires.known here c.touch.new.self c.touch.ensures.made.deals c.touch.result c.touch.ensures.made.follows
-          (record { directory = c.args.self.now.directory; snapshot = c.args.self.now.snapshot; spare = c.args.self.now.spare; spared = c.self-2-1.given.0; slots = with_item c.args.self.now.slots c.args.slot (record { owner = c.index_mut.result.now.owner; cell = c.touch.new.self }) })
+      follows = λ sides st. known-touches c.args.self.now sides st c.args.page c.args.slot c.index_mut.result.now c.requires.known here c.touch.new.self c.touch.ensures.made.deals c.touch.result c.touch.ensures.made.follows (g.A.Allot.refused (g.A.Allot.state c.args.allot.now)) (g.A.Allot.refused (g.A.Allot.state c.touch.new.allot)) c.touch.ensures.touched
+          _
           refl refl (ap (λ owner. slice_set c.args.self.now.slots.items c.args.slot (record { owner = owner; cell = c.touch.new.self })) mine);
     }
 

@@ -18,11 +18,10 @@ use Rattle.page_tables.specs.declared.tables.PageTables.{PageTables}
 use Rattle.page_tables.specs.Sides.{Sides}
 use Rattle.page_tables.specs.Standing.{TablesStandFor, StandFor, IsSlotFor}
 use Rattle.page_tables.specs.Held.{frames_in, snapshot_frames}
-use Rattle.kernel_meaning.specs.EventRequests.{page_touched}
-use Rattle.page_tables.specs.Making.{Follows, pages_with}
+use Rattle.page_tables.specs.Making.{FollowsTouch}
 use Rattle.page_tables.proofs.Room.{room-left, fits-again}
 use Rattle.page_tables.proofs.Rows.{deals_behind, deals_up_to}
-use Rattle.page_tables.proofs.NewTouch.{granted-follows, refused-follows, lacking-follows, added-removed, account, stood}
+use Rattle.page_tables.proofs.NewTouch.{granted-touches, refused-touches, lacking-touches, added-removed, account, stood}
 use Rattle.page_tables.proofs.OwnedSlots.{held-within, frames-set, read-slot, slot-unjoined, set-same, same_slot}
 use Rattle.page_tables.proofs.tables.PageTables.touch_new.Goals as goal
 
@@ -42,11 +41,22 @@ returns-in-Err-clause-made g c =
       deals = deals_up_to refuses.front refuses.want c.in-Err.refused.at;
       led = refuses.deals;
       follows = λ sides st.
-          let before : Follows (page_touched c.args.page) (pages_with c.args.page) old (deals_up_to refuses.front refuses.want c.in-Err.refused.at) (Some (record { at = c.in-Err.refused.at; page = Some c.args.page })) sides =
-              lacking-follows old sides st c.args.page c.args.slot home.slot c.requires.new home.here (fits-again old.directory old.snapshot old.slots.items c.requires.stands.0 sides c.requires.stands.1.0 st (cell_of c.args.page) home.slot.owner home.fits)
+          let before : FollowsTouch c.args.page old (deals_up_to refuses.front refuses.want c.in-Err.refused.at) (Some (record { at = c.in-Err.refused.at; page = Some c.args.page })) sides =
+              lacking-touches old sides st c.args.page c.args.slot home.slot c.requires.new home.here (fits-again old.directory old.snapshot old.slots.items c.requires.stands.0 sides c.requires.stands.1.0 st (cell_of c.args.page) home.slot.owner home.fits)
                   refuses.front refuses.want refuses.rest refuses.order c.in-Err.refused.at in
-          let then : Sides = record { leaves = before.leaves; pages = sides.pages; snapshots = sides.snapshots; made = before.made } in
-          record { leaves = before.leaves; made = before.made; runs = before.runs; stands = subst (λ d. StandFor d old.snapshot old.slots.items then) (sym c.in-Err.ensures.kept) before.stands };
+          let then : Sides = record { leaves = before.follows.leaves; pages = sides.pages; snapshots = sides.snapshots; made = before.follows.made } in
+          record {
+            follows = record {
+              leaves = before.follows.leaves;
+              made = before.follows.made;
+              runs = before.follows.runs;
+              stands = subst (λ d. StandFor d old.snapshot old.slots.items then) (sym c.in-Err.ensures.kept) before.follows.stands;
+            };
+            ready = before.ready;
+            still = before.still;
+            found = before.found;
+            size = before.size;
+          };
     }
 
 -- src/touch.rt:77:25
@@ -89,9 +99,10 @@ returns-in-Ok-touch-clause-made g c =
       follows = λ sides st.
           let fits : IsSlotFor sides.leaves (cell_of c.args.page) c.index_mut-home.result.now.owner =
               fits-again old.directory old.snapshot old.slots.items c.requires.stands.0 sides c.requires.stands.1.0 st (cell_of c.args.page) c.index_mut-home.result.now.owner (subst (λ it. IsSlotFor c.requires.stands.0.leaves (cell_of c.args.page) it.owner) (same_slot home.slot c.index_mut-home.result.now (sym home.here ∙ here)) home.fits) in
-          granted-follows old sides st c.args.page c.args.slot c.index_mut-home.result.now c.requires.new here fits c.touch.new.self made.deals
+          granted-touches old sides st c.args.page c.args.slot c.index_mut-home.result.now c.requires.new here fits c.touch.new.self made.deals
               (made.follows (account old sides st c.args.page c.args.slot c.index_mut-home.result.now c.requires.new here fits) (stood old sides st c.args.page c.args.slot c.index_mut-home.result.now c.requires.new here fits))
-              (record { directory = c.insert.new.self; snapshot = old.snapshot; spare = old.spare; spared = c.self-in-Ok-touch-2-1.given.0; slots = with_item old.slots c.args.slot (record { owner = Some (cell_of c.args.page); cell = c.touch.new.self }) })
+              (g.A.Allot.refused (g.A.Allot.state c.insert.new.allot)) (g.A.Allot.refused (g.A.Allot.state c.touch.new.allot)) c.in-Ok-touch.ensures.touched
+              _
               c.in-Ok.ensures.added refl refl;
     }
 
@@ -130,9 +141,9 @@ returns-in-Err-touch-clause-made g c =
       follows = λ sides st.
           let fits : IsSlotFor sides.leaves cell c.index_mut-home.result.now.owner =
               fits-again old.directory old.snapshot old.slots.items c.requires.stands.0 sides c.requires.stands.1.0 st cell c.index_mut-home.result.now.owner (subst (λ it. IsSlotFor c.requires.stands.0.leaves cell it.owner) (same_slot home.slot c.index_mut-home.result.now (sym home.here ∙ here)) home.fits) in
-          refused-follows old sides st c.args.page c.args.slot c.index_mut-home.result.now c.requires.new here fits c.touch.new.self made.deals at
+          refused-touches old sides st c.args.page c.args.slot c.index_mut-home.result.now c.requires.new here fits c.touch.new.self made.deals at
               (made.follows (account old sides st c.args.page c.args.slot c.index_mut-home.result.now c.requires.new here fits) (stood old sides st c.args.page c.args.slot c.index_mut-home.result.now c.requires.new here fits))
-              (record { directory = c.remove.new.self; snapshot = old.snapshot; spare = old.spare; spared = c.self-in-Err-touch-2.given.0; slots = with_item old.slots c.args.slot (record { owner = c.index_mut-home.result.now.owner; cell = c.touch.new.self }) })
+              _
               gone refl
               (ap (λ view. slice_set old.slots.items c.args.slot (record { owner = c.index_mut-home.result.now.owner; cell = view })) c.in-Err-touch.ensures.refused ∙ set-same old.slots.items c.args.slot c.index_mut-home.result.now here);
     }

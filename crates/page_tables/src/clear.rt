@@ -1,0 +1,91 @@
+//! Taking pages of the parent out.
+ghost use Rattle.std.specs.Prelude.{◌≡◌, ◌+◌, ◌-◌, ◌≤◌, ◌<◌, ◌^◌, None, Some, true};
+ghost use Rattle.std.specs.FinMap.{get};
+ghost use Rattle.vm_base.specs.Deals.{LeadsAlong};
+ghost use Rattle.table_levels.specs.Requests.{returned};
+ghost use Rattle.kernel_meaning.specs.Leaves.{has_present};
+ghost use Rattle.kernel_meaning.specs.FrameLaw.{cell_at};
+ghost use Rattle.leaf_cell.specs.States.{nth_number};
+ghost use Rattle.page_tables.specs.Clearing.{sides_without, cell_unmapped, owner_left};
+ghost use Rattle.page_tables.specs.Courses.{Runs};
+ghost use Rattle.page_tables.specs.Sides.{Sides};
+ghost use Rattle.page_tables.specs.Standing.{TablesStandFor, slot_count};
+ghost use Rattle.page_tables.specs.Held.{frames_of, frames_in, shares_in};
+
+use crate::slot::Slot;
+use crate::tables::PageTables;
+use vm_base::Allot;
+
+impl PageTables {
+    /// Takes the parent's pages of a range within one cell out, of which one is present. With the
+    /// cell's last page the directory loses the cell, and where no snapshot has it either its slot
+    /// loses its owner.
+    pub(crate) fn clear_in_cell<A: Allot>(
+        &mut self,
+        cell: u32,
+        first: u16,
+        count: u16,
+        allot: &mut A,
+    )
+        requires cell { cell < 2 ^ 27 }
+        requires range { first + count ≤ 512 }
+        requires stands { (sides : Sides) × (TablesStandFor self.old sides × (has_present (cell_at sides.leaves cell).parent first count ≡ true)) }
+        requires lent { frames_of self.old ≤ A.out (A.state allot.old) }
+        requires untold { A.grants allot.old ≡ None }
+        ensures given { LeadsAlong A.goes (A.state allot.old) (returned (frames_of self.old - frames_of self.new)) (A.state allot.new) }
+        ensures shrunk { frames_of self.new ≤ frames_of self.old }
+        ensures follows { (sides : Sides) → TablesStandFor self.old sides → TablesStandFor self.new (sides_without cell first count sides) }
+
+        // What the unmap of these pages makes, in the words of the events.
+        ensures event { (sides : Sides) → TablesStandFor self.old sides → Runs (cell_unmapped cell first count) sides.leaves sides.made (returned (frames_of self.old - frames_of self.new)) (sides_without cell first count sides).leaves sides.made None }
+        ensures held { A.out (A.state allot.new) + frames_of self.old ≡ A.out (A.state allot.old) + frames_of self.new }
+        ensures untold { A.grants allot.new ≡ None }
+        ensures slots { slot_count self.new ≡ slot_count self.old }
+        ensures unrefused { A.refused (A.state allot.new) ≡ A.refused (A.state allot.old) }
+        ensures even { frames_in self.old.slots.items + shares_in self.new.slots.items ≡ shares_in self.old.slots.items + frames_in self.new.slots.items }
+        ensures snapshot { self.new.snapshot ≡ self.old.snapshot }
+    {
+        match self.directory.find(cell) {
+            Some(slot) => self.clear_slot(slot, cell, first, count, allot),
+            None => unreachable!("the parent has a page in the cell"),
+        }
+    }
+
+    /// Takes those pages out of the cell, which lies in this slot.
+    fn clear_slot<A: Allot>(&mut self, slot: u32, cell: u32, first: u16, count: u16, allot: &mut A)
+        requires cell { cell < 2 ^ 27 }
+        requires range { first + count ≤ 512 }
+        requires known { get self.old.directory cell ≡ Some slot }
+        requires stands { (sides : Sides) × (TablesStandFor self.old sides × (has_present (cell_at sides.leaves cell).parent first count ≡ true)) }
+        requires lent { frames_of self.old ≤ A.out (A.state allot.old) }
+        requires untold { A.grants allot.old ≡ None }
+        ensures given { LeadsAlong A.goes (A.state allot.old) (returned (frames_of self.old - frames_of self.new)) (A.state allot.new) }
+        ensures shrunk { frames_of self.new ≤ frames_of self.old }
+        ensures follows { (sides : Sides) → TablesStandFor self.old sides → TablesStandFor self.new (sides_without cell first count sides) }
+        ensures event { (sides : Sides) → TablesStandFor self.old sides → Runs (cell_unmapped cell first count) sides.leaves sides.made (returned (frames_of self.old - frames_of self.new)) (sides_without cell first count sides).leaves sides.made None }
+        ensures held { A.out (A.state allot.new) + frames_of self.old ≡ A.out (A.state allot.old) + frames_of self.new }
+        ensures untold { A.grants allot.new ≡ None }
+        ensures slots { slot_count self.new ≡ slot_count self.old }
+        ensures unrefused { A.refused (A.state allot.new) ≡ A.refused (A.state allot.old) }
+        ensures even { frames_in self.old.slots.items + shares_in self.new.slots.items ≡ shares_in self.old.slots.items + frames_in self.new.slots.items }
+        ensures snapshot { self.new.snapshot ≡ self.old.snapshot }
+    {
+        let home = &mut self.slots[slot as usize];
+        prove!(home.cell.held() <= u32::MAX);
+        home.cell.clear(first, count, allot);
+        prove!(home.cell.held() <= u32::MAX);
+        if home.cell.pages() == 0 {
+            leave_slot(home);
+            self.directory.remove(cell, allot);
+        }
+    }
+}
+
+/// The parent has left the cell of a slot: the slot is nobody's where no snapshot has the cell.
+fn leave_slot(home: &mut Slot)
+    ensures { home.new ≡ record home.old { owner = owner_left home.old.owner (nth_number home.old.cell.leaves.kept 0) } }
+{
+    if home.cell.snap(0).is_none() {
+        home.owner = None;
+    }
+}

@@ -1,0 +1,4 @@
+pub mod SupplyLemmas
+pub mod AnswerLemmas
+pub mod RunLemmas
+pub mod Worked
