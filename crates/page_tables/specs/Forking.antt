@@ -62,10 +62,11 @@ forked_state n state =
     then record { leaves = with_fork n Eager Own state.leaves; pages = state.pages; snapshots = insert state.snapshots n state.pages }
     else state
 
--- nothing became of it
+-- nothing became of the leaves
 abbrev pub same_leaves : CellLeaves → CellLeaves
 same_leaves leaves = leaves
 
+-- nor of its bytes
 abbrev pub same_state : CellState → CellState
 same_state state = state
 
