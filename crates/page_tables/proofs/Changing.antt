@@ -179,7 +179,7 @@ shares-next n now i slot new here alone become =
     let sums : shares_in (slice_set now i new) + share (slice_index_or now i slot).cell.leaves ≡ shares_in now + share new.cell.leaves = sum_by-set (λ it. share it.cell.leaves) now i new slot (slice_get_within now i slot here) in
     let was : share (slice_index_or now i slot).cell.leaves ≡ share slot.cell.leaves = ap (λ it. share it.cell.leaves) (get_or_from_slice_get now i slot slot here) in
     let more : share new.cell.leaves ≡ share slot.cell.leaves + cond (is_forked slot) 1 0 = ap share become.leaves_then
-        ∙ elim (has_pages slot.cell.leaves.parent) as (λ b. share (cond b (with_fork n Eager Own slot.cell.leaves) slot.cell.leaves) ≡ share slot.cell.leaves + cond b 1 0) [ true ↦ share-forked n slot.cell.leaves alone | false ↦ omega arith ] in
+    ∙ elim (has_pages slot.cell.leaves.parent) as (λ b. share (cond b (with_fork n Eager Own slot.cell.leaves) slot.cell.leaves) ≡ share slot.cell.leaves + cond b 1 0) [ true ↦ share-forked n slot.cell.leaves alone | false ↦ omega arith ] in
     omega (arith, sums, was, more)
 
 -- the leaf of one slot was refused, and those before it are given back
@@ -194,10 +194,10 @@ refused-behind goes slots i slot at n old granted_then refused_then new here bef
     let more : ℕ = forked_count slots - forked_count (take (i + 1) slots) in
     let size : forked_count (take i slots) + cond (is_forked slot) 1 0 + (forked_count slots - forked_count (take (i + 1) slots)) ≡ forked_count slots = omega (arith, next, within) in
     let all : (replicate k want.Leaf ++ replicate one want.Leaf) ++ replicate more want.Leaf ≡ replicate (forked_count slots) want.Leaf =
-        ap (λ ws. ws ++ replicate more want.Leaf) (replicate-append want.Leaf k one) ∙ replicate-append want.Leaf (k + one) more ∙ ap (λ m. replicate m want.Leaf) size in
+    ap (λ ws. ws ++ replicate more want.Leaf) (replicate-append want.Leaf k one) ∙ replicate-append want.Leaf (k + one) more ∙ ap (λ m. replicate m want.Leaf) size in
     subst (λ ws. RefusesOne goes old ws at new) all
-        (refuses_before goes (replicate k want.Leaf ++ replicate one want.Leaf) (replicate more want.Leaf) at old new
-            (refuses_after goes (replicate k want.Leaf) (replicate one want.Leaf) at n old granted_then refused_then new before refused after (count ∙ sym (length-replicate k want.Leaf))))
+    (refuses_before goes (replicate k want.Leaf ++ replicate one want.Leaf) (replicate more want.Leaf) at old new
+    (refuses_after goes (replicate k want.Leaf) (replicate one want.Leaf) at n old granted_then refused_then new before refused after (count ∙ sym (length-replicate k want.Leaf))))
 
 -- ---- frames given back
 

@@ -142,4 +142,4 @@ cell-dropped n leaves kept c =
     ] refl
   where
     passed : passes (λ cell. is_some (kept_by cell.kept n)) (find nat_cmp c leaves) ≡ is_some (kept_by (cell_at leaves c).kept n)
-    passed = elim (find nat_cmp c leaves) as (λ o. passes (λ cell. is_some (kept_by cell.kept n)) o ≡ is_some (kept_by (unwrap_or o unused_cell).kept n)) [ | Some cell ↦ refl | None ↦ refl ]
+    passed = elim (find nat_cmp c leaves) as (λ o. passes (λ cell. is_some (kept_by cell.kept n)) o ≡ is_some (kept_by (unwrap_or o unused_cell).kept n)) [ Some cell ↦ refl | None ↦ refl ]

@@ -45,7 +45,7 @@ stands-empty view state made stands none =
     let alone : view.leaves.kept ≡ [] = alone-viewed view (record { state = state; made = made }) stands (ap (λ cell. cell.kept) none) in
     let bare : has_pages view.leaves.parent ≡ false = pages-alike view (record { state = state; made = made }) stands ∙ ap (λ cell. has_pages cell.parent) none in
     let leaves : StandsFor view (record { state = record { leaves = unused_cell; pages = state.pages; snapshots = state.snapshots }; made = made }) =
-        subst (λ cell. StandsFor view (record { state = record { leaves = cell; pages = state.pages; snapshots = state.snapshots }; made = made })) none stands in
+    subst (λ cell. StandsFor view (record { state = record { leaves = cell; pages = state.pages; snapshots = state.snapshots }; made = made })) none stands in
     record {
       name = leaves.name;
       leaves = leaves.leaves;
@@ -196,8 +196,8 @@ module _ (directory : CellMap) (tables : SnapshotTables) (slots : List Slot) (si
       let is : all.it ≡ it = ap (λ o. unwrap_or o it) (sym all.there ∙ here) in
       let stands : StandsFor all.to.cell (record { state = state_in cells_left (still was.0.owner); made = sides.made }) = as-left all.to.cell was.0.owner (stood was.0 all.to t was.1 all.become) in
       subst (λ slot. StandsFor slot.cell (record { state = state_in cells_left slot.owner; made = sides.made })) is
-          (subst (λ owner. StandsFor all.it.cell (record { state = state_in cells_left owner; made = sides.made })) (sym all.owned)
-              (subst (λ cell. StandsFor cell (record { state = state_in cells_left (still was.0.owner); made = sides.made })) (sym all.cell) stands))
+      (subst (λ owner. StandsFor all.it.cell (record { state = state_in cells_left owner; made = sides.made })) (sym all.owned)
+      (subst (λ cell. StandsFor cell (record { state = state_in cells_left (still was.0.owner); made = sides.made })) (sym all.cell) stands))
 
   once-left : (s t c : ℕ) → owner_at new s ≡ Some c → owner_at new t ≡ Some c → s ≡ t
   once-left s t c e f = st.slots_of.once s t c (still-some (owner_at slots s) c (sym (owner-still s) ∙ e)).0 (still-some (owner_at slots t) c (sym (owner-still t) ∙ f)).0

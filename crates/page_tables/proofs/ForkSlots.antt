@@ -55,7 +55,7 @@ stands-alone view state other made stands leaves pages alone =
       snapshots = λ n page kept found unlost small. absurd (false≢true (ap is_some (sym (ap (λ ks. kept_by ks n) none) ∙ found)));
     } in
     subst (λ leaves. StandsFor view (record { state = record { leaves = leaves; pages = other.pages; snapshots = other.snapshots }; made = made })) (sym leaves)
-        (subst (λ pages. StandsFor view (record { state = record { leaves = state.leaves; pages = pages; snapshots = other.snapshots }; made = made })) (sym pages) alike)
+    (subst (λ pages. StandsFor view (record { state = record { leaves = state.leaves; pages = pages; snapshots = other.snapshots }; made = made })) (sym pages) alike)
 
 -- pages are there on both sides or on none
 pub pages-alike : (view : CellView) (account : CellAccount) → StandsFor view account → has_pages view.leaves.parent ≡ has_pages account.state.leaves.parent
@@ -107,7 +107,7 @@ fork-becomes n old view deals alone there leaves follows = record {
       let none : state.leaves.kept ≡ [] = alone-meant old.cell account stands alone in
       let has : has_pages state.leaves.parent ≡ true = sym (pages-alike old.cell account stands) ∙ there in
       let takes : TakesAccount (Fork n Eager 0) old.cell view (Granted want.Leaf ∷ []) None account =
-          subst (λ ds. TakesAccount (Fork n Eager 0) old.cell view ds None account) (fork-deals n 0 old.cell view deals None account (follows account stands)) (follows account stands) in
+      subst (λ ds. TakesAccount (Fork n Eager 0) old.cell view ds None account) (fork-deals n 0 old.cell view deals None account (follows account stands)) (follows account stands) in
       let then : CellState = record { leaves = with_fork n Eager Own state.leaves; pages = state.pages; snapshots = insert state.snapshots n state.pages } in
       let behind : StandsFor view (record { state = then; made = made + 1 }) = takes.stands in
       let at_once : StandsFor view (record { state = then; made = made }) = record {

@@ -22,7 +22,7 @@ wants-counted (c ∷ cells) =
     let upper : ℕ = length (distinct (map (λ x. x / 2 ^ 18) (c ∷ cells))) in
     let middle : ℕ = length (distinct (map (λ x. x / 2 ^ 9) (c ∷ cells))) in
     let both : length (replicate upper want.Upper ++ replicate middle want.Middle) ≡ upper + middle =
-        length-append (replicate upper want.Upper) (replicate middle want.Middle) ∙ (λ i. length-replicate upper want.Upper i + length-replicate middle want.Middle i) in
+    length-append (replicate upper want.Upper) (replicate middle want.Middle) ∙ (λ i. length-replicate upper want.Upper i + length-replicate middle want.Middle i) in
     omega (arith, both)
 
 -- the tables as the event names them
@@ -60,5 +60,5 @@ module _ (n : ℕ) (leaves : Leaves) (made : ℕ) (wants : List Want) (all : for
           ∙ ap (λ coming. going start (asked_in_row (front ++ want ∷ more) (requests_between made coming before))) (lacking rest)
           ∙ ap (going start) (row-refused front want more at made rest before)
           ∙ ap (λ ds. record { leaves = leaves; requests = requests_between (made + length front + 1) rest ds; refused = Some (record { at = at; page = None }) })
-              (append_assoc (before ++ granted front) (Denied want at ∷ []) (returned (length front)) ∙ append_assoc before (granted front) (Denied want at ∷ returned (length front)));
+          (append_assoc (before ++ granted front) (Denied want at ∷ []) (returned (length front)) ∙ append_assoc before (granted front) (Denied want at ∷ returned (length front)));
     }

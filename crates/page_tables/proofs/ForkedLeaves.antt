@@ -57,8 +57,8 @@ pub kept-forked : (n : ℕ) (cells : List ℕ) (leaves : Leaves) → AreKept lea
 kept-forked n [] leaves kept = kept
 kept-forked n (c ∷ cells) leaves kept =
     kept-forked n cells (with_cell leaves c (with_fork n Eager Own (cell_at leaves c)))
-        (kept-with_cell leaves c (with_fork n Eager Own (cell_at leaves c)) (used-forked n (cell_at leaves c)) (kept.sizes c)
-            (unjoined-with (record { number = n; mode = Eager; versions = (cell_at leaves c).parent; leaf = Own }) (cell_at leaves c).kept refl (kept.unjoined c)) kept)
+    (kept-with_cell leaves c (with_fork n Eager Own (cell_at leaves c)) (used-forked n (cell_at leaves c)) (kept.sizes c)
+    (unjoined-with (record { number = n; mode = Eager; versions = (cell_at leaves c).parent; leaf = Own }) (cell_at leaves c).kept refl (kept.unjoined c)) kept)
 
 -- the cells of a list in order are forked, and the others not
 forked-cell : (n : ℕ) {X : Type 0} (fs : List (ℕ × X)) → T (is_sorted nat_cmp fs) → (leaves : Leaves) (c : ℕ)
@@ -88,4 +88,4 @@ cell-forked n leaves sorted c =
     ∙ ap (λ b. cond b (with_fork n Eager Own (cell_at leaves c)) (cell_at leaves c)) (is_some-filter (λ cell. has_pages cell.parent) c leaves sorted ∙ passed)
   where
     passed : passes (λ cell. has_pages cell.parent) (find nat_cmp c leaves) ≡ has_pages (cell_at leaves c).parent
-    passed = elim (find nat_cmp c leaves) as (λ o. passes (λ cell. has_pages cell.parent) o ≡ has_pages (unwrap_or o unused_cell).parent) [ | Some cell ↦ refl | None ↦ refl ]
+    passed = elim (find nat_cmp c leaves) as (λ o. passes (λ cell. has_pages cell.parent) o ≡ has_pages (unwrap_or o unused_cell).parent) [ Some cell ↦ refl | None ↦ refl ]

@@ -112,7 +112,7 @@ forked-alone : (n : ℕ) (parent : Versions) → share (with_fork n Eager Own (r
 forked-alone n parent =
     let pairs : List (ℕ × ℕ) = pairs_from 0 parent in
     let same : length (distinct_pairs (pairs ++ (pairs ++ []))) ≡ length (distinct_pairs (pairs ++ [])) =
-        ap (λ ys. length (distinct_pairs (pairs ++ ys))) (append-nil pairs) ∙ ap length (again pairs pairs (λ x h. in-there x pairs h)) ∙ ap (λ ys. length (distinct_pairs ys)) (sym (append-nil pairs)) in
+    ap (λ ys. length (distinct_pairs (pairs ++ ys))) (append-nil pairs) ∙ ap length (again pairs pairs (λ x h. in-there x pairs h)) ∙ ap (λ ys. length (distinct_pairs ys)) (sym (append-nil pairs)) in
     omega (arith, same)
 
 pub share-forked : (n : ℕ) (cell : CellLeaves) → cell.kept ≡ [] → share (with_fork n Eager Own cell) ≡ share cell + 1

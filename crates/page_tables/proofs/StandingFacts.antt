@@ -76,10 +76,10 @@ module _ (directory : CellMap) (snapshot : Option SnapshotTables) (slots : List 
   forks-counted =
       let one : Option ℕ → ℕ = λ owner. parent_leaves (state_in st.cells owner).leaves in
       slots-alike (λ slot. cond (is_forked slot) 1 0) (λ slot. one slot.owner) slots
-          (λ s slot here. ap (λ b. cond b 1 0) (pages-alike slot.cell (record { state = state_in st.cells slot.owner; made = sides.made }) (st.slots_of.stands s slot here)))
+      (λ s slot here. ap (λ b. cond b 1 0) (pages-alike slot.cell (record { state = state_in st.cells slot.owner; made = sides.made }) (st.slots_of.stands s slot here)))
       ∙ owners-sum one refl sides.leaves st.kept.sorted slots st.slots_of.once st.slots_of.used st.slots_of.owned
       ∙ sum-alike (λ e. one (Some e.0)) (λ e. parent_leaves e.1) sides.leaves
-          (all-found (λ q cell. one (Some q) ≡ parent_leaves cell) sides.leaves st.kept.sorted (λ q cell found. ap parent_leaves (st.each.leaves q) ∙ ap (λ o. parent_leaves (unwrap_or o unused_cell)) found))
+      (all-found (λ q cell. one (Some q) ≡ parent_leaves cell) sides.leaves st.kept.sorted (λ q cell found. ap parent_leaves (st.each.leaves q) ∙ ap (λ o. parent_leaves (unwrap_or o unused_cell)) found))
       ∙ sym (parent_leaves-sum sides.leaves)
 
   -- the parent has no page in a cell where it has none
@@ -93,7 +93,7 @@ module _ (directory : CellMap) (snapshot : Option SnapshotTables) (slots : List 
           let there : (slot : Slot) × ((slice_get slots owned.0 ≡ Some slot) × (slot.owner ≡ Some c)) = owned-slot slots owned.0 c owned.1 in
           let view : CellView = there.0.cell in
           let stands : StandsFor view (record { state = st.cells c; made = sides.made }) =
-              subst (λ owner. StandsFor view (record { state = state_in st.cells owner; made = sides.made })) there.1.1 (st.slots_of.stands owned.0 there.0 there.1.0) in
+          subst (λ owner. StandsFor view (record { state = state_in st.cells owner; made = sides.made })) there.1.1 (st.slots_of.stands owned.0 there.0 there.1.0) in
           let unviewed : has_pages view.leaves.parent ≡ false = pages-alike view (record { state = st.cells c; made = sides.made }) stands ∙ ap (λ cell. has_pages cell.parent) (st.each.leaves c) ∙ none in
           sym (stands.pages p small) ∙ ap (bytes_in view.frames) (none-at view.leaves.parent p unviewed)
 
@@ -142,4 +142,4 @@ slots-become leaves change blank old new become before after cells made later of
         let stood : StandsFor to.0.cell (record { state = change (state_in cells was.0.owner); made = made }) = to.1.1.stands (state_in cells was.0.owner) made (of.stands s was.0 was.1) in
         let named : change (state_in cells was.0.owner) ≡ state_in (λ c. change (cells c)) to.0.owner = state_there was.0.owner ∙ ap (state_in (λ c. change (cells c))) (sym to.1.1.owner) in
         subst (λ slot. StandsFor slot.cell (record { state = state_in (λ c. change (cells c)) slot.owner; made = later })) is
-            (stands-later to.0.cell (state_in (λ c. change (cells c)) to.0.owner) made later more (subst (λ state. StandsFor to.0.cell (record { state = state; made = made })) named stood))
+        (stands-later to.0.cell (state_in (λ c. change (cells c)) to.0.owner) made later more (subst (λ state. StandsFor to.0.cell (record { state = state; made = made })) named stood))

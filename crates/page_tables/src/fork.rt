@@ -127,11 +127,7 @@ fn fork_into<A: Allot>(
 }
 
 /// Forks each cell in which the parent has a page, or none of them.
-fn fork_cells<A: Allot>(
-    slots: &mut Vec<Slot>,
-    number: u32,
-    allot: &mut A,
-) -> Result<(), Refused>
+fn fork_cells<A: Allot>(slots: &mut Vec<Slot>, number: u32, allot: &mut A) -> Result<(), Refused>
     requires alone { AreAlone slots.old.items }
     requires known { HaveAccounts slots.old.items }
     requires lent { frames_in slots.old.items ≤ A.out (A.state allot.old) }

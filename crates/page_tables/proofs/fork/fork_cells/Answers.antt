@@ -76,15 +76,15 @@ loop-i-preserved g c =
 pub drop_cells-requires-clause-known : goal.drop_cells-requires-clause-known
 drop_cells-requires-clause-known g c =
     let same : slice_set c.loop-i.slots.items c.loop-i.i c.fork_slot.new.slot ≡ c.loop-i.slots.items =
-        ap (slice_set c.loop-i.slots.items c.loop-i.i) (c.in-Err.ensures.kept ∙ c.index_mut.ensures.value) ∙ set-get_or c.loop-i.slots.items c.loop-i.i c.index_mut.result.now in
+    ap (slice_set c.loop-i.slots.items c.loop-i.i) (c.in-Err.ensures.kept ∙ c.index_mut.ensures.value) ∙ set-get_or c.loop-i.slots.items c.loop-i.i c.index_mut.result.now in
     subst HaveAccounts (sym same) (accounts-now c.args.number c.loop-i.i c.args.slots.now.items c.loop-i.slots.items c.loop-i.invariant.changed c.requires.known)
 
 pub returns-in-Err-clause-undone : goal.returns-in-Err-clause-undone
 returns-in-Err-clause-undone g c =
     let same : slice_set c.loop-i.slots.items c.loop-i.i c.fork_slot.new.slot ≡ c.loop-i.slots.items =
-        ap (slice_set c.loop-i.slots.items c.loop-i.i) (c.in-Err.ensures.kept ∙ c.index_mut.ensures.value) ∙ set-get_or c.loop-i.slots.items c.loop-i.i c.index_mut.result.now in
+    ap (slice_set c.loop-i.slots.items c.loop-i.i) (c.in-Err.ensures.kept ∙ c.index_mut.ensures.value) ∙ set-get_or c.loop-i.slots.items c.loop-i.i c.index_mut.result.now in
     undone c.args.number c.loop-i.i c.args.slots.now.items c.loop-i.slots.items c.loop-i.invariant.changed c.requires.alone c.drop_cells.new.slots.items
-        (subst (λ slots. AllBecome (without_snapshot c.args.number) (dropped_state c.args.number) slots c.drop_cells.new.slots.items) same c.drop_cells.ensures.dropped)
+    (subst (λ slots. AllBecome (without_snapshot c.args.number) (dropped_state c.args.number) slots c.drop_cells.new.slots.items) same c.drop_cells.ensures.dropped)
 
 pub returns-in-Err-clause-requests : goal.returns-in-Err-clause-requests
 returns-in-Err-clause-requests g c =
@@ -94,9 +94,9 @@ returns-in-Err-clause-requests g c =
     let here : slice_get c.loop-i.slots.items c.loop-i.i ≡ Some c.index_mut.result.now = read-slot c.loop-i.slots.items c.loop-i.i c.index_mut.result.now within c.index_mut.ensures.value in
     let was : slice_get old c.loop-i.i ≡ Some c.index_mut.result.now = sym (c.loop-i.invariant.changed.rest c.loop-i.i (omega arith)) ∙ here in
     let same : slice_set c.loop-i.slots.items c.loop-i.i c.fork_slot.new.slot ≡ c.loop-i.slots.items =
-        ap (slice_set c.loop-i.slots.items c.loop-i.i) (c.in-Err.ensures.kept ∙ c.index_mut.ensures.value) ∙ set-get_or c.loop-i.slots.items c.loop-i.i c.index_mut.result.now in
+    ap (slice_set c.loop-i.slots.items c.loop-i.i) (c.in-Err.ensures.kept ∙ c.index_mut.ensures.value) ∙ set-get_or c.loop-i.slots.items c.loop-i.i c.index_mut.result.now in
     let become : AllBecome same_leaves same_state old c.drop_cells.new.slots.items = undone c.args.number c.loop-i.i old c.loop-i.slots.items c.loop-i.invariant.changed c.requires.alone c.drop_cells.new.slots.items
-        (subst (λ slots. AllBecome (without_snapshot c.args.number) (dropped_state c.args.number) slots c.drop_cells.new.slots.items) same c.drop_cells.ensures.dropped) in
+    (subst (λ slots. AllBecome (without_snapshot c.args.number) (dropped_state c.args.number) slots c.drop_cells.new.slots.items) same c.drop_cells.ensures.dropped) in
     let back : shares_in c.drop_cells.new.slots.items ≡ shares_in c.args.slots.now.items = same-shares old c.drop_cells.new.slots.items become in
     let now : shares_in (slice_set c.loop-i.slots.items c.loop-i.i c.fork_slot.new.slot) ≡ shares_in c.loop-i.slots.items = ap shares_in same in
     let count : c.drop_cells.ensures.returned.count ≡ forked_count (take c.loop-i.i c.args.slots.now.items) = omega (arith, c.loop-i.invariant.shares, c.drop_cells.ensures.returned.shrunk, back, now) in

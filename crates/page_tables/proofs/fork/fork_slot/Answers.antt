@@ -29,4 +29,4 @@ pub returns-clause-requests : goal.returns-clause-requests
 returns-clause-requests g c =
     let there : has_pages c.args.slot.now.cell.leaves.parent ≡ true = some-counted c.args.slot.now.cell.leaves.parent (λ e. c.if-pages-eq0.false (c.pages.ensures.pages ∙ e)) in
     subst (λ b. Asks g.A.Allot.goes (g.A.Allot.state c.args.allot.now) (replicate (cond b 1 0) want.Leaf) c.fork_eager.result (g.A.Allot.state c.fork_eager.new.allot)) (sym there)
-        (fork-asks g.A.Allot.goes _ _ c.args.number c.args.slot.now.cell c.fork_eager.new.self c.requires.known.0 c.requires.known.1 c.fork_eager.result (c.fork_eager.ensures.made 0))
+    (fork-asks g.A.Allot.goes _ _ c.args.number c.args.slot.now.cell c.fork_eager.new.self c.requires.known.0 c.requires.known.1 c.fork_eager.result (c.fork_eager.ensures.made 0))

@@ -12,7 +12,7 @@ drop_cells-requires-clause-known g c = known-slots c.args.self.now.directory c.a
 pub returns-clause-made : goal.returns-clause-made
 returns-clause-made g c =
     drop-made c.args.self.now c.in-Some.tables (sym c.take.ensures.value ∙ c.in-Some.is) g.A.Allot.goes _ _ _ _ c.drop_cells.new.slots.items c.drop_cells.ensures.dropped c.free_unused.ensures c.drop_cells.ensures.returned c.release.ensures.given
-        refl c.take.ensures.after
+    refl c.take.ensures.after
 
 pub returns-clause-held : goal.returns-clause-held
 returns-clause-held g c =

@@ -9,7 +9,7 @@ use Rattle.page_tables.proofs.tables.PageTables.fork.Goals as goal
 pub fork_into-requires-clause-alone : goal.fork_into-requires-clause-alone
 fork_into-requires-clause-alone g c =
     alone-slots c.args.self.now.directory c.args.self.now.slots.items c.requires.stands.0
-        (subst (λ snapshot. StandFor c.args.self.now.directory snapshot c.args.self.now.slots.items c.requires.stands.0) c.requires.alone c.requires.stands.1)
+    (subst (λ snapshot. StandFor c.args.self.now.directory snapshot c.args.self.now.slots.items c.requires.stands.0) c.requires.alone c.requires.stands.1)
 
 pub fork_into-requires-clause-known : goal.fork_into-requires-clause-known
 fork_into-requires-clause-known g c = known-slots c.args.self.now.directory c.args.self.now.snapshot c.args.self.now.slots.items c.requires.stands.0 c.requires.stands.1
