@@ -35,6 +35,7 @@ pub mod LessShare
 pub mod ClearedCell
 pub mod ClearedTables
 pub mod ClearedSlot
+pub mod Vacancies
 pub mod SnapshotShares
 pub mod ForkSlots
 pub mod Changing

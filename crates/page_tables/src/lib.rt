@@ -15,5 +15,6 @@ mod range;
 mod slot;
 mod tables;
 mod touch;
+mod vacancy;
 
 pub use tables::PageTables;

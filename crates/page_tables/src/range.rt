@@ -44,6 +44,8 @@ impl PageTables {
         ensures untold { A.grants allot.new ≡ None }
         ensures at { IfErr result (λ e. e.at ≡ A.refused (A.state allot.new)) }
         ensures slots { slot_count self.new ≡ slot_count self.old }
+        ensures even { frames_in self.old.slots.items + shares_in self.new.slots.items ≡ shares_in self.old.slots.items + frames_in self.new.slots.items }
+        ensures snapshot { self.new.snapshot ≡ self.old.snapshot }
         ensures noted { vec_capacity added.new ≡ vec_capacity added.old }
     {
         added.clear();

@@ -6,7 +6,7 @@ ghost use Rattle.vm_base.specs.Places.{cell_of};
 ghost use Rattle.kernel_meaning.specs.FrameLaw.{lacks_slots};
 ghost use Rattle.page_tables.specs.Sides.{Sides};
 ghost use Rattle.page_tables.specs.Standing.{TablesStandFor, HasSlotFor, IsSlotOf, IsSlotChosen, slot_count};
-ghost use Rattle.page_tables.specs.Held.{frames_of};
+ghost use Rattle.page_tables.specs.Held.{frames_of, frames_in, shares_in};
 ghost use Rattle.page_tables.specs.Making.{MadeTouch, page_refusal};
 
 use crate::slot::Slot;
@@ -30,6 +30,8 @@ impl PageTables {
         ensures untold { A.grants allot.new ≡ None }
         ensures counted { IfErr result (λ e. (A.refused (A.state allot.new) ≡ next_count (A.refused (A.state allot.old))) × (e.at ≡ A.refused (A.state allot.new))) }
         ensures slots { slot_count self.new ≡ slot_count self.old }
+        ensures even { frames_in self.old.slots.items + shares_in self.new.slots.items ≡ shares_in self.old.slots.items + frames_in self.new.slots.items }
+        ensures snapshot { self.new.snapshot ≡ self.old.snapshot }
     {
         let cell = (page / CELL_PAGES) as u32;
         match self.directory.find(cell) {
@@ -53,9 +55,15 @@ impl PageTables {
         ensures untold { A.grants allot.new ≡ None }
         ensures counted { IfErr result (λ e. (A.refused (A.state allot.new) ≡ next_count (A.refused (A.state allot.old))) × (e.at ≡ A.refused (A.state allot.new))) }
         ensures slots { slot_count self.new ≡ slot_count self.old }
+        ensures even { frames_in self.old.slots.items + shares_in self.new.slots.items ≡ shares_in self.old.slots.items + frames_in self.new.slots.items }
+        ensures snapshot { self.new.snapshot ≡ self.old.snapshot }
     {
         let index = (page % CELL_PAGES) as u16;
-        self.slots[slot as usize].cell.touch(index, allot)
+        let home = &mut self.slots[slot as usize];
+        prove!(home.cell.held() <= u32::MAX);
+        let answer = home.cell.touch(index, allot);
+        prove!(home.cell.held() <= u32::MAX);
+        answer
     }
 
     /// Touches a page in a cell that the directory lacks, which gets this slot.
@@ -70,6 +78,8 @@ impl PageTables {
         ensures untold { A.grants allot.new ≡ None }
         ensures counted { IfErr result (λ e. (A.refused (A.state allot.new) ≡ next_count (A.refused (A.state allot.old))) × (e.at ≡ A.refused (A.state allot.new))) }
         ensures slots { slot_count self.new ≡ slot_count self.old }
+        ensures even { frames_in self.old.slots.items + shares_in self.new.slots.items ≡ shares_in self.old.slots.items + frames_in self.new.slots.items }
+        ensures snapshot { self.new.snapshot ≡ self.old.snapshot }
     {
         let cell = (page / CELL_PAGES) as u32;
         match self.directory.insert(cell, slot, allot) {
@@ -78,8 +88,10 @@ impl PageTables {
         }
         let index = (page % CELL_PAGES) as u16;
         let home = &mut self.slots[slot as usize];
+        prove!(home.cell.held() <= u32::MAX);
         match home.cell.touch(index, allot) {
             Ok(()) => {
+                prove!(home.cell.held() <= u32::MAX);
                 home.owner = Some(cell);
                 Ok(())
             }
@@ -103,7 +115,7 @@ impl PageTables {
 }
 
 /// The lowest slot with this owner.
-fn slot_of(slots: &[Slot], owner: Option<u32>) -> Option<u32>
+pub(crate) fn slot_of(slots: &[Slot], owner: Option<u32>) -> Option<u32>
     requires { length slots.now ≤ 512 }
     ensures { IsSlotOf slots.now owner result }
 {

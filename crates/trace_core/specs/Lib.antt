@@ -4,3 +4,5 @@ pub mod Answering
 pub mod KernelState
 pub mod EventMeaning
 pub mod RunMeaning
+pub mod Supplied
+pub mod KernelStanding

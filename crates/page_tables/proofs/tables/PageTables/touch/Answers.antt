@@ -33,6 +33,8 @@ loop-page-init g c =
       from = omega arith;
       held = refl;
       untold = c.requires.untold;
+      even = omega arith;
+      snapshot = refl;
       slots = refl;
       capacity = c.clear.ensures.capacity;
     }
@@ -125,6 +127,8 @@ loop-page-preserved g c =
       held = (let before : g.A.Allot.out (g.A.Allot.state c.loop-page.allot) + frames_of c.args.self.now ≡ g.A.Allot.out (g.A.Allot.state c.args.allot.now) + frames_of c.loop-page.self = c.loop-page.invariant.held in
           let more : g.A.Allot.out (g.A.Allot.state c.touch_page.new.allot) + frames_of c.loop-page.self ≡ g.A.Allot.out (g.A.Allot.state c.loop-page.allot) + frames_of c.touch_page.new.self = c.touch_page.ensures.held in omega (arith, before, more));
       untold = c.touch_page.ensures.untold;
+      even = omega (arith, c.loop-page.invariant.even, c.touch_page.ensures.even);
+      snapshot = c.touch_page.ensures.snapshot ∙ c.loop-page.invariant.snapshot;
       slots = c.touch_page.ensures.slots ∙ c.loop-page.invariant.slots;
       capacity = c.note_added.ensures.room ∙ c.loop-page.invariant.capacity;
     }

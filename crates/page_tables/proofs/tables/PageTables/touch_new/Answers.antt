@@ -19,6 +19,7 @@ use Rattle.page_tables.specs.Sides.{Sides}
 use Rattle.page_tables.specs.Standing.{TablesStandFor, StandFor, IsSlotFor}
 use Rattle.page_tables.specs.Held.{frames_in, snapshot_frames}
 use Rattle.page_tables.specs.Making.{FollowsTouch}
+use Rattle.page_tables.proofs.ClearedSlot.{even-slots, holds-own}
 use Rattle.page_tables.proofs.Room.{room-left, fits-again}
 use Rattle.page_tables.proofs.Rows.{deals_behind, deals_up_to}
 use Rattle.page_tables.proofs.NewTouch.{granted-touches, refused-touches, lacking-touches, added-removed, account, stood}
@@ -147,3 +148,18 @@ returns-in-Err-touch-clause-made g c =
               gone refl
               (ap (λ view. slice_set old.slots.items c.args.slot (record { owner = c.index_mut-home.result.now.owner; cell = view })) c.in-Err-touch.ensures.refused ∙ set-same old.slots.items c.args.slot c.index_mut-home.result.now here);
     }
+
+-- src/touch.rt:70:5
+pub returns-in-Ok-touch-clause-even : goal.returns-in-Ok-touch-clause-even
+returns-in-Ok-touch-clause-even g c =
+    let home = c.requires.stands.1.1 in
+    let old : PageTables = c.args.self.now in
+    let slot : Slot = c.index_mut-home.result.now in
+    let within : c.args.slot < length old.slots.items = slice_get_within old.slots.items c.args.slot home.slot home.here in
+    let here : slice_get old.slots.items c.args.slot ≡ Some slot = read-slot old.slots.items c.args.slot slot within c.index_mut-home.ensures.value in
+    let fits : IsSlotFor c.requires.stands.0.leaves (cell_of c.args.page) slot.owner = subst (λ it. IsSlotFor c.requires.stands.0.leaves (cell_of c.args.page) it.owner) (same_slot home.slot slot (sym home.here ∙ here)) home.fits in
+    let stood_here = stood old c.requires.stands.0 c.requires.stands.1.0 c.args.page c.args.slot slot c.requires.new here fits in
+    let takes = c.in-Ok-touch.ensures.made.follows (account old c.requires.stands.0 c.requires.stands.1.0 c.args.page c.args.slot slot c.requires.new here fits) stood_here in
+    even-slots old.slots.items c.args.slot slot (record { owner = Some (cell_of c.args.page); cell = c.touch.new.self }) here
+        (holds-own slot.cell _ stood_here (λ account stands. sym c.held.ensures.held ∙ c.held.ensures.share account stands))
+        (holds-own c.touch.new.self _ takes.stands (λ account stands. sym c.held-in-Ok-touch.ensures.held ∙ c.held-in-Ok-touch.ensures.share account stands))
