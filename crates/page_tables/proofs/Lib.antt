@@ -19,3 +19,6 @@ pub mod LessShare
 pub mod ClearedCell
 pub mod ClearedTables
 pub mod ClearedSlot
+pub mod FirstCell
+pub mod ChangedCells
+pub mod OutOfCell
