@@ -22,3 +22,5 @@ pub mod ClearedSlot
 pub mod FirstCell
 pub mod ChangedCells
 pub mod OutOfCell
+pub mod PresentPages
+pub mod UnmapSteps
