@@ -88,7 +88,7 @@ none-empty first n c cell empty = by (has_some first n c cell) refl
 module _ (first n : ℕ) where
   pub found-changed : (leaves : Leaves) → T (is_sorted nat_cmp leaves) → (q : ℕ) → is_some (find nat_cmp q (those (has_some first n) leaves)) ≡ has_some first n q (cell_at leaves q)
   found-changed leaves h q = is_some-those (has_some first n) q leaves h
-      ∙ elim (find nat_cmp q leaves) as (λ o. passes (has_some first n q) o ≡ has_some first n q (unwrap_or o unused_cell)) [ | Some cell ↦ refl | None ↦ sym (has_present-never (first_in_cell q first) (count_in_cell q first n)) ]
+      ∙ elim (find nat_cmp q leaves) as (λ o. passes (has_some first n q) o ≡ has_some first n q (unwrap_or o unused_cell)) [ Some cell ↦ refl | None ↦ sym (has_present-never (first_in_cell q first) (count_in_cell q first n)) ]
 
   -- no cell has one of the pages
   pub unchanged : (leaves : Leaves) → T (is_sorted nat_cmp leaves) → ((q : ℕ) → has_some first n q (cell_at leaves q) ≡ false) → changed_cells leaves first n ≡ []
@@ -99,8 +99,8 @@ module _ (first n : ℕ) where
       → ((q : ℕ) → q ≢ c → cell_at later q ≡ cell_at leaves q) → has_some first n c (cell_at later c) ≡ false → changed_cells leaves first n ≡ c ∷ changed_cells later first n
   one-less leaves later c h k here before others gone =
       keys-alike (those (has_some first n) leaves) ((c, unused_cell) ∷ those (has_some first n) later) (sorted-those (has_some first n) leaves h)
-          (both _ _ (all-above c (those (has_some first n) later) (sorted-those (has_some first n) later k) (λ q le. none q (now q le))) (sorted-those (has_some first n) later k))
-          alike
+      (both _ _ (all-above c (those (has_some first n) later) (sorted-those (has_some first n) later k) (λ q le. none q (now q le))) (sorted-those (has_some first n) later k))
+      alike
     where
       now : (q : ℕ) → q ≤ c → has_some first n q (cell_at later q) ≡ false
       now q le = elim (cases_eq q c) [

@@ -84,15 +84,15 @@ some-from : (x c s : ℕ) (es : List (ℕ × ℕ)) → T (is_sorted nat_cmp es) 
 some-from x c s [] h e = absurd (false≢true (ap is_some e))
 some-from x c s (f ∷ es) h e = elim (nat_le x f.0) as (λ b. nat_le x f.0 ≡ b → cond b (Some f) (first_that (λ e. nat_le x e.0) es) ≡ Some (c, s)
     → (x ≤ c) × ((find nat_cmp c (f ∷ es) ≡ Some s) × ((q : ℕ) → x ≤ q → q < c → find nat_cmp q (f ∷ es) ≡ None))) [
-  | true ↦ λ there e.
-      let same : f ≡ (c, s) = ap (λ o. unwrap_or o f) e in
-      let key : f.0 ≡ c = ap (λ p. p.0) same in
-      (subst (λ k. x ≤ k) key (reaches x f.0 there), (find-head c f es (sym key) ∙ ap (λ p. Some p.1) same, λ q le lt. absent-below q f es h (subst (λ k. q < k) (sym key) lt)))
-  | false ↦ λ short e.
-      let l : f.0 < x = falls-short x f.0 short in
-      let rest : (x ≤ c) × ((find nat_cmp c es ≡ Some s) × ((q : ℕ) → x ≤ q → q < c → find nat_cmp q es ≡ None)) = some-from x c s es (right _ _ h) e in
-      (rest.0, (find-tail c f es (λ same. omega (arith, l, rest.0, same)) ∙ rest.1.0, λ q le lt. find-tail q f es (λ same. omega (arith, l, le, same)) ∙ rest.1.1 q le lt))
-] refl e
+      | true ↦ λ there e.
+          let same : f ≡ (c, s) = ap (λ o. unwrap_or o f) e in
+          let key : f.0 ≡ c = ap (λ p. p.0) same in
+          (subst (λ k. x ≤ k) key (reaches x f.0 there), (find-head c f es (sym key) ∙ ap (λ p. Some p.1) same, λ q le lt. absent-below q f es h (subst (λ k. q < k) (sym key) lt)))
+      | false ↦ λ short e.
+          let l : f.0 < x = falls-short x f.0 short in
+          let rest : (x ≤ c) × ((find nat_cmp c es ≡ Some s) × ((q : ℕ) → x ≤ q → q < c → find nat_cmp q es ≡ None)) = some-from x c s es (right _ _ h) e in
+          (rest.0, (find-tail c f es (λ same. omega (arith, l, rest.0, same)) ∙ rest.1.0, λ q le lt. find-tail q f es (λ same. omega (arith, l, le, same)) ∙ rest.1.1 q le lt))
+    ] refl e
 
 pub first-some : (map : CellMap) (x c s : ℕ) → first_from map x ≡ Some (c, s) → IsFirstFrom map x c s
 first-some map x c s e =

@@ -24,3 +24,4 @@ pub mod ChangedCells
 pub mod OutOfCell
 pub mod PresentPages
 pub mod UnmapSteps
+pub mod ProtectedPages

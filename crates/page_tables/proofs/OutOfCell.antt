@@ -19,10 +19,11 @@ module _ (c first n f k : ℕ) (new : PageTables) (freed : ℕ) (sides : Sides) 
       → Runs (cell_unmapped c f k) sides.leaves sides.made (returned freed) (sides_without c f k sides).leaves sides.made None
       → IsOutOf (has_some first n c (cell_at sides.leaves c)) c first n new freed sides
   are-out present stands runs =
-      subst (λ b. IsOutOf b c first n new freed sides) (sym present ∙ some)
-          (subst (λ g. TablesStandFor new (sides_without c g (count_in_cell c first n) sides)) from (subst (λ m. TablesStandFor new (sides_without c f m sides)) size stands),
-           subst (λ g. Runs (cell_unmapped c g (count_in_cell c first n)) sides.leaves sides.made (returned freed) (sides_without c g (count_in_cell c first n) sides).leaves sides.made None) from
-              (subst (λ m. Runs (cell_unmapped c f m) sides.leaves sides.made (returned freed) (sides_without c f m sides).leaves sides.made None) size runs))
+      subst (λ b. IsOutOf b c first n new freed sides) (sym present ∙ some) (
+        subst (λ g. TablesStandFor new (sides_without c g (count_in_cell c first n) sides)) from (subst (λ m. TablesStandFor new (sides_without c f m sides)) size stands),
+        subst (λ g. Runs (cell_unmapped c g (count_in_cell c first n)) sides.leaves sides.made (returned freed) (sides_without c g (count_in_cell c first n) sides).leaves sides.made None) from
+            (subst (λ m. Runs (cell_unmapped c f m) sides.leaves sides.made (returned freed) (sides_without c f m sides).leaves sides.made None) size runs),
+      )
 
   pub none-out : has_present (cell_at sides.leaves c).parent f k ≡ false → TablesStandFor new sides → freed ≡ 0 → IsOutOf (has_some first n c (cell_at sides.leaves c)) c first n new freed sides
   none-out absent stands nothing = subst (λ b. IsOutOf b c first n new freed sides) (sym absent ∙ some) (stands, nothing)

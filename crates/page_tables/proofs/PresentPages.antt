@@ -59,7 +59,7 @@ module _ (tables : PageTables) (sides : Sides) (st : TablesStandFor tables sides
       view-none view stands =
           sym (stands.pages p small)
           ∙ ap (bytes_in view.frames) (ap (λ versions. version_at versions p) stands.leaves.parent ∙ version_at-renamed stands.name (st.cells c).leaves.parent p
-              ∙ ap (option_map (stands.name p)) (ap (λ cell. version_at cell.parent p) (st.each.leaves c) ∙ none))
+          ∙ ap (option_map (stands.name p)) (ap (λ cell. version_at cell.parent p) (st.each.leaves c) ∙ none))
 
       by : (b : Bool) → is_some (find nat_cmp c sides.leaves) ≡ b → get (st.cells c).pages p ≡ None
       by false gone = ap (λ state. get state.pages p) (st.blank c gone) ∙ get-empty nat_cmp p
@@ -77,7 +77,7 @@ module _ (tables : PageTables) (sides : Sides) (st : TablesStandFor tables sides
         let small : q % 512 < 512 = omega arith in
         ap (get sides.pages) (sym whole) ∙ sym (st.each.pages (q / 512) (q % 512) small)
         ∙ no-bytes (q / 512) (q % 512) small
-            (absent-there (cell_at sides.leaves (q / 512)).parent (first_in_cell (q / 512) first) (count_in_cell (q / 512) first n) (q % 512) (none (q / 512)) (omega (arith, above, below)) (omega (arith, above, below)))
+        (absent-there (cell_at sides.leaves (q / 512)).parent (first_in_cell (q / 512) first) (count_in_cell (q / 512) first n) (q % 512) (none (q / 512)) (omega (arith, above, below)) (omega (arith, above, below)))
 
     -- the parent has no page of the range
     pub none-left : sides.pages ≡ retain_keys sides.pages (is_beyond first n)

@@ -120,7 +120,7 @@ module _ (first n next c s : ℕ) (sides : Sides) (deals : List Deal) (now : Pag
   next-step : (b : Bool) → has_some first n c (cell_at mid.leaves c) ≡ b → IsOutOf b c first n new freed mid → GoesOnFrom first n (c + 1) sides (deals ++ returned freed) new
   next-step true here out =
       let less : changed_cells mid.leaves first n ≡ c ∷ changed_cells then.leaves first n =
-          one-less first n mid.leaves then.leaves c goes.stands.kept.sorted out.0.kept.sorted here before-it (cell-apart mid.leaves c after) gone in
+      one-less first n mid.leaves then.leaves c goes.stands.kept.sorted out.0.kept.sorted here before-it (cell-apart mid.leaves c after) gone in
       record {
         mid = then;
         stands = out.0;

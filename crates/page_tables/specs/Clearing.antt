@@ -30,6 +30,11 @@ sides_without c first n sides = record {
 abbrev pub cell_unmapped : ℕ → ℕ → ℕ → Progress → Progress
 cell_unmapped c first n progress = directory_shrunk progress.leaves (with_course c (cleared first n (course_at c progress)) progress)
 
+-- that unmap gives back so many frames, asks for none, and leaves the sides without those pages
+abbrev pub GivesBack : ℕ → ℕ → ℕ → ℕ → Sides → Type 0
+GivesBack c first n freed sides =
+    Runs (cell_unmapped c first n) sides.leaves sides.made (returned freed) (sides_without c first n sides).leaves sides.made None
+
 -- the owner of a slot whose cell the parent has left, where this snapshot has the cell or none has
 abbrev pub owner_left : Option ℕ → Option ℕ → Option ℕ
 owner_left owner None = None
@@ -47,6 +52,5 @@ has_some first n c cell = has_present cell.parent (first_in_cell c first) (count
 abbrev pub IsOutOf : Bool → ℕ → ℕ → ℕ → PageTables → ℕ → Sides → Type 0
 IsOutOf true c first n new freed sides =
     TablesStandFor new (sides_without c (first_in_cell c first) (count_in_cell c first n) sides)
-    × Runs (cell_unmapped c (first_in_cell c first) (count_in_cell c first n)) sides.leaves sides.made (returned freed)
-        (sides_without c (first_in_cell c first) (count_in_cell c first n) sides).leaves sides.made None
+    × GivesBack c (first_in_cell c first) (count_in_cell c first n) freed sides
 IsOutOf false c first n new freed sides = TablesStandFor new sides × (freed ≡ 0)

@@ -6,10 +6,9 @@ ghost use Rattle.table_levels.specs.Requests.{returned};
 ghost use Rattle.kernel_meaning.specs.Leaves.{has_present};
 ghost use Rattle.kernel_meaning.specs.FrameLaw.{cell_at};
 ghost use Rattle.leaf_cell.specs.States.{nth_number};
-ghost use Rattle.page_tables.specs.Clearing.{sides_without, cell_unmapped, owner_left, pages_without, has_some, IsOutOf};
+ghost use Rattle.page_tables.specs.Clearing.{sides_without, owner_left, pages_without, has_some, GivesBack, IsOutOf};
 ghost use Rattle.kernel_meaning.specs.EventRequests.{pages_unmapped};
 ghost use Rattle.page_tables.specs.Making.{MadeEvent};
-ghost use Rattle.page_tables.specs.Courses.{Runs};
 ghost use Rattle.page_tables.specs.Sides.{Sides};
 ghost use Rattle.page_tables.specs.Standing.{TablesStandFor, slot_count};
 ghost use Rattle.page_tables.specs.Held.{frames_of};
@@ -90,7 +89,7 @@ impl PageTables {
         ensures follows { (sides : Sides) → TablesStandFor self.old sides → TablesStandFor self.new (sides_without cell first count sides) }
 
         // What the unmap of these pages makes, in the words of the events.
-        ensures event { (sides : Sides) → TablesStandFor self.old sides → Runs (cell_unmapped cell first count) sides.leaves sides.made (returned (frames_of self.old - frames_of self.new)) (sides_without cell first count sides).leaves sides.made None }
+        ensures event { (sides : Sides) → TablesStandFor self.old sides → GivesBack cell first count (frames_of self.old - frames_of self.new) sides }
         ensures held { A.out (A.state allot.new) + frames_of self.old ≡ A.out (A.state allot.old) + frames_of self.new }
         ensures untold { A.grants allot.new ≡ None }
         ensures slots { slot_count self.new ≡ slot_count self.old }
@@ -113,7 +112,7 @@ impl PageTables {
         ensures given { LeadsAlong A.goes (A.state allot.old) (returned (frames_of self.old - frames_of self.new)) (A.state allot.new) }
         ensures shrunk { frames_of self.new ≤ frames_of self.old }
         ensures follows { (sides : Sides) → TablesStandFor self.old sides → TablesStandFor self.new (sides_without cell first count sides) }
-        ensures event { (sides : Sides) → TablesStandFor self.old sides → Runs (cell_unmapped cell first count) sides.leaves sides.made (returned (frames_of self.old - frames_of self.new)) (sides_without cell first count sides).leaves sides.made None }
+        ensures event { (sides : Sides) → TablesStandFor self.old sides → GivesBack cell first count (frames_of self.old - frames_of self.new) sides }
         ensures held { A.out (A.state allot.new) + frames_of self.old ≡ A.out (A.state allot.old) + frames_of self.new }
         ensures untold { A.grants allot.new ≡ None }
         ensures slots { slot_count self.new ≡ slot_count self.old }

@@ -8,6 +8,7 @@
 #![tactic(auto)]
 
 mod clear;
+mod protect;
 mod slot;
 mod tables;
 mod touch;

@@ -50,12 +50,17 @@ loop-cell-preserved g c =
     let within : c.in-Some.cell * 512 < c.args.first + c.args.count = omega (arith, c.if-from-end.false, c.from.ensures) in
     let count : c.args.first + c.args.count - c.args.first ≡ c.args.count = omega arith in
     let held : g.A.Allot.out (g.A.Allot.state c.unmap_cell.new.allot) + frames_of now ≡ g.A.Allot.out (g.A.Allot.state c.loop-cell.allot) + frames_of new = c.unmap_cell.ensures.held in
-    let before : g.A.Allot.out (g.A.Allot.state c.loop-cell.allot) + frames_of c.args.self.now ≡ g.A.Allot.out (g.A.Allot.state c.args.allot.now) + frames_of now = c.loop-cell.invariant.3 in
-    (refl, (omega (arith, is_first.reached, c.loop-cell.invariant.1.0), omega (arith, within, c.requires.range)),
+    let before : g.A.Allot.out (g.A.Allot.state c.loop-cell.allot) + frames_of c.args.self.now ≡ g.A.Allot.out (g.A.Allot.state c.args.allot.now) + frames_of now = c.loop-cell.invariant.3 in (
+      refl,
+      (omega (arith, is_first.reached, c.loop-cell.invariant.1.0), omega (arith, within, c.requires.range)),
       unmap-goes-on g.A.Allot.goes (g.A.Allot.state c.args.allot.now) (g.A.Allot.state c.loop-cell.allot) (g.A.Allot.state c.unmap_cell.new.allot) c.args.first c.args.count c.loop-cell.next c.in-Some.cell c.in-Some.slot
           c.args.self.now now new (frames_of now - frames_of new) c.loop-cell.invariant.2 found c.loop-cell.invariant.1.0 within c.unmap_cell.ensures.given
           (subst (λ n. (sides : Sides) → TablesStandFor now sides → IsOutOf (has_some c.args.first n c.in-Some.cell (cell_at sides.leaves c.in-Some.cell)) c.in-Some.cell c.args.first n new (frames_of now - frames_of new) sides) count c.unmap_cell.ensures.follows),
-      omega (arith, held, before), c.unmap_cell.ensures.untold, c.unmap_cell.ensures.slots ∙ c.loop-cell.invariant.5, c.unmap_cell.ensures.unrefused ∙ c.loop-cell.invariant.6)
+      omega (arith, held, before),
+      c.unmap_cell.ensures.untold,
+      c.unmap_cell.ensures.slots ∙ c.loop-cell.invariant.5,
+      c.unmap_cell.ensures.unrefused ∙ c.loop-cell.invariant.6,
+    )
 
 pub returns-then-from-end-clause-made : goal.returns-then-from-end-clause-made
 returns-then-from-end-clause-made g c =
@@ -63,12 +68,12 @@ returns-then-from-end-clause-made g c =
     let is_first : IsFirstFrom c.loop-cell.self.directory c.loop-cell.next c.in-Some.cell c.in-Some.slot = first-some c.loop-cell.self.directory c.loop-cell.next c.in-Some.cell c.in-Some.slot found in
     let behind : c.args.first + c.args.count ≤ c.in-Some.cell * 512 = omega (arith, c.if-from-end.true, c.from.ensures) in
     unmap-ends g.A.Allot.goes (g.A.Allot.state c.args.allot.now) (g.A.Allot.state c.loop-cell.allot) c.args.first c.args.count c.loop-cell.next c.args.self.now c.loop-cell.self c.loop-cell.invariant.2
-        (λ q le. elim (cases_lt q c.in-Some.cell) [
-          | inl lt ↦ inl (is_first.others q le lt)
-          | inr above ↦ inr (omega (arith, behind, above))
-        ])
+    (λ q le. elim (cases_lt q c.in-Some.cell) [
+      | inl lt ↦ inl (is_first.others q le lt)
+      | inr above ↦ inr (omega (arith, behind, above))
+    ])
 
 pub returns-in_default-clause-made : goal.returns-in_default-clause-made
 returns-in_default-clause-made g c =
     unmap-ends g.A.Allot.goes (g.A.Allot.state c.args.allot.now) (g.A.Allot.state c.loop-cell.allot) c.args.first c.args.count c.loop-cell.next c.args.self.now c.loop-cell.self c.loop-cell.invariant.2
-        (λ q le. inl (first-none c.loop-cell.self.directory c.loop-cell.next (sym c.at_or_after.ensures ∙ c.in_default.is) q le))
+    (λ q le. inl (first-none c.loop-cell.self.directory c.loop-cell.next (sym c.at_or_after.ensures ∙ c.in_default.is) q le))

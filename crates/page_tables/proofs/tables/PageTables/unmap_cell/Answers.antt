@@ -28,11 +28,16 @@ clear_in_cell-requires-clause-stands g c =
     let slot : Slot = c.index.result.now in
     let here : slice_get old.slots.items c.args.slot ≡ Some slot = read-slot old.slots.items c.args.slot slot within c.index.ensures in
     let sides : Sides = c.requires.stands.0 in
-    let st : TablesStandFor old sides = c.requires.stands.1 in
-    (sides, (st, ap (λ it. has_present it.parent c.saturating_sub-low.result (c.min-high.result - c.saturating_sub-low.result)) (sym (st.each.leaves c.args.cell))
-        ∙ sym (c.covers.ensures.account (account old.directory old.snapshot old.slots.items sides st c.args.cell c.args.slot slot c.requires.known here)
+    let st : TablesStandFor old sides = c.requires.stands.1 in (
+      sides,
+      (
+        st,
+        ap (λ it. has_present it.parent c.saturating_sub-low.result (c.min-high.result - c.saturating_sub-low.result)) (sym (st.each.leaves c.args.cell))
+            ∙ sym (c.covers.ensures.account (account old.directory old.snapshot old.slots.items sides st c.args.cell c.args.slot slot c.requires.known here)
             (stood old.directory old.snapshot old.slots.items sides st c.args.cell c.args.slot slot c.requires.known here))
-        ∙ c.if-covers.true))
+            ∙ c.if-covers.true,
+      ),
+    )
 
 pub returns-then-covers-clause-follows : goal.returns-then-covers-clause-follows
 returns-then-covers-clause-follows g c = λ sides st.
@@ -43,14 +48,14 @@ returns-then-covers-clause-follows g c = λ sides st.
     let low : ℕ = c.saturating_sub-low.result in
     let size : ℕ = c.min-high.result - c.saturating_sub-low.result in
     let present : has_present (cell_at sides.leaves c.args.cell).parent low size ≡ true =
-        ap (λ it. has_present it.parent low size) (sym (st.each.leaves c.args.cell))
-        ∙ sym (c.covers.ensures.account (account old.directory old.snapshot old.slots.items sides st c.args.cell c.args.slot slot c.requires.known here)
-            (stood old.directory old.snapshot old.slots.items sides st c.args.cell c.args.slot slot c.requires.known here))
-        ∙ c.if-covers.true in
+    ap (λ it. has_present it.parent low size) (sym (st.each.leaves c.args.cell))
+    ∙ sym (c.covers.ensures.account (account old.directory old.snapshot old.slots.items sides st c.args.cell c.args.slot slot c.requires.known here)
+    (stood old.directory old.snapshot old.slots.items sides st c.args.cell c.args.slot slot c.requires.known here))
+    ∙ c.if-covers.true in
     let from : low ≡ first_in_cell c.args.cell c.args.first = omega (arith, c.saturating_sub-low.ensures, c.from-start.ensures) in
     let count : size ≡ count_in_cell c.args.cell c.args.first (c.args.end - c.args.first) = omega (arith, c.saturating_sub-low.ensures, c.from-start.ensures, c.min-high.ensures, c.requires.range.0) in
     are-out c.args.cell c.args.first (c.args.end - c.args.first) low size c.clear_in_cell.new.self (frames_of old - frames_of c.clear_in_cell.new.self) sides from count present
-        (c.clear_in_cell.ensures.follows sides st) (c.clear_in_cell.ensures.event sides st)
+    (c.clear_in_cell.ensures.follows sides st) (c.clear_in_cell.ensures.event sides st)
 
 pub returns-else-covers-clause-follows : goal.returns-else-covers-clause-follows
 returns-else-covers-clause-follows g c = λ sides st.
@@ -61,10 +66,10 @@ returns-else-covers-clause-follows g c = λ sides st.
     let low : ℕ = c.saturating_sub-low.result in
     let size : ℕ = c.min-high.result - c.saturating_sub-low.result in
     let absent : has_present (cell_at sides.leaves c.args.cell).parent low size ≡ false =
-        ap (λ it. has_present it.parent low size) (sym (st.each.leaves c.args.cell))
-        ∙ sym (c.covers.ensures.account (account old.directory old.snapshot old.slots.items sides st c.args.cell c.args.slot slot c.requires.known here)
-            (stood old.directory old.snapshot old.slots.items sides st c.args.cell c.args.slot slot c.requires.known here))
-        ∙ c.if-covers.false in
+    ap (λ it. has_present it.parent low size) (sym (st.each.leaves c.args.cell))
+    ∙ sym (c.covers.ensures.account (account old.directory old.snapshot old.slots.items sides st c.args.cell c.args.slot slot c.requires.known here)
+    (stood old.directory old.snapshot old.slots.items sides st c.args.cell c.args.slot slot c.requires.known here))
+    ∙ c.if-covers.false in
     let from : low ≡ first_in_cell c.args.cell c.args.first = omega (arith, c.saturating_sub-low.ensures, c.from-start.ensures) in
     let count : size ≡ count_in_cell c.args.cell c.args.first (c.args.end - c.args.first) = omega (arith, c.saturating_sub-low.ensures, c.from-start.ensures, c.min-high.ensures, c.requires.range.0) in
     let none : frames_of old - frames_of old ≡ 0 = omega arith in
