@@ -99,7 +99,8 @@ pub takes-dropped : (old new : CellView) (account : CellAccount) (n count : ℕ)
     → ((number page : ℕ) (kept : Kept) → kept_by new.leaves.kept number ≡ Some kept → is_lost kept.leaf ≡ false → page < 512 → bytes_in new.frames (version_at kept.versions page) ≡ bytes_in old.frames (version_at kept.versions page))
     → share old.leaves ≡ share new.leaves + count → TakesAccount (Drop n) old new (replicate count Returned) None account
 takes-dropped old new account n count stands leaves pages kept less =
-    let alike : IsRenaming stands.name new.leaves (without_snapshot n account.state.leaves) = subst (λ l. IsRenaming stands.name l (without_snapshot n account.state.leaves)) (sym leaves) (renaming-without stands.name n old.leaves account.state.leaves stands.leaves) in
+    let alike : IsRenaming stands.name new.leaves (without_snapshot n account.state.leaves) =
+    subst (λ l. IsRenaming stands.name l (without_snapshot n account.state.leaves)) (sym leaves) (renaming-without stands.name n old.leaves account.state.leaves stands.leaves) in
     let shrunk : share account.state.leaves - share (without_snapshot n account.state.leaves) ≡ count =
     omega (arith, less, share-alike stands.name old.leaves account.state.leaves stands.leaves, share-alike stands.name new.leaves (without_snapshot n account.state.leaves) alike) in
     record {

@@ -76,7 +76,11 @@ module _ (view : CellView) (account : CellAccount) (stands : StandsFor view acco
   ]
 
   stands_forked : StandsFor view_forked (record {
-    state = record { leaves = record account.state.leaves { kept = with_kept (fork_of n account.state.leaves.parent) account.state.leaves.kept }; pages = account.state.pages; snapshots = insert account.state.snapshots n account.state.pages };
+    state = record {
+      leaves = record account.state.leaves { kept = with_kept (fork_of n account.state.leaves.parent) account.state.leaves.kept };
+      pages = account.state.pages;
+      snapshots = insert account.state.snapshots n account.state.pages;
+    };
     made = account.made + 1;
   })
   stands_forked = record {

@@ -10,6 +10,9 @@ use Rattle.leaf_cell.specs.declared.snapshot.Snapshot.{Snapshot}
 use Rattle.leaf_cell.specs.declared.snapshot.SnapshotLeaf.{SnapshotLeaf}
 use Rattle.leaf_cell.specs.declared.snapshot.SnapshotLeaf.TheVariants as code
 use Rattle.leaf_cell.specs.Inside.{AreInside, IsPlaceOf, table_places, own_places, snapshot_places, leaf_value, cell_value}
+use Rattle.leaf_cell.specs.Releasing.{AreHome}
+use Rattle.std.specs.Option.{option_map}
+use Rattle.leaf_cell.specs.CellView.{parent_page, bytes_in}
 use Rattle.leaf_cell.proofs.NewCell.{none_is_not_some}
 use Rattle.leaf_cell.proofs.NewVersion.{AreFilled}
 
@@ -52,6 +55,13 @@ module _ (parent : Option Versions) (snapshot : Option Snapshot) (frames : List 
   pub parent_filled : (page place : ℕ) → version_at (table_places parent) page ≡ Some place → IsSome (slice_index_or frames place None)
   parent_filled page place there = (inside.parent_home page place (page_below (table_places parent) page place inside.parent_size there) there).1
 
+  -- a page of the parent has its bytes
+  pub page-filled : (page : ℕ) → is_some (parent_page (cell_value parent snapshot frames) page) ≡ is_some (version_at (table_places parent) page)
+  page-filled page = elim (version_at (table_places parent) page) as (λ o. version_at (table_places parent) page ≡ o → is_some (bytes_in frames o) ≡ is_some o) [
+    | None ↦ λ e. refl
+    | Some place ↦ λ e. elim (slice_index_or frames place None) as (λ f. IsSome f → is_some (option_map (λ frame. frame.bytes) f) ≡ true) [ | None ↦ λ h. h | Some frame ↦ λ h. refl ] (parent_filled page place e)
+  ] refl
+
   pub own_filled : (page place : ℕ) → version_at (own_places snapshot) page ≡ Some place → IsSome (slice_index_or frames place None)
   own_filled page place there = (inside.own_home page place (page_below (own_places snapshot) page place inside.own_size there) there).1
 
@@ -67,6 +77,17 @@ are_filled parent None frames inside page place (inr named) = absurd named
 are_filled parent (Some it) frames inside page place (inr (inl named)) =
     leaf_filled parent (Some it) frames inside it.number it.leaf page place (λ q there. own_filled parent (Some it) frames inside page q there) named.0 named.1
 are_filled parent (Some it) frames inside page place (inr (inr named)) = absurd named
+
+-- each place that a table of the cell names is one of its page's own
+pub parent_at_home : (parent : Option Versions) (snapshot : Option Snapshot) (frames : List (Option FrameView)) → AreInside parent snapshot frames → AreHome (table_places parent)
+parent_at_home parent snapshot frames inside page place named =
+    let small : page < 512 = page_below (table_places parent) page place inside.parent_size named in
+    (small, (inside.parent_home page place small named).0)
+
+pub own_at_home : (parent : Option Versions) (snapshot : Option Snapshot) (frames : List (Option FrameView)) → AreInside parent snapshot frames → AreHome (own_places snapshot)
+own_at_home parent snapshot frames inside page place named =
+    let small : page < 512 = page_below (own_places snapshot) page place inside.own_size named in
+    (small, (inside.own_home page place small named).0)
 
 -- a page with a place makes a table that has pages
 pub has_pages-there : (places : Versions) (page place : ℕ) → version_at places page ≡ Some place → has_pages places ≡ true

@@ -152,6 +152,11 @@ module _ {State : Type 0} (goes : State → Deal → State → Type 0) (from to 
       shrunk : share account.state.leaves - share leaves_then ≡ released.count
       shrunk = omega (arith, less, share-alike stands.name before.leaves account.state.leaves stands.leaves, share-alike stands.name after.leaves leaves_then renaming-lost)
 
+      -- the page is present in the account
+      page_was : is_some (get account.state.pages page) ≡ true
+      page_was = ap is_some (page_there before page place small there unjoined account stands (bytes_in frames (Some place)) refl)
+          ∙ some_bytes (slice_index_or frames place None) ∙ parent_filled parent (Some it) frames inside page place there
+
       takes-lost : TakesAccount (Touch page) before after lost_deals None account
       takes-lost =
           let course : Course = opening_course account.state.leaves (opening_requests account.made (No at ∷ [])) in
@@ -164,7 +169,7 @@ module _ {State : Type 0} (goes : State → Deal → State → Type 0) (from to 
             leaves = renaming-lost;
             made = λ p v live. omega (arith, stands.made p v (live-lost (names_version page version) at p v account.state.leaves live));
             pages = λ p below. bytes-kept frames new (version_at (table_places parent) p) (λ q is. released.kept p q is) ∙ stands.pages p below
-                ∙ sym (ap (λ m. get m p) (with_page_there account.state.pages page (ap is_some (page_there before page place small there unjoined account stands (bytes_in frames (Some place)) refl) ∙ some_bytes (slice_index_or frames place None) ∙ parent_filled parent (Some it) frames inside page place there)));
+                ∙ sym (ap (λ m. get m p) (with_page_there account.state.pages page page_was));
             snapshots = λ n p kept found unlost below. absurd (false≢true (sym unlost ∙ only-lost n kept found));
           })
           (ap (λ k. Denied want.Page at ∷ replicate k Returned) shrunk) refl

@@ -74,7 +74,7 @@ pub record Meant (view : CellView) (account : CellAccount) (stands : StandsFor v
   pub there : version_at account.state.leaves.parent page ≡ Some version
   pub named : stands.name page version ≡ place
 
-meant_from : (name : ℕ → ℕ) (o : Option ℕ) (place : ℕ) → option_map name o ≡ Some place → (v : ℕ) × ((o ≡ Some v) × (name v ≡ place))
+pub meant_from : (name : ℕ → ℕ) (o : Option ℕ) (place : ℕ) → option_map name o ≡ Some place → (v : ℕ) × ((o ≡ Some v) × (name v ≡ place))
 meant_from name None place e = absurd (false≢true (ap is_some e))
 meant_from name (Some v) place e = (v, (refl, same_some (name v) place e))
 

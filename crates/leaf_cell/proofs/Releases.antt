@@ -94,6 +94,12 @@ module _ {State : Type 0} (goes : State → Deal → State → Type 0) (from mid
         | inr set ↦ ap length set.0 ∙ length-set now step.place None
       ]
 
+-- the places of a page under other words for them
+pub released-as : {State : Type 0} (goes : State → Deal → State → Type 0) (from to : State) (named named_too other other_too : Option ℕ) (old new : List (Option FrameView))
+    → named ≡ named_too → other ≡ other_too → IsReleased goes from to named other old new → IsReleased goes from to named_too other_too old new
+released-as goes from to named named_too other other_too old new is is_too released =
+    subst (λ n. IsReleased goes from to n other_too old new) is (subst (λ o. IsReleased goes from to named o old new) is_too released)
+
 -- the other table names the same place: nothing is given back
 pub not-released : {State : Type 0} (goes : State → Deal → State → Type 0) (state : State) (named other : Option ℕ) (frames : List (Option FrameView)) (place : ℕ)
     → named ≡ Some place → other ≡ Some place → IsReleased goes state state named other frames frames
@@ -108,7 +114,8 @@ not-released goes state named other frames place is is_too = record {
 
 -- the pages of a table, and then the table itself
 pub leaf-released : {State : Type 0} (goes : State → Deal → State → Type 0) (from middle to : State) (own other : Versions) (old new : List (Option FrameView)) → AreHome own
-    → Releasing goes from middle own other old new 0 512 → goes middle Returned to → IsLeafReleased goes from to own other 1 old new
+    → Releasing goes from middle own other old new 0 512 → goes middle Returned to
+    → IsLeafReleased goes from to own other 1 old new
 leaf-released goes from middle to own other old new home pages table = record {
   count = pages.count + 1;
   led = subst (λ deals. LeadsAlong goes from deals to) (replicate-both Returned pages.count 1)
@@ -121,7 +128,8 @@ leaf-released goes from middle to own other old new home pages table = record {
 }
 
 -- a leaf without a table
-pub leaf-kept : {State : Type 0} (goes : State → Deal → State → Type 0) (state : State) (own other : Versions) (frames : List (Option FrameView)) → ((page : ℕ) → version_at own page ≡ None) → IsLeafReleased goes state state own other 0 frames frames
+pub leaf-kept : {State : Type 0} (goes : State → Deal → State → Type 0) (state : State) (own other : Versions) (frames : List (Option FrameView))
+    → ((page : ℕ) → version_at own page ≡ None) → IsLeafReleased goes state state own other 0 frames frames
 leaf-kept goes state own other frames none = record {
   count = 0;
   led = refl;

@@ -1,17 +1,19 @@
 -- What is read of a cell is what is read of each account that it stands for.
-use Rattle.std.proofs.Common.{◌≡◌, ℕ, zero, suc, ◌+◌, ◌<◌, List, [], ◌∷◌, Option, Some, None, refl, sym, ◌∙◌, ap}
+use Rattle.std.proofs.Common.{◌≡◌, ℕ, zero, suc, ◌+◌, ◌<◌, List, [], ◌∷◌, Option, Some, None, refl, sym, ◌∙◌, ap, subst, inl, inr}
 use Rattle.std.specs.Prelude.{is_some, IsSome, Bool, true, false, cond, ◌==◌, ◌||◌, count_by, Ok}
 use Rattle.std.specs.Option.{option_map}
 use Rattle.std.proofs.lemmas.Bool.{false≢true}
 use Rattle.std.proofs.lemmas.List.Sums.{sum_by-cons}
-use Rattle.kernel_meaning.specs.Leaves.{Versions, version_at, has_present, Leaf, Own, Joined, Lost, is_lost, Kept, kept_by}
+use Rattle.kernel_meaning.specs.Leaves.{Versions, version_at, has_present, Leaf, Own, Joined, Lost, is_joined, is_lost, Kept, kept_by}
 use Rattle.kernel_meaning.specs.CellAccount.{CellAccount}
-use Rattle.leaf_cell.specs.CellView.{CellView, kept_page, part_of}
-use Rattle.leaf_cell.specs.Renaming.{renamed_from, renamed, AreKeptAlike}
+use Rattle.leaf_cell.specs.CellView.{CellView, AreUnjoined, kept_page, part_of}
+use Rattle.leaf_cell.specs.Renaming.{renamed_from, renamed, AreKeptAlike, IsNamedBy}
 use Rattle.leaf_cell.specs.Standing.{StandsFor, IsSnapRead, snapshot_page}
 use Rattle.leaf_cell.specs.States.{unless_lost, kept_part, snapshot_part}
+use Rattle.leaf_cell.specs.Touching.{IsAlone}
 use Rattle.leaf_cell.proofs.AbsentPages.{has_present-more}
 use Rattle.leaf_cell.proofs.Renamed.{version_at-renamed}
+use Rattle.leaf_cell.proofs.PresentPage.{meant_from}
 
 -- as many pages under other names
 count-renamed_from : (name : ℕ → ℕ → ℕ) (page : ℕ) (versions : Versions) → count_by is_some (renamed_from name page versions) ≡ count_by is_some versions
@@ -73,3 +75,48 @@ snap-stands view account stands n page at size bytes small read = record {
     by (Some kept) is some e =
         let found : (is_lost kept.leaf ≡ false) × (part_of (kept_page view kept page) at size ≡ bytes) = ok_bytes kept.leaf (part_of (kept_page view kept page) at size) bytes e in
         sym found.1 ∙ ap (λ o. part_of o at size) (stands.snapshots n page kept is found.0 small)
+
+module _ (view : CellView) (account : CellAccount) (stands : StandsFor view account) where
+  -- no leaf is joined here where none is there
+  unjoined-back : (its others : List Kept) → AreKeptAlike stands.name its others → AreUnjoined others → AreUnjoined its
+  unjoined-back [] [] alike h = tt
+  unjoined-back [] (o ∷ os) alike h = absurd alike
+  unjoined-back (i ∷ is) [] alike h = absurd alike
+  unjoined-back (i ∷ is) (o ∷ os) alike h = (ap is_joined alike.0.leaf ∙ h.0, unjoined-back is os alike.1 h.1)
+
+  pub unjoined-stands : AreUnjoined account.state.leaves.kept → AreUnjoined view.leaves.kept
+  unjoined-stands h = unjoined-back view.leaves.kept account.state.leaves.kept stands.leaves.kept h
+
+  -- no snapshot is here where none is there
+  pub none-stands : account.state.leaves.kept ≡ [] → view.leaves.kept ≡ []
+  none-stands none = by view.leaves.kept (subst (AreKeptAlike stands.name view.leaves.kept) none stands.leaves.kept)
+    where
+      by : (its : List Kept) → AreKeptAlike stands.name its [] → its ≡ []
+      by [] alike = refl
+      by (i ∷ is) alike = absurd alike
+
+  -- who names a place here names its version there
+  named-back : (page place : ℕ) (its others : List Kept) → AreKeptAlike stands.name its others → IsNamedBy page place its → (w : ℕ) × (IsNamedBy page w others × (stands.name page w ≡ place))
+  named-back page place [] others alike named = absurd named
+  named-back page place (i ∷ is) [] alike named = absurd alike
+  named-back page place (i ∷ is) (o ∷ os) alike (inl here) =
+      let unlost : is_lost o.leaf ≡ false = ap is_lost (sym alike.0.leaf) ∙ here.0 in
+      let found : (w : ℕ) × ((version_at o.versions page ≡ Some w) × (stands.name page w ≡ place)) = meant_from (stands.name page) (version_at o.versions page) place
+      (sym (version_at-renamed stands.name o.versions page) ∙ ap (λ vs. version_at vs page) (sym (alike.0.versions unlost)) ∙ here.1) in
+      (found.0, (inl (unlost, found.1.0), found.1.1))
+  named-back page place (i ∷ is) (o ∷ os) alike (inr later) =
+      let found : (w : ℕ) × (IsNamedBy page w os × (stands.name page w ≡ place)) = named-back page place is os alike.1 later in
+      (found.0, (inr found.1.0, found.1.1))
+
+  -- the page is the parent's alone here where it is there
+  pub alone-stands : (page : ℕ) → IsAlone account.state.leaves page → IsAlone view.leaves page
+  alone-stands page alone = record {
+    present = ap (λ vs. is_some (version_at vs page)) stands.leaves.parent ∙ ap is_some (version_at-renamed stands.name account.state.leaves.parent page)
+        ∙ some-mapped (stands.name page) (version_at account.state.leaves.parent page) ∙ alone.present;
+    unnamed = λ place is named.
+        let found : (w : ℕ) × (IsNamedBy page w account.state.leaves.kept × (stands.name page w ≡ place)) = named-back page place view.leaves.kept account.state.leaves.kept stands.leaves.kept named in
+        let mine : (v : ℕ) × ((version_at account.state.leaves.parent page ≡ Some v) × (stands.name page v ≡ place)) = meant_from (stands.name page) (version_at account.state.leaves.parent page) place
+        (sym (version_at-renamed stands.name account.state.leaves.parent page) ∙ ap (λ vs. version_at vs page) (sym stands.leaves.parent) ∙ is) in
+        let same : found.0 ≡ mine.0 = stands.leaves.apart page found.0 mine.0 (inr found.1.0) (inl mine.1.0) (found.1.1 ∙ sym mine.1.1) in
+        alone.unnamed found.0 (mine.1.0 ∙ ap Some (sym same)) found.1.0;
+  }

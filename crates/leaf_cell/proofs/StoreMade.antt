@@ -1,10 +1,11 @@
 -- What a store made.
 use Rattle.std.proofs.Common.{◌≡◌, ◌≢◌, ℕ, zero, ◌+◌, ◌*◌, ◌/◌, ◌%◌, ◌<◌, ◌≤◌, List, [], ◌∷◌, ◌++◌, length, take, drop, Option, Some, None, refl, sym, ◌∙◌, ap, subst, arith, inl, inr}
-use Rattle.std.specs.Prelude.{is_some, IsSome, false, slice_set, slice_index_or}
+use Rattle.std.specs.Prelude.{is_some, IsSome, false, cond, count_by, slice_set, slice_index_or}
 use Rattle.std.specs.Option.{option_map}
 use Rattle.std.specs.FinMap.{get}
 use Rattle.std.proofs.lemmas.Bool.{cases_eq, false≢true}
 use Rattle.std.proofs.lemmas.List.{get_or-set_same, get_or-set_other, length-set, append-nil, take-append-drop}
+use Rattle.std.proofs.lemmas.List.Sums.{sum_by-set}
 use Rattle.vm_base.specs.Frames.{FrameView}
 use Rattle.vm_base.specs.Places.{page_of, offset_of}
 use Rattle.vm_base.specs.FlatMemory.{PageMap, spliced}
@@ -38,7 +39,8 @@ parent_place parent snapshot frames inside page place there = (inside.parent_hom
 own_place : (parent : Option Versions) (snapshot : Option Snapshot) (frames : List (Option FrameView)) → AreInside parent snapshot frames → (page place : ℕ) → version_at (own_places snapshot) page ≡ Some place → IsPlaceOf page place
 own_place parent snapshot frames inside page place there = (inside.own_home page place (page_below (own_places snapshot) page place inside.own_size there) there).0
 
-pub at_home : (parent : Option Versions) (snapshot : Option Snapshot) (frames : List (Option FrameView)) → AreInside parent snapshot frames → (page place : ℕ) → IsLive (cell_value parent snapshot frames).leaves page place → IsPlaceOf page place
+pub at_home : (parent : Option Versions) (snapshot : Option Snapshot) (frames : List (Option FrameView)) → AreInside parent snapshot frames
+    → (page place : ℕ) → IsLive (cell_value parent snapshot frames).leaves page place → IsPlaceOf page place
 at_home parent snapshot frames inside page place (inl there) = parent_place parent snapshot frames inside page place there
 at_home parent None frames inside page place (inr named) = absurd named
 at_home parent (Some it) frames inside page place (inr (inl named)) =
@@ -70,7 +72,8 @@ stored-apart pages page at old (b ∷ bytes) there whole room p apart =
     ap (λ m. get m p) (with_bytes_in pages (page * 4096 + at) (b ∷ bytes) old (ap (get pages) in_page ∙ there) whole (rw in_place room))
     ∙ get_inserted_apart pages (page_of (page * 4096 + at)) (spliced old (offset_of (page * 4096 + at)) (b ∷ bytes)) p (λ e. apart (e ∙ in_page))
 
-pub place-below : (parent : Option Versions) (snapshot : Option Snapshot) (frames : List (Option FrameView)) → AreInside parent snapshot frames → (page place : ℕ) → page < 512 → version_at (table_places parent) page ≡ Some place → place < length frames
+pub place-below : (parent : Option Versions) (snapshot : Option Snapshot) (frames : List (Option FrameView)) → AreInside parent snapshot frames
+    → (page place : ℕ) → page < 512 → version_at (table_places parent) page ≡ Some place → place < length frames
 place-below parent snapshot frames inside page place small there = elim (parent_place parent snapshot frames inside page place there) [
   | inl x ↦ omega (arith, small, x, inside.room)
   | inr x ↦ omega (arith, small, x, inside.room)
@@ -112,6 +115,15 @@ module _ (parent : Option Versions) (snapshot : Option Snapshot) (frames : List 
     parent_size = inside.parent_size;
     own_size = inside.own_size;
   }
+
+  -- as many frames
+  pub count-stored : count_by is_some new ≡ count_by is_some frames
+  count-stored =
+      let then : Option FrameView = stored_in (slice_index_or frames place None) at bytes in
+      let moved : count_by is_some (slice_set frames place then) + cond (is_some (slice_index_or frames place None)) 1 0 ≡ count_by is_some frames + cond (is_some then) 1 0 =
+      sum_by-set (λ o. cond (is_some o) 1 0) frames place then None place_inside in
+      let same : ◌≡◌ {A = ℕ} (cond (is_some then) 1 0) (cond (is_some (slice_index_or frames place None)) 1 0) = ap (λ b. cond b 1 0) (still_some (slice_index_or frames place None) at bytes) in
+      ap (count_by is_some) stored ∙ omega (arith, moved, same)
 
   -- pages at other places are as before
   bytes_apart : (o : Option ℕ) → ((q : ℕ) → o ≡ Some q → q ≢ place) → bytes_in new o ≡ bytes_in frames o

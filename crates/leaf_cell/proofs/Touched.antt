@@ -1,6 +1,6 @@
 -- What a touch leaves of the pages and the snapshots of a cell.
 use Rattle.std.proofs.Common.{◌≡◌, ◌≢◌, ℕ, ◌<◌, List, [], ◌∷◌, Option, Some, None, refl, sym, ◌∙◌, ap, subst, inl, inr}
-use Rattle.std.specs.Prelude.{is_some, Bool, true, false, cond, ◌==◌, ◌&&◌, ◌||◌, slice_index_or, Result, Ok, Err, OnOk}
+use Rattle.std.specs.Prelude.{is_some, Bool, true, false, ◌&&◌, ◌||◌, slice_index_or, Result, Ok, Err, OnOk}
 use Rattle.std.specs.List.{list_any}
 use Rattle.std.specs.Option.{option_map}
 use Rattle.std.proofs.lemmas.Bool.{cases_eq, false≢true}
@@ -9,19 +9,17 @@ use Rattle.vm_base.specs.Deals.{Deal}
 use Rattle.vm_base.specs.declared.refusals.Refused.{Refused as RefusedRequest}
 use Rattle.vm_base.specs.Frames.{FrameView}
 use Rattle.vm_base.specs.FlatMemory.{zero_page}
-use Rattle.kernel_meaning.specs.Leaves.{Versions, no_versions, version_at, is_own, is_joined, is_lost, Leaf, Own, Joined, Lost, Kept, holds_number, names_version, is_named, kept_by}
+use Rattle.kernel_meaning.specs.Leaves.{Versions, no_versions, version_at, is_own, is_joined, is_lost, Leaf, Own, Joined, Lost, Kept, holds_number, names_version, is_named}
 use Rattle.kernel_meaning.specs.CellAccount.{Touch}
 use Rattle.leaf_cell.specs.declared.snapshot.Snapshot.{Snapshot}
-use Rattle.leaf_cell.specs.declared.snapshot.LeafState.TheVariants as state
 use Rattle.leaf_cell.specs.CellView.{CellView, AreUnjoined, bytes_in, parent_page, page_or_zeros}
-use Rattle.leaf_cell.specs.Inside.{AreInside, table_places, own_places, snapshot_places, kept_value, kept_values, cell_value}
+use Rattle.leaf_cell.specs.Inside.{AreInside, table_places, own_places, snapshot_places, kept_values, cell_value}
 use Rattle.leaf_cell.specs.Adding.{IsPut}
 use Rattle.leaf_cell.specs.Losing.{lost_at}
 use Rattle.leaf_cell.specs.Releasing.{IsLeafReleased}
 use Rattle.leaf_cell.specs.Renaming.{IsNamedBy, IsLive}
 use Rattle.leaf_cell.specs.Standing.{MadeAct}
-use Rattle.leaf_cell.specs.States.{state_of}
-use Rattle.leaf_cell.specs.Touching.{IsAlone, IsTouched, IsKeptOrLost, needs_copy, is_named_too}
+use Rattle.leaf_cell.specs.Touching.{IsAlone, IsTouched, AreKeptOrLost, needs_copy, is_named_too}
 use Rattle.leaf_cell.proofs.NewCell.{none_is_some, none_is_not_some}
 use Rattle.leaf_cell.proofs.Renamed.{eqb-refl}
 use Rattle.leaf_cell.proofs.InsideFacts.{same_some, are_filled}
@@ -54,6 +52,14 @@ named-own-leaf page version (it ∷ others) unjoined (inl here) =
 named-own-leaf page version (it ∷ others) unjoined (inr later) =
     or-right (names_version page version it) (list_any (names_version page version) others) (named-own-leaf page version others unjoined.1 later)
 
+-- snapshots that are as they were
+all-kept : (copy : Bool) (count then : ℕ) (old new : List Kept) → new ≡ old → AreKeptOrLost copy count then old new
+all-kept copy count then old new same = subst (AreKeptOrLost copy count then old) (sym same) (each old)
+  where
+    each : (kept : List Kept) → AreKeptOrLost copy count then kept kept
+    each [] = tt
+    each (it ∷ others) = (inl refl, each others)
+
 -- a page that no own leaf names is the parent's alone: nothing needs to change
 pub touched-in_place : (view : CellView) (page place count : ℕ) → AreUnjoined view.leaves.kept → version_at view.leaves.parent page ≡ Some place → is_named view.leaves page place ≡ false → IsTouched page count count view view
 touched-in_place view page place count unjoined there unnamed = record {
@@ -65,7 +71,7 @@ touched-in_place view page place count unjoined there unnamed = record {
   present = λ p apart. refl;
   reads = λ p small. refl;
   counted = inl refl;
-  snapshots = λ n. inl refl;
+  snapshots = all-kept (needs_copy view.leaves page) count count view.leaves.kept view.leaves.kept refl;
   unjoined = unjoined;
 }
 
@@ -126,7 +132,7 @@ module _ (parent : Option Versions) (snapshot : Option Snapshot) (frames : List 
     present = λ p apart. ap is_some (apart_table p apart);
     reads = λ p below. still_reads is p;
     counted = inl same;
-    snapshots = λ n. inl (ap (λ kept. state_of (kept_by kept n)) same_kept);
+    snapshots = all-kept (needs_copy before.leaves page) count then before.leaves.kept after.leaves.kept same_kept;
     unjoined = subst AreUnjoined (sym same_kept) unjoined;
   }
 
@@ -141,7 +147,7 @@ touched-lost goes from to parent it frames new tables page place at count then r
   present = λ p apart. refl;
   reads = λ p below. ap page_or_zeros (bytes-kept frames new (version_at (table_places parent) p) (λ q is_there. released.kept p q is_there));
   counted = inr (needs, rose);
-  snapshots = λ n. by n (it.number == n);
+  snapshots = (inr (needs, rose, refl, refl, ap Lost is), tt);
   unjoined = (refl, tt);
 }
   where
@@ -151,11 +157,6 @@ touched-lost goes from to parent it frames new tables page place at count then r
     none_named : (p version : ℕ) → IsNamedBy p version (kept_values (table_places parent) (Some (lost_at at it))) → ⊥
     none_named p version (inl here) = false≢true (sym here.0)
     none_named p version (inr later) = later
-
-    by : (n : ℕ) (b : Bool) → IsKeptOrLost (needs_copy (cell_value parent (Some it) frames).leaves page) count then
-        (cond b (Some (kept_value (table_places parent) it)) None) (cond b (Some (kept_value (table_places parent) (lost_at at it))) None)
-    by n true = inr (needs, rose, ap state.Lost is)
-    by n false = inl refl
 
 -- nothing was asked for a page that the parent has alone
 pub made-in_place : {State : Type 0} (goes : State → Deal → State → Type 0) (state : State) (view : CellView) (page place : ℕ) (small : page < 512) (there : version_at view.leaves.parent page ≡ Some place)

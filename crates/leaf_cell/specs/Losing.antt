@@ -13,7 +13,8 @@ abbrev pub lost_at : ℕ → Snapshot → Snapshot
 lost_at at snapshot = record { number = snapshot.number; mode = snapshot.mode; leaf = code.Lost at }
 
 -- the snapshot that was there has lost the cell at this count, and its leaf was given back
-pub record IsLoss {State : Type 0} (goes : State → Deal → State → Type 0) (from to : State) (at : ℕ) (places : Versions) (old : Option Snapshot) (frames : List (Option FrameView)) (new : Option Snapshot) (left : List (Option FrameView)) : Type 0 where
+pub record IsLoss {State : Type 0} (goes : State → Deal → State → Type 0) (from to : State) (at : ℕ) (places : Versions)
+    (old : Option Snapshot) (frames : List (Option FrameView)) (new : Option Snapshot) (left : List (Option FrameView)) : Type 0 where
   pub it : Snapshot
   pub was : old ≡ Some it
   pub becomes : new ≡ Some (lost_at at it)

@@ -1,11 +1,9 @@
 -- What a touch of a page leaves, and what a clear of some pages does.
-use Rattle.std.specs.Prelude.{◌≡◌, ℕ, ◌+◌, ◌<◌, ◌≤◌, ◌⊎◌, Bool, true, false, Option, Some, None, is_some, IsSome}
+use Rattle.std.specs.Prelude.{◌≡◌, ℕ, ◌+◌, ◌<◌, ◌≤◌, ◌⊎◌, Bool, true, false, List, [], ◌∷◌, Option, Some, None, is_some, IsSome}
 use Rattle.vm_base.specs.Counts.{next_count}
-use Rattle.kernel_meaning.specs.Leaves.{version_at, without_versions, is_named, Kept, CellLeaves, kept_by}
-use Rattle.leaf_cell.specs.declared.snapshot.LeafState.TheVariants as state
+use Rattle.kernel_meaning.specs.Leaves.{version_at, without_versions, is_named, Lost, Kept, CellLeaves}
 use Rattle.leaf_cell.specs.CellView.{CellView, AreUnjoined, parent_page, page_or_zeros}
 use Rattle.leaf_cell.specs.Renaming.{IsNamedBy}
-use Rattle.leaf_cell.specs.States.{state_of}
 
 -- a version, where there is one, that a snapshot's own leaf names
 abbrev pub is_named_too : CellLeaves → ℕ → Option ℕ → Bool
@@ -21,10 +19,17 @@ pub record IsAlone (cell : CellLeaves) (page : ℕ) : Type 0 where
   pub present : IsSome (version_at cell.parent page)
   pub unnamed : (version : ℕ) → version_at cell.parent page ≡ Some version → IsNamedBy page version cell.kept → ⊥
 
--- a snapshot has the leaf that it had; or it has lost the cell, since a copy was needed and refused, and `after` counts that refusal
-abbrev pub IsKeptOrLost : Bool → ℕ → ℕ → Option Kept → Option Kept → Type 0
-IsKeptOrLost copy before after old new =
-    (state_of new ≡ state_of old) ⊎ ((copy ≡ true) × (after ≡ next_count before) × (state_of new ≡ state.Lost after))
+-- a snapshot is as it was; or it has lost the cell, since a copy was needed and refused, and `after` counts that refusal
+abbrev pub IsKeptOrLost : Bool → ℕ → ℕ → Kept → Kept → Type 0
+IsKeptOrLost copy before after old new = (new ≡ old)
+    ⊎ ((copy ≡ true) × (after ≡ next_count before) × (new.number ≡ old.number) × (new.mode ≡ old.mode) × (new.leaf ≡ Lost after))
+
+-- the same snapshots, one after another
+abbrev pub AreKeptOrLost : Bool → ℕ → ℕ → List Kept → List Kept → Type 0
+AreKeptOrLost copy before after [] [] = Unit {0}
+AreKeptOrLost copy before after [] (it ∷ news) = ⊥
+AreKeptOrLost copy before after (it ∷ olds) [] = ⊥
+AreKeptOrLost copy before after (old ∷ olds) (new ∷ news) = IsKeptOrLost copy before after old new × AreKeptOrLost copy before after olds news
 
 -- a page was touched, while the count of refused requests went from one number to another
 pub record IsTouched (page before after : ℕ) (old new : CellView) : Type 0 where
@@ -36,8 +41,8 @@ pub record IsTouched (page before after : ℕ) (old new : CellView) : Type 0 whe
   pub reads : (p : ℕ) → p < 512 → page_or_zeros (parent_page new p) ≡ page_or_zeros (parent_page old p)
   -- the count rose by one at most, and only where a copy was needed
   pub counted : (after ≡ before) ⊎ ((needs_copy old.leaves page ≡ true) × (after ≡ next_count before))
-  -- each snapshot has the leaf that it had, but where that copy was refused
-  pub snapshots : (n : ℕ) → IsKeptOrLost (needs_copy old.leaves page) before after (kept_by old.leaves.kept n) (kept_by new.leaves.kept n)
+  -- each snapshot is as it was, but where that copy was refused
+  pub snapshots : AreKeptOrLost (needs_copy old.leaves page) before after old.leaves.kept new.leaves.kept
   -- the next touch may come
   pub unjoined : AreUnjoined new.leaves.kept
 

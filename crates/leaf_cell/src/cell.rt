@@ -129,10 +129,19 @@ impl Cell {
         tables + count_frames(&self.frames)
     }
 
+    /// Tells a proof that the frames of the cell are the share of each account that it stands for,
+    /// without counting them.
+    pub fn tell_share(&self)
+        ensures { (account : CellAccount) → StandsFor self.now account → held_of self.now ≡ account_share account }
+    {
+        let _parent = &self.parent;
+    }
+
     /// Whether the parent has a page in a range of pages.
     pub fn covers(&self, first: u16, pages: u16) -> bool
         requires { first + pages ≤ CELL_PAGES }
         ensures covers { result ≡ has_present self.now.leaves.parent first pages }
+        ensures filled { (p : ℕ) → is_some (parent_page self.now p) ≡ is_some (version_at self.now.leaves.parent p) }
         ensures account { (account : CellAccount) → StandsFor self.now account → result ≡ has_present account.state.leaves.parent first pages }
     {
         covers_in(&self.parent, first, pages)

@@ -92,7 +92,8 @@ fn left_table<A: Allot>(
 {
     let mut left = table;
     left.clear(first, pages);
-    if left.pages() == 0 {
+    let is_empty = left.pages() == 0;
+    if is_empty {
         allot.give(left.into_frame());
         None
     } else {

@@ -9,6 +9,7 @@
 mod cell;
 mod changes;
 mod clear;
+mod laws;
 mod leaf_table;
 mod lookups;
 mod pages;
@@ -20,4 +21,5 @@ mod touch;
 mod unshare;
 
 pub use cell::Cell;
+pub use laws::a_cell_is_as_its_account;
 pub use snapshot::LeafState;

@@ -1,7 +1,48 @@
-//! What a new cell has.
+//! A cell over an allot that counts.
+ghost use Rattle.std.specs.Prelude.{⊤, ℕ};
 
 use crate::{Cell, LeafState};
+use std::alloc::Global;
 use std::test::Fail;
+use vm_base::{Allot, Frame, Lost, NoMemory, Refused, Want};
+
+/// So many frames.
+#[derive(Drop)]
+struct Supply {
+    alloc: Global,
+    left: u32,
+    out: u64,
+    refused: u64,
+}
+
+impl Allot for Supply {
+    ghost State = { ℕ × ℕ };
+
+    ghost state = { λ s. (s.refused, s.out) };
+
+    ghost refused = { λ s. s.0 };
+
+    ghost out = { λ s. s.1 };
+
+    ghost goes = { λ old deal new. ⊤ };
+
+    fn take(&mut self, _want: Want) -> Result<Frame, Refused> {
+        if self.left > 0 && self.out < 1000 {
+            if let Ok(frame) = Frame::new(self.alloc, self.left) {
+                self.left -= 1;
+                self.out += 1;
+                return Ok(frame);
+            }
+        }
+        self.refused = self.refused.saturating_add(1);
+        Err(Refused { at: self.refused })
+    }
+
+    fn give(&mut self, _frame: Frame) {
+        self.left = self.left.saturating_add(1);
+        self.out -= 1;
+    }
+}
 
 #[test]
 fn a_new_cell_holds_nothing(rt: HostRuntime) -> Result<(), Fail> {
@@ -13,5 +54,93 @@ fn a_new_cell_holds_nothing(rt: HostRuntime) -> Result<(), Fail> {
     let mut buf = [9; 3];
     cell.read(511, 4093, &mut buf);
     assert_eq!(rt; &buf, b"\0\0\0");
+    Ok(())
+}
+
+/// What a page is stored to before and after an eager fork leaves.
+#[derive(Drop)]
+struct Trial {
+    // Frames in the cell after each call: the first touch, the fork, the touch after it, the
+    // clear, the drop.
+    held: [u32; 5],
+    state: LeafState,
+    parent: [u8; 2],
+    snapshot: Result<[u8; 2], Lost>,
+    refused: u64,
+    out: u64,
+}
+
+fn write_around_a_fork(alloc: Global, left: u32) -> Result<Option<Trial>, NoMemory> {
+    let mut supply = Supply {
+        alloc,
+        left,
+        out: 0,
+        refused: 0,
+    };
+    let mut cell = Cell::new(alloc)?;
+    let Ok(()) = cell.touch(3, &mut supply) else {
+        return Ok(None);
+    };
+    cell.store(3, 0, b"ab");
+    let touched = cell.held();
+    let Ok(()) = cell.fork_eager(1, &mut supply) else {
+        return Ok(None);
+    };
+    let forked = cell.held();
+    let Ok(()) = cell.touch(3, &mut supply) else {
+        return Ok(None);
+    };
+    cell.store(3, 0, b"z");
+    let copied = cell.held();
+    let mut parent = [0; 2];
+    cell.read(3, 0, &mut parent);
+    let mut buf = [0; 2];
+    let snapshot = match cell.snap_read(1, 3, 0, &mut buf) {
+        Ok(()) => Ok(buf),
+        Err(lost) => Err(lost),
+    };
+    let state = cell.state(1);
+    cell.clear(0, 512, &mut supply);
+    let cleared = cell.held();
+    cell.drop_snap(1, &mut supply);
+    Ok(Some(Trial {
+        held: [touched, forked, copied, cleared, cell.held()],
+        state,
+        parent,
+        snapshot,
+        refused: supply.refused,
+        out: supply.out,
+    }))
+}
+
+#[test]
+fn a_write_after_the_fork_is_not_in_the_snapshot(rt: HostRuntime) -> Result<(), Fail> {
+    // With three frames the copy is refused, and the snapshot's table goes back.
+    let cases = [
+        (9, [2, 3, 4, 2, 0], LeafState::Own, Ok(*b"ab"), 0),
+        (4, [2, 3, 4, 2, 0], LeafState::Own, Ok(*b"ab"), 0),
+        (
+            3,
+            [2, 3, 2, 0, 0],
+            LeafState::Lost(1),
+            Err(Lost { at: 1 }),
+            1,
+        ),
+    ];
+    for (left, held, state, snapshot, refused) in cases {
+        let trial = write_around_a_fork(rt.alloc(), left)?;
+        let Some(trial) = trial else {
+            panic!(rt; "{left} frames are enough");
+        };
+        assert_eq!(rt; trial.held, held);
+        assert_eq!(rt; trial.state, state);
+        assert_eq!(rt; &trial.parent, b"zb");
+        assert_eq!(rt; trial.snapshot, snapshot);
+        assert_eq!(rt; trial.refused, refused);
+        assert_eq!(rt; trial.out, 0);
+    }
+    for left in 0..3 {
+        assert!(rt; write_around_a_fork(rt.alloc(), left)?.is_none());
+    }
     Ok(())
 }

@@ -89,6 +89,7 @@ impl Cell {
         requires unnamed { (place : ℕ) → version_at self.old.leaves.parent page ≡ Some place → IsNamedBy page place self.old.leaves.kept → ⊥ }
         ensures stored { (account : CellAccount) → StandsFor self.old account → TakesAccount (Store page at bytes.now) self.old self.new [] None account }
         ensures leaves { self.new.leaves ≡ self.old.leaves }
+        ensures held { held_of self.new ≡ held_of self.old }
     {
         if let Some(place) = place_in(&self.parent, page) {
             store_place(&mut self.frames, place, at as usize, bytes);

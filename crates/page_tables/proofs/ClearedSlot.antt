@@ -1,9 +1,12 @@
 -- The slot whose cell loses pages of the parent, seen from its view: what the tables stand for then, and what they give back.
 use Rattle.std.proofs.Common.{◌≡◌, ℕ, ◌+◌, ◌-◌, ◌≤◌, List, [], ◌∷◌, length, Some, None, refl, sym, ◌∙◌, ap, subst, arith}
-use Rattle.std.specs.Prelude.{true, false, slice_set, ◌||◌, ◌==◌, not}
+use Rattle.std.specs.Prelude.{true, false, slice_set, slice_index_or, ◌||◌, ◌==◌, not}
 use Rattle.std.specs.List.{slice_get}
 use Rattle.std.specs.FinMap.{get, remove, retain_keys}
 use Rattle.std.proofs.lemmas.Bool.{ne_eqb}
+use Rattle.std.proofs.lemmas.List.Sums.{sum_by-set}
+use Rattle.std.proofs.lemmas.Option.{slice_get_within, get_or_from_slice_get}
+use Rattle.leaf_cell.proofs.HeldShare.{share-stands}
 use Rattle.vm_base.specs.Deals.{Deal}
 use Rattle.vm_base.specs.FlatStep.{is_beyond}
 use Rattle.vm_base.specs.Places.{directory_frames}
@@ -25,7 +28,7 @@ use Rattle.page_tables.specs.Sides.{Sides}
 use Rattle.page_tables.specs.Courses.{Runs}
 use Rattle.page_tables.specs.Clearing.{cell_without, sides_without, cell_unmapped, owner_left}
 use Rattle.page_tables.specs.Standing.{StandFor, TablesStandFor}
-use Rattle.page_tables.specs.Held.{frames_in, snapshot_frames}
+use Rattle.page_tables.specs.Held.{frames_in, shares_in, snapshot_frames}
 use Rattle.page_tables.proofs.LessShare.{less-share}
 use Rattle.page_tables.proofs.OwnedSlots.{frames-set}
 use Rattle.page_tables.proofs.Room.{directory-cells}
@@ -39,6 +42,25 @@ freed-numbers d e s f g h k sums less fewer = omega arith
 -- a cell that stands for an account holds its share
 abbrev pub HoldsShare : CellView → Type 0
 HoldsShare view = (account : CellAccount) → StandsFor view account → held_of view ≡ share account.state.leaves
+
+-- one slot gets another cell, with its share
+pub shares-set : (slots : List Slot) (s : ℕ) (slot new : Slot) → slice_get slots s ≡ Some slot → shares_in (slice_set slots s new) + share slot.cell.leaves ≡ shares_in slots + share new.cell.leaves
+shares-set slots s slot new here =
+    let sums : shares_in (slice_set slots s new) + share (slice_index_or slots s slot).cell.leaves ≡ shares_in slots + share new.cell.leaves = sum_by-set (λ it. share it.cell.leaves) slots s new slot (slice_get_within slots s slot here) in
+    let was : share (slice_index_or slots s slot).cell.leaves ≡ share slot.cell.leaves = ap (λ it. share it.cell.leaves) (get_or_from_slice_get slots s slot slot here) in
+    omega (arith, sums, was)
+
+-- what the cells hold and their shares change by the same, where one slot's cell holds its share before and after
+pub even-slots : (slots : List Slot) (s : ℕ) (slot new : Slot) → slice_get slots s ≡ Some slot → held_of slot.cell ≡ share slot.cell.leaves → held_of new.cell ≡ share new.cell.leaves
+    → frames_in slots + shares_in (slice_set slots s new) ≡ shares_in slots + frames_in (slice_set slots s new)
+even-slots slots s slot new here before after =
+    let held : frames_in (slice_set slots s new) + held_of slot.cell ≡ frames_in slots + held_of new.cell = frames-set slots s slot new here in
+    let shares : shares_in (slice_set slots s new) + share slot.cell.leaves ≡ shares_in slots + share new.cell.leaves = shares-set slots s slot new here in
+    omega (arith, held, shares, before, after)
+
+-- a cell that stands for some account holds the share of its own leaves
+pub holds-own : (view : CellView) (account : CellAccount) → StandsFor view account → HoldsShare view → held_of view ≡ share view.leaves
+holds-own view account stands holds = holds account stands ∙ sym (share-stands view account stands)
 
 module _ (old : PageTables) (c s first n : ℕ) (slot : Slot) (known : get old.directory c ≡ Some s) (here : slice_get old.slots.items s ≡ Some slot) (fits : first + n ≤ 512) where
   -- the pages are present in the slot where they are on the parent's side
@@ -75,6 +97,10 @@ module _ (old : PageTables) (c s first n : ℕ) (slot : Slot) (known : get old.d
 
     after_account : StandsFor view then_account
     after_account = stands_then old.directory old.snapshot old.slots.items sides st c s slot known here first n present fits view deals takes
+
+    pub even-here : (new : Slot) → new.cell ≡ view → frames_in old.slots.items + shares_in (slice_set old.slots.items s new) ≡ shares_in old.slots.items + frames_in (slice_set old.slots.items s new)
+    even-here new same = even-slots old.slots.items s slot new here (holds-own slot.cell meant stood_here shares_before)
+        (subst (λ it. held_of it ≡ share it.leaves) (sym same) (holds-own view then_account after_account shares_after))
 
     held_after : held_of view ≡ share left
     held_after = shares_after then_account after_account

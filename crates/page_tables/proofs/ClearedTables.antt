@@ -28,7 +28,7 @@ use Rattle.page_tables.proofs.GoneCell.{cell_at-gone, cell_at-stays, find-stays,
 use Rattle.page_tables.proofs.FreedSlots.{freed_slots, owner-of-other, slots-freed}
 use Rattle.page_tables.proofs.SlotLemmas.{cells_with, cells_with-here, cells_with-apart, length-set}
 use Rattle.page_tables.proofs.LeafMap.{cell_at-here, cell_at-apart}
-use Rattle.page_tables.proofs.KnownTouch.{owner-same}
+use Rattle.page_tables.proofs.SlotLemmas.{owner-same}
 use Rattle.page_tables.proofs.Acting.{tables-acted}
 
 module _ (directory : CellMap) (snapshot : Option SnapshotTables) (slots : List Slot) (sides : Sides) (st : StandFor directory snapshot slots sides)

@@ -1,10 +1,10 @@
 -- The touch of a page in a cell that the directory has.
 use Rattle.std.proofs.Common.{◌≡◌, ◌≢◌, ℕ, ◌+◌, ◌*◌, ◌/◌, ◌%◌, ◌<◌, ◌≤◌, List, [], ◌∷◌, ◌++◌, length, Option, Some, None, Result, Ok, Err, cond, eqb, refl, sym, ◌∙◌, ap, subst, arith, inl, inr}
-use Rattle.std.specs.Prelude.{true, false, is_some, slice_set, map, replicate, ◌||◌, ◌==◌, not}
+use Rattle.std.specs.Prelude.{OnOk, true, false, is_some, slice_set, map, replicate, ◌||◌, ◌==◌, not}
 use Rattle.std.specs.Option.{option_and_then, option_map}
 use Rattle.std.specs.List.{slice_get}
 use Rattle.std.specs.FinMap.{get}
-use Rattle.std.proofs.lemmas.Bool.{cases_eq}
+use Rattle.std.proofs.lemmas.Bool.{cases_eq, false≢true}
 use Rattle.std.proofs.lemmas.List.{append-nil}
 use Rattle.std.proofs.lemmas.Option.{slice_get_within}
 use Rattle.vm_base.specs.declared.refusals.Refused.{Refused}
@@ -19,18 +19,22 @@ use Rattle.kernel_meaning.specs.EventRequests.{Progress, FrameRefusal, page_touc
 use Rattle.leaf_cell.specs.CellView.{CellView, AreUnjoined}
 use Rattle.leaf_cell.specs.Standing.{StandsFor, TakesAccount, MadeAct}
 use Rattle.leaf_cell.specs.States.{refused_count}
+use Rattle.leaf_cell.specs.Touching.{IsTouched}
 use Rattle.page_tables.specs.declared.slot.Slot.{Slot}
 use Rattle.page_tables.specs.declared.tables.PageTables.{PageTables}
 use Rattle.page_tables.specs.Sides.{Sides}
 use Rattle.page_tables.specs.Courses.{requests_between, course_between, progress_between, RunsAt, Runs}
 use Rattle.page_tables.specs.Standing.{owner_at, state_in, StandFor, TablesStandFor}
-use Rattle.page_tables.specs.Making.{page_refusal, pages_with, Follows, MadeEvent}
+use Rattle.page_tables.specs.Accesses.{IsReady}
+use Rattle.page_tables.specs.Making.{page_refusal, pages_with, Follows, FollowsTouch}
 use Rattle.page_tables.proofs.TouchRuns.{touched_alone, touch-runs}
 use Rattle.page_tables.proofs.TouchShapes.{IsTouchCourse, EndsTouch, touch-course, touch-size, touch-unjoined, touch-numbers, page-used, page-there}
-use Rattle.page_tables.proofs.LeafMap.{cell_at-here, cell_at-apart, found-used}
+use Rattle.page_tables.proofs.LeafMap.{found-with_cell, length-with_cell, cell_at-here, cell_at-apart, found-used}
 use Rattle.page_tables.proofs.Missing.{missing-known}
 use Rattle.page_tables.proofs.PageMaps.{with_page-inside, with_page-outside}
-use Rattle.page_tables.proofs.SlotLemmas.{slice_get-set-here, slice_get-set-apart}
+use Rattle.page_tables.proofs.SlotLemmas.{owner-same}
+use Rattle.page_tables.proofs.Again.{with_cell-same}
+use Rattle.page_tables.proofs.Readiness.{touched-ready, touched-still}
 use Rattle.page_tables.proofs.Acting.{sides_acted, slots_acted, tables-acted}
 
 -- a cell's touch was refused, and so was the page's
@@ -60,19 +64,6 @@ module _ (page : ℕ) (leaves : Leaves) (made : ℕ) (deals : List Deal) (after 
         ∙ ap (λ course. cell_touch_ended course.refused page 0 (with_course (cell_of page) course start)) (runs.runs before rest)
         ∙ touch-ended page (with_cell leaves (cell_of page) end.cell) later rest (before ++ deals) refused;
   }
-
--- an owner stays where a slot gets another cell of the same
-pub owner-same : (slots : List Slot) (s c : ℕ) (slot : Slot) (view : CellView) → slice_get slots s ≡ Some slot → slot.owner ≡ Some c
-    → (t : ℕ) → owner_at (slice_set slots s (record { owner = Some c; cell = view })) t ≡ owner_at slots t
-owner-same slots s c slot view here mine t = elim (cases_eq t s) [
-  | inl same ↦
-      ap (owner_at (slice_set slots s new)) same ∙ ap (option_and_then (λ it. it.owner)) (slice_get-set-here slots s new (slice_get_within slots s slot here))
-      ∙ sym (ap (owner_at slots) same ∙ ap (option_and_then (λ it. it.owner)) here ∙ mine)
-  | inr apart ↦ ap (option_and_then (λ it. it.owner)) (slice_get-set-apart slots s t new apart)
-]
-  where
-    new : Slot
-    new = record { owner = Some c; cell = view }
 
 module _ (old : PageTables) (sides : Sides) (st : TablesStandFor old sides) (page s : ℕ) (slot : Slot)
     (known : get old.directory (cell_of page) ≡ Some s) (here : slice_get old.slots.items s ≡ Some slot)
@@ -181,3 +172,27 @@ module _ (old : PageTables) (sides : Sides) (st : TablesStandFor old sides) (pag
     where
       then : Sides
       then = record { leaves = leaves; pages = pages_with page refused sides.pages; snapshots = sides.snapshots; made = end.requests.made }
+
+  -- each page that may be stored to, behind the touch
+  pub known-touches : (from to : ℕ) → OnOk result (IsTouched (page % 512) from to slot.cell view) → (new : PageTables) → new.directory ≡ old.directory → new.snapshot ≡ old.snapshot → new.slots.items ≡ new_slots
+      → FollowsTouch page new deals refused sides
+  unfolding known-follows
+  known-touches from to touched new same alike set = record {
+    follows = known-follows new same alike set;
+    ready = ready-as result refl;
+    still = still-as result refl;
+    found = λ granted q. found-with_cell sides.leaves c end.cell used q;
+    size = λ granted. length-with_cell sides.leaves c end.cell used st.kept.sorted;
+  }
+    where
+      ready-as : (r : Result (Unit {0}) Refused) → result ≡ r → page_refusal page result ≡ None → IsReady leaves page
+      ready-as (Ok done) e granted = touched-ready sides.leaves page slot.cell view account (record { state = state; made = end.requests.made }) stood takes.stands (st.each.leaves c) used from to
+          (subst (λ r. OnOk r (IsTouched (page % 512) from to slot.cell view)) e touched)
+      ready-as (Err why) e granted = absurd (false≢true (ap is_some (sym granted ∙ ap (page_refusal page) e)))
+
+      still-as : (r : Result (Unit {0}) Refused) → result ≡ r → (q : ℕ) → IsReady sides.leaves q → IsReady leaves q
+      still-as (Ok done) e q ready = touched-still sides.leaves page slot.cell view account (record { state = state; made = end.requests.made }) stood takes.stands (st.each.leaves c) used from to
+          (subst (λ r. OnOk r (IsTouched (page % 512) from to slot.cell view)) e touched) q ready
+      still-as (Err why) e q ready =
+          let at_end : EndsTouch p start.cell end.cell (Some why.at) = subst (EndsTouch p start.cell end.cell) (takes.ended ∙ ap refused_count e) shape.ends in
+          subst (λ cells. IsReady cells q) (sym (with_cell-same sides.leaves c st.kept) ∙ ap (with_cell sides.leaves c) (sym (at_end ∙ st.each.leaves c))) ready

@@ -1,6 +1,6 @@
 -- The map of the cells: what it has at a cell after an act there, and that it stays in order.
 use Rattle.std.proofs.Common.{◌≡◌, ◌≢◌, ℕ, ◌+◌, List, [], ◌∷◌, length, map, Option, Some, None, cond, eqb, refl, sym, ◌∙◌, ap, subst, arith, inl, inr}
-use Rattle.std.specs.Prelude.{Bool, true, false, not, ◌&&◌, T, is_some, filter, unwrap_or, sum_by}
+use Rattle.std.specs.Prelude.{Bool, true, false, not, ◌&&◌, ◌||◌, T, is_some, filter, unwrap_or, sum_by}
 use Rattle.std.specs.Ordering.{nat_cmp, is_lt, is_eq, eq_by_cmp}
 use Rattle.std.proofs.Common.{Ordering, Less, Equal, Greater}
 use Rattle.std.proofs.lemmas.List.Sums.{sum_by-cons}
@@ -69,7 +69,7 @@ module _ {X : Type 0} where
             omega arith
         | Equal ↦ λ p. let other : sum_by g ((e.0, v) ∷ es) ≡ f (Some v) + sum_by g es = sum_by-cons g (e.0, v) es in omega arith
         | Greater ↦ λ p.
-            let rest : sum_by g (put nat_cmp k v es) + f (find nat_cmp k es) ≡ sum_by g es + f (Some v) = sum-put f none k v es (right _ _ h) in
+            let rest : ◌≡◌ {A = ℕ} (sum_by g (put nat_cmp k v es) + f (find nat_cmp k es)) (sum_by g es + f (Some v)) = sum-put f none k v es (right (below_all nat_cmp e.0 es) (is_sorted nat_cmp es) h) in
             let more : sum_by g (e ∷ put nat_cmp k v es) ≡ g e + sum_by g (put nat_cmp k v es) = sum_by-cons g e (put nat_cmp k v es) in
             omega arith
       ] refl
@@ -164,6 +164,9 @@ module _ (leaves : Leaves) (c : ℕ) (new : CellLeaves) (used : is_used new ≡ 
 
   pub find-apart : (q : ℕ) → q ≢ c → find nat_cmp q (with_cell leaves c new) ≡ find nat_cmp q leaves
   find-apart q apart = find-with_cell q ∙ cond-false (eqb q c) _ _ (ne_eqb q c apart)
+
+  pub found-with_cell : (q : ℕ) → is_some (find nat_cmp q (with_cell leaves c new)) ≡ (eqb q c || is_some (find nat_cmp q leaves))
+  found-with_cell q = ap is_some (find-with_cell q) ∙ elim (eqb q c) as (λ b. is_some (cond b (Some new) (find nat_cmp q leaves)) ≡ (b || is_some (find nat_cmp q leaves))) [ true ↦ refl | false ↦ refl ]
 
   pub cell_at-here : (q : ℕ) → q ≡ c → cell_at (with_cell leaves c new) q ≡ new
   cell_at-here q here = ap (λ o. unwrap_or o unused_cell) (find-here q here)

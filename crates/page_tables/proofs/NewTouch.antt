@@ -4,7 +4,7 @@ use Rattle.std.specs.Prelude.{true, false, is_some, slice_set, map, ◌||◌, �
 use Rattle.std.specs.Option.{option_and_then}
 use Rattle.std.specs.List.{slice_get}
 use Rattle.std.specs.FinMap.{get, insert, remove, keys}
-use Rattle.std.proofs.lemmas.Bool.{cases_eq, cond-true, cond-false, eq-eqb, ne_eqb}
+use Rattle.std.proofs.lemmas.Bool.{cases_eq, cond-true, cond-false, eq-eqb, ne_eqb, false≢true}
 use Rattle.std.proofs.lemmas.Option.{slice_get_within}
 use Rattle.vm_base.specs.declared.refusals.Refused.{Refused}
 use Rattle.vm_base.specs.declared.frame_request.Want.{Want}
@@ -20,6 +20,7 @@ use Rattle.kernel_meaning.specs.EventRequests.{page_touched, missing_tables}
 use Rattle.leaf_cell.specs.CellView.{CellView, AreUnjoined}
 use Rattle.leaf_cell.specs.Standing.{StandsFor, TakesAccount}
 use Rattle.leaf_cell.specs.States.{refused_count}
+use Rattle.leaf_cell.specs.Touching.{IsTouched}
 use Rattle.table_levels.specs.Cells.{CellMap}
 use Rattle.table_levels.proofs.CellLemmas.{get_removed}
 use Rattle.page_tables.specs.declared.slot.Slot.{Slot}
@@ -27,14 +28,16 @@ use Rattle.page_tables.specs.declared.tables.PageTables.{PageTables}
 use Rattle.page_tables.specs.Sides.{Sides}
 use Rattle.page_tables.specs.Courses.{course_between, RunsAt, Runs}
 use Rattle.page_tables.specs.Standing.{owner_at, state_in, StandFor, TablesStandFor, IsSlotFor}
-use Rattle.page_tables.specs.Making.{page_refusal, pages_with, Follows}
+use Rattle.page_tables.specs.Accesses.{IsReady}
+use Rattle.page_tables.specs.Making.{page_refusal, pages_with, Follows, FollowsTouch}
 use Rattle.page_tables.proofs.TouchRuns.{touch-runs}
 use Rattle.page_tables.proofs.TouchShapes.{IsTouchCourse, EndsTouch, touch-course, touch-size, touch-unjoined, touch-numbers, page-there}
-use Rattle.page_tables.proofs.LeafMap.{cell_at-here, cell_at-apart}
+use Rattle.page_tables.proofs.LeafMap.{found-with_cell, length-with_cell, cell_at-here, cell_at-apart}
 use Rattle.page_tables.proofs.PageMaps.{with_page-inside, with_page-outside}
 use Rattle.page_tables.proofs.SlotLemmas.{slice_get-set-here, stands-later}
 use Rattle.page_tables.proofs.Acting.{tables-acted, owner-kept}
 use Rattle.page_tables.proofs.Again.{tables-later, with_cell-same}
+use Rattle.page_tables.proofs.Readiness.{touched-ready, touched-still}
 use Rattle.page_tables.proofs.Room.{directory-cells}
 use Rattle.page_tables.proofs.KnownTouch.{refusal_at, refusal-of}
 use Rattle.page_tables.proofs.Rows.{deals_behind, deals_up_to, new-runs, lacking-runs}
@@ -171,6 +174,17 @@ module _ (old : PageTables) (sides : Sides) (st : TablesStandFor old sides) (pag
             (subst (λ items. StandFor (insert old.directory c s) old.snapshot items then) (sym set) stands_then));
       }
 
+      pub granted-touches : (from to : ℕ) → IsTouched p from to slot.cell view → (new : PageTables) → new.directory ≡ insert old.directory c s → new.snapshot ≡ old.snapshot → new.slots.items ≡ new_slots
+          → FollowsTouch page new (deals_behind wants deals None) None sides
+      unfolding granted-follows
+      granted-touches from to touched new directory alike set = record {
+        follows = granted-follows new directory alike set;
+        ready = λ granted. touched-ready sides.leaves page slot.cell view account (record { state = state; made = end.requests.made }) stood takes.stands (st.each.leaves c) used from to touched;
+        still = touched-still sides.leaves page slot.cell view account (record { state = state; made = end.requests.made }) stood takes.stands (st.each.leaves c) used from to touched;
+        found = λ granted q. found-with_cell sides.leaves c end.cell used q;
+        size = λ granted. length-with_cell sides.leaves c end.cell used st.kept.sorted;
+      }
+
     -- the page was refused
     module _ (at : ℕ) (takes : TakesAccount (Touch p) slot.cell view deals (Some at) account) where
       same_cell : end.cell ≡ cell_at sides.leaves c
@@ -193,6 +207,17 @@ module _ (old : PageTables) (sides : Sides) (st : TablesStandFor old sides) (pag
                 (tables-later old.directory old.snapshot old.slots.items sides end.requests.made later st))));
       }
 
+      pub refused-touches : (new : PageTables) → new.directory ≡ old.directory → new.snapshot ≡ old.snapshot → new.slots.items ≡ old.slots.items
+          → FollowsTouch page new (deals_behind wants deals (Some at)) (refusal_at page (Some at)) sides
+      unfolding refused-follows
+      refused-touches new directory alike set = record {
+        follows = refused-follows new directory alike set;
+        ready = λ granted. absurd (false≢true (ap is_some (sym granted)));
+        still = λ q ready. subst (λ cells. IsReady cells q) same_leaves ready;
+        found = λ granted. absurd (false≢true (ap is_some (sym granted)));
+        size = λ granted. absurd (false≢true (ap is_some (sym granted)));
+      }
+
   -- a table was refused
   pub lacking-follows : (front : List Want) (want : Want) (more : List Want) → wants ≡ front ++ want ∷ more → (at : ℕ)
       → Follows (page_touched page) (pages_with page) old (deals_up_to front want at) (refusal_at page (Some at)) sides
@@ -201,6 +226,17 @@ module _ (old : PageTables) (sides : Sides) (st : TablesStandFor old sides) (pag
     made = sides.made + length front + 1;
     runs = lacking-runs page sides.leaves sides.made wants lacks front want more order at;
     stands = tables-later old.directory old.snapshot old.slots.items sides (sides.made + length front + 1) (omega arith) st;
+  }
+
+  pub lacking-touches : (front : List Want) (want : Want) (more : List Want) → wants ≡ front ++ want ∷ more → (at : ℕ)
+      → FollowsTouch page old (deals_up_to front want at) (refusal_at page (Some at)) sides
+  unfolding lacking-follows
+  lacking-touches front want more order at = record {
+    follows = lacking-follows front want more order at;
+    ready = λ granted. absurd (false≢true (ap is_some (sym granted)));
+    still = λ q ready. ready;
+    found = λ granted. absurd (false≢true (ap is_some (sym granted)));
+    size = λ granted. absurd (false≢true (ap is_some (sym granted)));
   }
 
 -- a cell that was added and is taken out again leaves the directory as it was

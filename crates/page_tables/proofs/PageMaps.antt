@@ -8,7 +8,7 @@ use Rattle.vm_base.specs.FlatStep.{with_page}
 use Rattle.vm_base.proofs.NumberedMaps.{get_inserted_here, get_inserted_apart}
 
 -- a page of zeros where there is none
-abbrev present_or_zeros : Option (List ℕ) → List ℕ
+abbrev pub present_or_zeros : Option (List ℕ) → List ℕ
 present_or_zeros bytes = unwrap_or bytes zero_page
 
 pub with_page-here : (pages : PageMap) (page : ℕ) → get (with_page pages page) page ≡ Some (present_or_zeros (get pages page))

@@ -172,3 +172,16 @@ module _ (leaves : Leaves) (cells : ℕ → CellState) (made : ℕ) (slots : Lis
     owned = owned-there;
     counted = counted-there sorted;
   }
+
+-- an owner stays where a slot gets another cell of the same
+pub owner-same : (slots : List Slot) (s c : ℕ) (slot : Slot) (view : CellView) → slice_get slots s ≡ Some slot → slot.owner ≡ Some c
+    → (t : ℕ) → owner_at (slice_set slots s (record { owner = Some c; cell = view })) t ≡ owner_at slots t
+owner-same slots s c slot view here mine t = elim (cases_eq t s) [
+  | inl same ↦
+      ap (owner_at (slice_set slots s new)) same ∙ ap (option_and_then (λ it. it.owner)) (slice_get-set-here slots s new (slice_get_within slots s slot here))
+      ∙ sym (ap (owner_at slots) same ∙ ap (option_and_then (λ it. it.owner)) here ∙ mine)
+  | inr apart ↦ ap (option_and_then (λ it. it.owner)) (slice_get-set-apart slots s t new apart)
+]
+  where
+    new : Slot
+    new = record { owner = Some c; cell = view }

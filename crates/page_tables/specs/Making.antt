@@ -1,15 +1,19 @@
 -- What a call over an allot tells of the two sides.
-use Rattle.std.specs.Prelude.{◌≡◌, ℕ, List, Option, Some, None, Result, Ok, Err}
+use Rattle.std.specs.Prelude.{◌≡◌, ℕ, ◌+◌, ◌==◌, ◌||◌, cond, length, is_some, List, Option, Some, None, Result, Ok, Err}
 use Rattle.vm_base.specs.declared.refusals.Refused.{Refused}
+use Rattle.std.specs.Ordering.{nat_cmp}
+use Rattle.std.specs.FinMap.{find}
+use Rattle.vm_base.specs.Places.{cell_of}
 use Rattle.vm_base.specs.Deals.{Deal, LeadsAlong}
 use Rattle.vm_base.specs.FlatMemory.{PageMap}
 use Rattle.vm_base.specs.FlatStep.{with_page}
 use Rattle.kernel_meaning.specs.FrameLaw.{Leaves}
-use Rattle.kernel_meaning.specs.EventRequests.{Progress, FrameRefusal}
+use Rattle.kernel_meaning.specs.EventRequests.{Progress, FrameRefusal, page_touched}
 use Rattle.page_tables.specs.declared.tables.PageTables.{PageTables}
 use Rattle.page_tables.specs.Sides.{Sides}
 use Rattle.page_tables.specs.Courses.{Runs}
 use Rattle.page_tables.specs.Standing.{TablesStandFor}
+use Rattle.page_tables.specs.Accesses.{IsReady}
 
 -- the refusal of a page, where it was refused
 abbrev pub page_refusal : ℕ → Result (Unit {0}) Refused → Option FrameRefusal
@@ -33,3 +37,17 @@ pub record MadeEvent {State : Type 0} (goes : State → Deal → State → Type 
   pub deals : List Deal
   pub led : LeadsAlong goes from deals to
   pub follows : (sides : Sides) → TablesStandFor old sides → Follows event pages new deals refused sides
+
+-- the touch of a page followed: where it was granted the page may be stored to, and its cell has a slot; each page that might be stored to before still may
+pub record FollowsTouch (page : ℕ) (new : PageTables) (deals : List Deal) (refused : Option FrameRefusal) (sides : Sides) : Type 0 where
+  pub follows : Follows (page_touched page) (pages_with page) new deals refused sides
+  pub ready : refused ≡ None → IsReady follows.leaves page
+  pub still : (q : ℕ) → IsReady sides.leaves q → IsReady follows.leaves q
+  pub found : refused ≡ None → (c : ℕ) → is_some (find nat_cmp c follows.leaves) ≡ ((c == cell_of page) || is_some (find nat_cmp c sides.leaves))
+  pub size : refused ≡ None → length follows.leaves ≡ cond (is_some (find nat_cmp (cell_of page) sides.leaves)) (length sides.leaves) (length sides.leaves + 1)
+
+-- a call touched a page
+pub record MadeTouch {State : Type 0} (goes : State → Deal → State → Type 0) (from to : State) (page : ℕ) (old new : PageTables) (refused : Option FrameRefusal) : Type 0 where
+  pub deals : List Deal
+  pub led : LeadsAlong goes from deals to
+  pub follows : (sides : Sides) → TablesStandFor old sides → FollowsTouch page new deals refused sides

@@ -11,7 +11,7 @@ ghost use Rattle.kernel_meaning.specs.EventRequests.{pages_unmapped};
 ghost use Rattle.page_tables.specs.Making.{MadeEvent};
 ghost use Rattle.page_tables.specs.Sides.{Sides};
 ghost use Rattle.page_tables.specs.Standing.{TablesStandFor, slot_count};
-ghost use Rattle.page_tables.specs.Held.{frames_of};
+ghost use Rattle.page_tables.specs.Held.{frames_of, frames_in, shares_in};
 
 use crate::slot::Slot;
 use crate::tables::PageTables;
@@ -94,6 +94,8 @@ impl PageTables {
         ensures untold { A.grants allot.new ≡ None }
         ensures slots { slot_count self.new ≡ slot_count self.old }
         ensures unrefused { A.refused (A.state allot.new) ≡ A.refused (A.state allot.old) }
+        ensures even { frames_in self.old.slots.items + shares_in self.new.slots.items ≡ shares_in self.old.slots.items + frames_in self.new.slots.items }
+        ensures snapshot { self.new.snapshot ≡ self.old.snapshot }
     {
         match self.directory.find(cell) {
             Some(slot) => self.clear_slot(slot, cell, first, count, allot),
@@ -117,6 +119,8 @@ impl PageTables {
         ensures untold { A.grants allot.new ≡ None }
         ensures slots { slot_count self.new ≡ slot_count self.old }
         ensures unrefused { A.refused (A.state allot.new) ≡ A.refused (A.state allot.old) }
+        ensures even { frames_in self.old.slots.items + shares_in self.new.slots.items ≡ shares_in self.old.slots.items + frames_in self.new.slots.items }
+        ensures snapshot { self.new.snapshot ≡ self.old.snapshot }
     {
         let home = &mut self.slots[slot as usize];
         prove!(home.cell.held() <= u32::MAX);

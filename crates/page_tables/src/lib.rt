@@ -7,10 +7,14 @@
 //! beside this crate goes on from here.
 #![tactic(auto)]
 
+mod access;
 mod clear;
+mod pieces;
 mod protect;
+mod range;
 mod slot;
 mod tables;
 mod touch;
+mod vacancy;
 
 pub use tables::PageTables;

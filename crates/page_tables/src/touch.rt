@@ -1,13 +1,13 @@
 //! Touching pages.
-ghost use Rattle.std.specs.Prelude.{◌≡◌, ◌+◌, ◌≤◌, ◌<◌, ◌^◌, None, Some, false, length, ◌∷◌, []};
+ghost use Rattle.std.specs.Prelude.{◌≡◌, ◌+◌, ◌≤◌, ◌<◌, ◌^◌, IfErr, None, Some, false, length, ◌∷◌, []};
 ghost use Rattle.std.specs.FinMap.{get};
+ghost use Rattle.vm_base.specs.Counts.{next_count};
 ghost use Rattle.vm_base.specs.Places.{cell_of};
-ghost use Rattle.kernel_meaning.specs.EventRequests.{page_touched};
 ghost use Rattle.kernel_meaning.specs.FrameLaw.{lacks_slots};
 ghost use Rattle.page_tables.specs.Sides.{Sides};
 ghost use Rattle.page_tables.specs.Standing.{TablesStandFor, HasSlotFor, IsSlotOf, IsSlotChosen, slot_count};
-ghost use Rattle.page_tables.specs.Held.{frames_of};
-ghost use Rattle.page_tables.specs.Making.{MadeEvent, page_refusal, pages_with};
+ghost use Rattle.page_tables.specs.Held.{frames_of, frames_in, shares_in};
+ghost use Rattle.page_tables.specs.Making.{MadeTouch, page_refusal};
 
 use crate::slot::Slot;
 use crate::tables::PageTables;
@@ -25,10 +25,13 @@ impl PageTables {
         requires stands { (sides : Sides) × (TablesStandFor self.old sides × (lacks_slots (slot_count self.old) sides.leaves (cell_of page ∷ []) ≡ false)) }
         requires lent { frames_of self.old ≤ A.out (A.state allot.old) }
         requires untold { A.grants allot.old ≡ None }
-        ensures made { MadeEvent A.goes (A.state allot.old) (A.state allot.new) (page_touched page) (pages_with page) self.old self.new (page_refusal page result) }
+        ensures made { MadeTouch A.goes (A.state allot.old) (A.state allot.new) page self.old self.new (page_refusal page result) }
         ensures held { A.out (A.state allot.new) + frames_of self.old ≡ A.out (A.state allot.old) + frames_of self.new }
         ensures untold { A.grants allot.new ≡ None }
+        ensures counted { IfErr result (λ e. (A.refused (A.state allot.new) ≡ next_count (A.refused (A.state allot.old))) × (e.at ≡ A.refused (A.state allot.new))) }
         ensures slots { slot_count self.new ≡ slot_count self.old }
+        ensures even { frames_in self.old.slots.items + shares_in self.new.slots.items ≡ shares_in self.old.slots.items + frames_in self.new.slots.items }
+        ensures snapshot { self.new.snapshot ≡ self.old.snapshot }
     {
         let cell = (page / CELL_PAGES) as u32;
         match self.directory.find(cell) {
@@ -47,13 +50,20 @@ impl PageTables {
         requires stands { (sides : Sides) × TablesStandFor self.old sides }
         requires lent { frames_of self.old ≤ A.out (A.state allot.old) }
         requires untold { A.grants allot.old ≡ None }
-        ensures made { MadeEvent A.goes (A.state allot.old) (A.state allot.new) (page_touched page) (pages_with page) self.old self.new (page_refusal page result) }
+        ensures made { MadeTouch A.goes (A.state allot.old) (A.state allot.new) page self.old self.new (page_refusal page result) }
         ensures held { A.out (A.state allot.new) + frames_of self.old ≡ A.out (A.state allot.old) + frames_of self.new }
         ensures untold { A.grants allot.new ≡ None }
+        ensures counted { IfErr result (λ e. (A.refused (A.state allot.new) ≡ next_count (A.refused (A.state allot.old))) × (e.at ≡ A.refused (A.state allot.new))) }
         ensures slots { slot_count self.new ≡ slot_count self.old }
+        ensures even { frames_in self.old.slots.items + shares_in self.new.slots.items ≡ shares_in self.old.slots.items + frames_in self.new.slots.items }
+        ensures snapshot { self.new.snapshot ≡ self.old.snapshot }
     {
         let index = (page % CELL_PAGES) as u16;
-        self.slots[slot as usize].cell.touch(index, allot)
+        let home = &mut self.slots[slot as usize];
+        prove!(home.cell.held() <= u32::MAX);
+        let answer = home.cell.touch(index, allot);
+        prove!(home.cell.held() <= u32::MAX);
+        answer
     }
 
     /// Touches a page in a cell that the directory lacks, which gets this slot.
@@ -63,10 +73,13 @@ impl PageTables {
         requires stands { (sides : Sides) × (TablesStandFor self.old sides × HasSlotFor self.old sides.leaves (cell_of page) slot) }
         requires lent { frames_of self.old ≤ A.out (A.state allot.old) }
         requires untold { A.grants allot.old ≡ None }
-        ensures made { MadeEvent A.goes (A.state allot.old) (A.state allot.new) (page_touched page) (pages_with page) self.old self.new (page_refusal page result) }
+        ensures made { MadeTouch A.goes (A.state allot.old) (A.state allot.new) page self.old self.new (page_refusal page result) }
         ensures held { A.out (A.state allot.new) + frames_of self.old ≡ A.out (A.state allot.old) + frames_of self.new }
         ensures untold { A.grants allot.new ≡ None }
+        ensures counted { IfErr result (λ e. (A.refused (A.state allot.new) ≡ next_count (A.refused (A.state allot.old))) × (e.at ≡ A.refused (A.state allot.new))) }
         ensures slots { slot_count self.new ≡ slot_count self.old }
+        ensures even { frames_in self.old.slots.items + shares_in self.new.slots.items ≡ shares_in self.old.slots.items + frames_in self.new.slots.items }
+        ensures snapshot { self.new.snapshot ≡ self.old.snapshot }
     {
         let cell = (page / CELL_PAGES) as u32;
         match self.directory.insert(cell, slot, allot) {
@@ -75,8 +88,10 @@ impl PageTables {
         }
         let index = (page % CELL_PAGES) as u16;
         let home = &mut self.slots[slot as usize];
+        prove!(home.cell.held() <= u32::MAX);
         match home.cell.touch(index, allot) {
             Ok(()) => {
+                prove!(home.cell.held() <= u32::MAX);
                 home.owner = Some(cell);
                 Ok(())
             }
@@ -100,7 +115,7 @@ impl PageTables {
 }
 
 /// The lowest slot with this owner.
-fn slot_of(slots: &[Slot], owner: Option<u32>) -> Option<u32>
+pub(crate) fn slot_of(slots: &[Slot], owner: Option<u32>) -> Option<u32>
     requires { length slots.now ≤ 512 }
     ensures { IsSlotOf slots.now owner result }
 {

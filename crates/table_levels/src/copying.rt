@@ -1,8 +1,8 @@
 //! Tables copied, level by level.
 ghost use Rattle.std.specs.Prelude.{◌≡◌, ◌+◌, ◌++◌, ◌∷◌, [], None, IfOk, OnOk, OnErr, length, replicate};
 ghost use Rattle.vm_base.specs.declared.frame_request.Want.TheVariants.{Upper, Middle};
-ghost use Rattle.table_levels.specs.Requests.{Asks, Adds};
 ghost use Rattle.vm_base.specs.Deals.{Counts};
+ghost use Rattle.table_levels.specs.Requests.{Asks, Adds};
 ghost use Rattle.table_levels.specs.Copies.{Copies, bytes_in};
 ghost use Rattle.table_levels.specs.Walks.{tables_at};
 

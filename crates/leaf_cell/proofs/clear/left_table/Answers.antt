@@ -4,19 +4,19 @@ use Rattle.kernel_meaning.specs.Leaves.{Versions, has_pages, without_versions}
 use Rattle.leaf_cell.proofs.Without.{pages-counted, some-counted}
 use Rattle.leaf_cell.proofs.clear.left_table.Goals as goal
 
-pub returns-then-pages-eq0-clause-left : goal.returns-then-pages-eq0-clause-left
-returns-then-pages-eq0-clause-left g c =
+pub returns-then-is_empty-clause-left : goal.returns-then-is_empty-clause-left
+returns-then-is_empty-clause-left g c =
     let left : Versions = without_versions c.args.table c.args.first c.args.pages in
-    let none : has_pages left ≡ false = pages-counted left (ap (count_by is_some) (sym c.clear.ensures) ∙ sym c.pages.ensures ∙ c.if-pages-eq0.true) in
+    let none : has_pages left ≡ false = pages-counted left (ap (count_by is_some) (sym c.clear.ensures) ∙ sym c.pages-is_empty.ensures ∙ c.if-is_empty.true) in
     record {
       left = sym (ap (λ b. cond b (Some left) None) none);
       led = (g.A.Allot.state c.give.new.self, (c.give.ensures.returned, refl));
     }
 
-pub returns-else-pages-eq0-clause-left : goal.returns-else-pages-eq0-clause-left
-returns-else-pages-eq0-clause-left g c =
+pub returns-else-is_empty-clause-left : goal.returns-else-is_empty-clause-left
+returns-else-is_empty-clause-left g c =
     let left : Versions = without_versions c.args.table c.args.first c.args.pages in
-    let some : has_pages left ≡ true = some-counted left (λ none. c.if-pages-eq0.false (c.pages.ensures ∙ ap (count_by is_some) c.clear.ensures ∙ none)) in
+    let some : has_pages left ≡ true = some-counted left (λ none. c.if-is_empty.false (c.pages-is_empty.ensures ∙ ap (count_by is_some) c.clear.ensures ∙ none)) in
     record {
       left = ap Some c.clear.ensures ∙ sym (ap (λ b. cond b (Some left) None) some);
       led = refl;

@@ -1,9 +1,8 @@
-use Rattle.std.proofs.Common.{◌∙◌, ◌<◌, subst, sym, arith}
+use Rattle.std.proofs.Common.{◌∙◌, ◌<◌, sym, arith}
 use Rattle.kernel_meaning.specs.Leaves.{version_at}
 use Rattle.leaf_cell.specs.Inside.{table_places, own_places, IsPlaceOf}
-use Rattle.leaf_cell.specs.Releasing.{IsReleased}
 use Rattle.leaf_cell.proofs.PutPage.{place_room}
-use Rattle.leaf_cell.proofs.Releases.{releasing-more}
+use Rattle.leaf_cell.proofs.Releases.{releasing-more, released-as}
 use Rattle.leaf_cell.proofs.release.release_range.Goals as goal
 
 pub release_page-requires-clause-room : goal.release_page-requires-clause-room
@@ -16,8 +15,9 @@ loop-page-preserved g c = record {
   released = releasing-more g.A.Allot.goes (g.A.Allot.state c.args.allot.now) (g.A.Allot.state c.loop-page.allot) (g.A.Allot.state c.release_page.new.allot)
       (table_places c.args.parent.now) (own_places c.args.snapshot.now) c.args.frames.now.items c.loop-page.frames.items c.release_page.new.frames.items c.args.first c.loop-page.page
       (omega arith) (omega arith) c.requires.size c.requires.home c.requires.others c.loop-page.invariant.released
-      (subst (λ own. IsReleased g.A.Allot.goes (g.A.Allot.state c.loop-page.allot) (g.A.Allot.state c.release_page.new.allot) own (version_at (own_places c.args.snapshot.now) c.loop-page.page) c.loop-page.frames.items c.release_page.new.frames.items) c.place_in.ensures
-      (subst (λ other. IsReleased g.A.Allot.goes (g.A.Allot.state c.loop-page.allot) (g.A.Allot.state c.release_page.new.allot) c.place_in.result other c.loop-page.frames.items c.release_page.new.frames.items) c.own_place.ensures c.release_page.ensures.released));
+      (released-as g.A.Allot.goes (g.A.Allot.state c.loop-page.allot) (g.A.Allot.state c.release_page.new.allot)
+      c.place_in.result (version_at (table_places c.args.parent.now) c.loop-page.page) c.own_place.result (version_at (own_places c.args.snapshot.now) c.loop-page.page)
+      c.loop-page.frames.items c.release_page.new.frames.items c.place_in.ensures c.own_place.ensures c.release_page.ensures.released);
   out = omega (arith, c.loop-page.invariant.out, c.release_page.ensures.out);
   untold = c.release_page.ensures.untold;
   unrefused = c.release_page.ensures.unrefused ∙ c.loop-page.invariant.unrefused;

@@ -3,20 +3,18 @@ use Rattle.std.specs.Prelude.{is_some, true, count_by}
 use Rattle.kernel_meaning.specs.Leaves.{has_present}
 use Rattle.kernel_meaning.specs.CellAccount.{Clear}
 use Rattle.leaf_cell.specs.CellView.{AreUnjoined, held_of}
-use Rattle.leaf_cell.specs.Inside.{table_places, own_places, cell_value}
+use Rattle.leaf_cell.specs.Inside.{table_places, cell_value}
 use Rattle.leaf_cell.specs.Standing.{MadeAct}
 use Rattle.leaf_cell.specs.Touching.{IsCleared}
-use Rattle.leaf_cell.proofs.InsideFacts.{page_below}
+use Rattle.leaf_cell.proofs.InsideFacts.{parent_at_home, own_at_home}
 use Rattle.leaf_cell.proofs.ClearMade.{inside-cleared, made-cleared, is-cleared, held-cleared, table-there, table-counted}
 use Rattle.leaf_cell.proofs.cell.Cell.clear_present.Goals as goal
 
 pub release_range-requires-clause-home : goal.release_range-requires-clause-home
-release_range-requires-clause-home g c = λ page place named.
-    (page_below (table_places c.self.inside.parent) page place c.self.invariant.parent_size named, (c.self.invariant.parent_home page place (page_below (table_places c.self.inside.parent) page place c.self.invariant.parent_size named) named).0)
+release_range-requires-clause-home g c = parent_at_home c.self.inside.parent c.self.inside.snapshot c.self.inside.frames.items c.self.invariant
 
 pub release_range-requires-clause-others : goal.release_range-requires-clause-others
-release_range-requires-clause-others g c = λ page place named.
-    (page_below (own_places c.self.inside.snapshot) page place c.self.invariant.own_size named, (c.self.invariant.own_home page place (page_below (own_places c.self.inside.snapshot) page place c.self.invariant.own_size named) named).0)
+release_range-requires-clause-others g c = own_at_home c.self.inside.parent c.self.inside.snapshot c.self.inside.frames.items c.self.invariant
 
 pub clear_table-requires-clause-there : goal.clear_table-requires-clause-there
 clear_table-requires-clause-there g c = table-there c.self.inside.parent c.args.first c.args.pages (ap (λ view. has_present view.leaves.parent c.args.first c.args.pages) c.self.view_is ∙ c.requires.present)

@@ -1,5 +1,8 @@
-use Rattle.std.proofs.Common.{ap, ◌∙◌}
-use Rattle.kernel_meaning.specs.Leaves.{has_present}
+use Rattle.std.proofs.Common.{◌≡◌, ℕ, ap, subst, ◌∙◌}
+use Rattle.std.specs.Prelude.{is_some}
+use Rattle.leaf_cell.specs.CellView.{parent_page}
+use Rattle.leaf_cell.proofs.InsideFacts.{page-filled}
+use Rattle.kernel_meaning.specs.Leaves.{has_present, version_at}
 use Rattle.leaf_cell.proofs.SameReads.{present-stands}
 use Rattle.leaf_cell.proofs.cell.Cell.covers.Goals as goal
 
@@ -7,3 +10,7 @@ pub returns-clause-account : goal.returns-clause-account
 returns-clause-account c = λ account stands. c.covers_in.ensures
     ∙ ap (λ view. has_present view.leaves.parent c.args.first c.args.pages) c.self.view_is
     ∙ present-stands c.args.self.now account stands c.args.first c.args.pages
+
+pub returns-clause-filled : goal.returns-clause-filled
+returns-clause-filled c = subst (λ view. (p : ℕ) → is_some (parent_page view p) ≡ is_some (version_at view.leaves.parent p)) c.self.view_is
+    (λ p. page-filled c.self.inside.parent c.self.inside.snapshot c.self.inside.frames.items c.self.invariant p)

@@ -4,10 +4,10 @@ use Rattle.std.proofs.lemmas.Bool.{cases_eq, ne_eqb, false≢true}
 use Rattle.kernel_meaning.specs.Leaves.{no_versions, kept_by}
 use Rattle.kernel_meaning.specs.CellAccount.{Drop as DropAct}
 use Rattle.leaf_cell.specs.declared.snapshot.Snapshot.{Snapshot}
-use Rattle.leaf_cell.specs.Inside.{AreInside, table_places, snapshot_places, leaf_value, kept_value, kept_values, cell_value}
+use Rattle.leaf_cell.specs.Inside.{AreInside, leaf_value, kept_value, kept_values, cell_value}
 use Rattle.leaf_cell.specs.Releasing.{own_if}
 use Rattle.leaf_cell.specs.Standing.{MadeAct}
-use Rattle.leaf_cell.proofs.InsideFacts.{page_below}
+use Rattle.leaf_cell.proofs.InsideFacts.{parent_at_home, own_at_home}
 use Rattle.leaf_cell.proofs.DropMade.{inside-dropped, made-dropped, made-unmet, without-other}
 use Rattle.leaf_cell.proofs.cell.Cell.drop_snap.Goals as goal
 
@@ -19,13 +19,11 @@ number-of it n found = elim (cases_eq it.number n) [
 ]
 
 pub release_leaf-requires-clause-home : goal.release_leaf-requires-clause-home
-release_leaf-requires-clause-home g c =
-    let inside : AreInside c.self.inside.parent (Some c.in-Some.snapshot) c.self.inside.frames.items = subst (λ it. AreInside c.self.inside.parent it c.self.inside.frames.items) (sym c.take.ensures.value ∙ c.in-Some.is) c.self.invariant in
-    λ page place named. (page_below (snapshot_places no_versions c.in-Some.snapshot.leaf) page place inside.own_size named, (inside.own_home page place (page_below (snapshot_places no_versions c.in-Some.snapshot.leaf) page place inside.own_size named) named).0)
+release_leaf-requires-clause-home g c = own_at_home c.self.inside.parent (Some c.in-Some.snapshot) c.self.inside.frames.items
+    (subst (λ it. AreInside c.self.inside.parent it c.self.inside.frames.items) (sym c.take.ensures.value ∙ c.in-Some.is) c.self.invariant)
 
 pub release_leaf-requires-clause-others : goal.release_leaf-requires-clause-others
-release_leaf-requires-clause-others g c = λ page place named.
-    (page_below (table_places c.self.inside.parent) page place c.self.invariant.parent_size named, (c.self.invariant.parent_home page place (page_below (table_places c.self.inside.parent) page place c.self.invariant.parent_size named) named).0)
+release_leaf-requires-clause-others g c = parent_at_home c.self.inside.parent c.self.inside.snapshot c.self.inside.frames.items c.self.invariant
 
 pub invariant_of-self : goal.invariant_of-self
 invariant_of-self g c =

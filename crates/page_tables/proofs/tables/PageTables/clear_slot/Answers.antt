@@ -17,7 +17,7 @@ use Rattle.page_tables.specs.Clearing.{sides_without}
 use Rattle.page_tables.specs.Standing.{StandFor}
 use Rattle.page_tables.specs.Held.{frames_in, snapshot_frames}
 use Rattle.page_tables.proofs.OwnedSlots.{owned-within, held-within, frames-set, read-slot, slot-unjoined}
-use Rattle.page_tables.proofs.ClearedSlot.{present-here, HoldsShare, less-held, deals-are, freed-are, event-made, stays, leaves-cell}
+use Rattle.page_tables.proofs.ClearedSlot.{present-here, HoldsShare, less-held, deals-are, freed-are, event-made, stays, leaves-cell, even-here}
 use Rattle.page_tables.proofs.tables.PageTables.clear_slot.Goals as goal
 
 -- src/clear.rt:67:25
@@ -212,3 +212,25 @@ returns-else-pages-eq0-clause-held g c =
     let sums : frames_in (slice_set old.slots.items c.args.slot new) + held_of slot.cell ≡ frames_in old.slots.items + held_of c.clear.new.self = frames-set old.slots.items c.args.slot slot new here in
     let held : g.A.Allot.out (g.A.Allot.state c.clear.new.allot) + held_of slot.cell ≡ g.A.Allot.out (g.A.Allot.state c.args.allot.now) + held_of c.clear.new.self = c.clear.ensures.held in
     omega (arith, sums, held)
+
+pub returns-then-pages-eq0-clause-even : goal.returns-then-pages-eq0-clause-even
+returns-then-pages-eq0-clause-even g c =
+    let old : PageTables = c.args.self.now in
+    let within : c.args.slot < length old.slots.items = owned-within old.slots.items c.args.slot c.args.cell (c.requires.stands.1.0.named c.args.cell c.args.slot c.requires.known) in
+    let here : slice_get old.slots.items c.args.slot ≡ Some c.index_mut-home.result.now = read-slot old.slots.items c.args.slot c.index_mut-home.result.now within c.index_mut-home.ensures.value in
+    let before : HoldsShare c.index_mut-home.result.now.cell = λ account stands. sym c.held.ensures.held ∙ c.held.ensures.share account stands in
+    let later : HoldsShare c.clear.new.self = λ account stands. sym c.held-2.ensures.held ∙ c.held-2.ensures.share account stands in
+    let made = c.clear.ensures.made in
+    even-here old c.args.cell c.args.slot c.args.first c.args.count c.index_mut-home.result.now c.requires.known here c.requires.range c.clear.new.self made.deals made.follows before later c.requires.stands.0 c.requires.stands.1.0 c.requires.stands.1.1
+        c.leave_slot.new.home (ap (λ it. it.cell) c.leave_slot.ensures)
+
+pub returns-else-pages-eq0-clause-even : goal.returns-else-pages-eq0-clause-even
+returns-else-pages-eq0-clause-even g c =
+    let old : PageTables = c.args.self.now in
+    let within : c.args.slot < length old.slots.items = owned-within old.slots.items c.args.slot c.args.cell (c.requires.stands.1.0.named c.args.cell c.args.slot c.requires.known) in
+    let here : slice_get old.slots.items c.args.slot ≡ Some c.index_mut-home.result.now = read-slot old.slots.items c.args.slot c.index_mut-home.result.now within c.index_mut-home.ensures.value in
+    let before : HoldsShare c.index_mut-home.result.now.cell = λ account stands. sym c.held.ensures.held ∙ c.held.ensures.share account stands in
+    let later : HoldsShare c.clear.new.self = λ account stands. sym c.held-2.ensures.held ∙ c.held-2.ensures.share account stands in
+    let made = c.clear.ensures.made in
+    even-here old c.args.cell c.args.slot c.args.first c.args.count c.index_mut-home.result.now c.requires.known here c.requires.range c.clear.new.self made.deals made.follows before later c.requires.stands.0 c.requires.stands.1.0 c.requires.stands.1.1
+        (record { owner = c.index_mut-home.result.now.owner; cell = c.clear.new.self }) refl

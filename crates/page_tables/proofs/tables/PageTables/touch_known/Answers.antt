@@ -7,31 +7,35 @@ use Rattle.vm_base.specs.Places.{cell_of}
 use Rattle.leaf_cell.specs.CellView.{AreUnjoined, held_of}
 use Rattle.page_tables.specs.declared.slot.Slot.{Slot}
 use Rattle.page_tables.specs.Sides.{Sides}
-use Rattle.page_tables.specs.Standing.{owner_at, StandFor}
+use Rattle.leaf_cell.specs.Standing.{StandsFor}
+use Rattle.kernel_meaning.specs.CellAccount.{CellAccount}
+use Rattle.page_tables.specs.Standing.{owner_at, TablesStandFor}
+use Rattle.page_tables.proofs.ParentPages.{account_at, slot-stands}
+use Rattle.page_tables.proofs.ClearedSlot.{even-slots, holds-own}
 use Rattle.page_tables.specs.Held.{frames_in, snapshot_frames}
 use Rattle.table_levels.specs.Cells.{tables_of}
-use Rattle.page_tables.proofs.KnownTouch.{known-follows}
+use Rattle.page_tables.proofs.KnownTouch.{known-touches}
 use Rattle.page_tables.proofs.OwnedSlots.{owned-slot, owned-within, held-within, frames-set, read-slot, slot-unjoined}
 use Rattle.page_tables.proofs.tables.PageTables.touch_known.Goals as goal
 
 -- src/touch.rt:56:9
-pub index_mut-requires : goal.index_mut-requires
-index_mut-requires g c =
+pub index_mut-home-requires : goal.index_mut-home-requires
+index_mut-home-requires g c =
     let within : c.args.slot < length c.args.self.now.slots.items = owned-within c.args.self.now.slots.items c.args.slot (cell_of c.args.page) (c.requires.stands.1.named (cell_of c.args.page) c.args.slot c.requires.known) in
     subst (λ n. c.args.slot < n) (sym c.args.self.now.slots.ok.0) within
 
 -- src/touch.rt:56:9
-pub touch-requires-clause-unjoined : goal.touch-requires-clause-unjoined
-touch-requires-clause-unjoined g c =
+pub touch-answer-requires-clause-unjoined : goal.touch-answer-requires-clause-unjoined
+touch-answer-requires-clause-unjoined g c =
     let within : c.args.slot < length c.args.self.now.slots.items = owned-within c.args.self.now.slots.items c.args.slot (cell_of c.args.page) (c.requires.stands.1.named (cell_of c.args.page) c.args.slot c.requires.known) in
-    slot-unjoined c.args.self.now.directory c.args.self.now.snapshot c.args.self.now.slots.items c.requires.stands.0 c.requires.stands.1 c.args.slot c.index_mut.result.now
-        (read-slot c.args.self.now.slots.items c.args.slot c.index_mut.result.now within c.index_mut.ensures.value)
+    slot-unjoined c.args.self.now.directory c.args.self.now.snapshot c.args.self.now.slots.items c.requires.stands.0 c.requires.stands.1 c.args.slot c.index_mut-home.result.now
+        (read-slot c.args.self.now.slots.items c.args.slot c.index_mut-home.result.now within c.index_mut-home.ensures.value)
 
 -- src/touch.rt:56:9
-pub touch-requires-clause-held : goal.touch-requires-clause-held
-touch-requires-clause-held g c =
+pub touch-answer-requires-clause-held : goal.touch-answer-requires-clause-held
+touch-answer-requires-clause-held g c =
     let within : c.args.slot < length c.args.self.now.slots.items = owned-within c.args.self.now.slots.items c.args.slot (cell_of c.args.page) (c.requires.stands.1.named (cell_of c.args.page) c.args.slot c.requires.known) in
-    let part : held_of c.index_mut.result.now.cell ≤ frames_in c.args.self.now.slots.items = held-within c.args.self.now.slots.items c.args.slot c.index_mut.result.now (read-slot c.args.self.now.slots.items c.args.slot c.index_mut.result.now within c.index_mut.ensures.value) in
+    let part : held_of c.index_mut-home.result.now.cell ≤ frames_in c.args.self.now.slots.items = held-within c.args.self.now.slots.items c.args.slot c.index_mut-home.result.now (read-slot c.args.self.now.slots.items c.args.slot c.index_mut-home.result.now within c.index_mut-home.ensures.value) in
     let lent : tables_of c.args.self.now.directory + snapshot_frames c.args.self.now.snapshot + frames_in c.args.self.now.slots.items ≤ g.A.Allot.out (g.A.Allot.state c.args.allot.now) = c.requires.lent in
     omega (arith, part, lent)
 
@@ -40,22 +44,39 @@ pub returns-clause-made : goal.returns-clause-made
 returns-clause-made g c =
     let s = c.args.slot in
     let within : c.args.slot < length c.args.self.now.slots.items = owned-within c.args.self.now.slots.items c.args.slot (cell_of c.args.page) (c.requires.stands.1.named (cell_of c.args.page) c.args.slot c.requires.known) in
-    let here : slice_get c.args.self.now.slots.items c.args.slot ≡ Some c.index_mut.result.now = read-slot c.args.self.now.slots.items c.args.slot c.index_mut.result.now within c.index_mut.ensures.value in
-    let mine : c.index_mut.result.now.owner ≡ Some (cell_of c.args.page) = sym (ap (option_and_then (λ it. it.owner)) here) ∙ c.requires.stands.1.named (cell_of c.args.page) c.args.slot c.requires.known in
+    let here : slice_get c.args.self.now.slots.items c.args.slot ≡ Some c.index_mut-home.result.now = read-slot c.args.self.now.slots.items c.args.slot c.index_mut-home.result.now within c.index_mut-home.ensures.value in
+    let mine : c.index_mut-home.result.now.owner ≡ Some (cell_of c.args.page) = sym (ap (option_and_then (λ it. it.owner)) here) ∙ c.requires.stands.1.named (cell_of c.args.page) c.args.slot c.requires.known in
     record {
-      deals = c.touch.ensures.made.deals;
-      led = c.touch.ensures.made.led;
-      follows = λ sides st. known-follows c.args.self.now sides st c.args.page c.args.slot c.index_mut.result.now c.requires.known here c.touch.new.self c.touch.ensures.made.deals c.touch.result c.touch.ensures.made.follows
-          (record { directory = c.args.self.now.directory; snapshot = c.args.self.now.snapshot; slots = with_item c.args.self.now.slots c.args.slot (record { owner = c.index_mut.result.now.owner; cell = c.touch.new.self }) })
-          refl refl (ap (λ owner. slice_set c.args.self.now.slots.items c.args.slot (record { owner = owner; cell = c.touch.new.self })) mine);
+      deals = c.touch-answer.ensures.made.deals;
+      led = c.touch-answer.ensures.made.led;
+      follows = λ sides st. known-touches c.args.self.now sides st c.args.page c.args.slot c.index_mut-home.result.now c.requires.known here c.touch-answer.new.self c.touch-answer.ensures.made.deals c.touch-answer.result c.touch-answer.ensures.made.follows (g.A.Allot.refused (g.A.Allot.state c.args.allot.now)) (g.A.Allot.refused (g.A.Allot.state c.touch-answer.new.allot)) c.touch-answer.ensures.touched
+          (record { directory = c.args.self.now.directory; snapshot = c.args.self.now.snapshot; slots = with_item c.args.self.now.slots c.args.slot (record { owner = c.index_mut-home.result.now.owner; cell = c.touch-answer.new.self }) })
+          refl refl (ap (λ owner. slice_set c.args.self.now.slots.items c.args.slot (record { owner = owner; cell = c.touch-answer.new.self })) mine);
     }
 
 -- src/touch.rt:44:5
 pub returns-clause-held : goal.returns-clause-held
 returns-clause-held g c =
     let within : c.args.slot < length c.args.self.now.slots.items = owned-within c.args.self.now.slots.items c.args.slot (cell_of c.args.page) (c.requires.stands.1.named (cell_of c.args.page) c.args.slot c.requires.known) in
-    let here : slice_get c.args.self.now.slots.items c.args.slot ≡ Some c.index_mut.result.now = read-slot c.args.self.now.slots.items c.args.slot c.index_mut.result.now within c.index_mut.ensures.value in
-    let new : Slot = record { owner = c.index_mut.result.now.owner; cell = c.touch.new.self } in
-    let sums : frames_in (slice_set c.args.self.now.slots.items c.args.slot new) + held_of c.index_mut.result.now.cell ≡ frames_in c.args.self.now.slots.items + held_of c.touch.new.self = frames-set c.args.self.now.slots.items c.args.slot c.index_mut.result.now new here in
-    let held : g.A.Allot.out (g.A.Allot.state c.touch.new.allot) + held_of c.index_mut.result.now.cell ≡ g.A.Allot.out (g.A.Allot.state c.args.allot.now) + held_of c.touch.new.self = c.touch.ensures.held in
+    let here : slice_get c.args.self.now.slots.items c.args.slot ≡ Some c.index_mut-home.result.now = read-slot c.args.self.now.slots.items c.args.slot c.index_mut-home.result.now within c.index_mut-home.ensures.value in
+    let new : Slot = record { owner = c.index_mut-home.result.now.owner; cell = c.touch-answer.new.self } in
+    let sums : frames_in (slice_set c.args.self.now.slots.items c.args.slot new) + held_of c.index_mut-home.result.now.cell ≡ frames_in c.args.self.now.slots.items + held_of c.touch-answer.new.self = frames-set c.args.self.now.slots.items c.args.slot c.index_mut-home.result.now new here in
+    let held : g.A.Allot.out (g.A.Allot.state c.touch-answer.new.allot) + held_of c.index_mut-home.result.now.cell ≡ g.A.Allot.out (g.A.Allot.state c.args.allot.now) + held_of c.touch-answer.new.self = c.touch-answer.ensures.held in
     omega (arith, sums, held)
+
+-- src/touch.rt:47:5
+pub returns-clause-even : goal.returns-clause-even
+returns-clause-even g c =
+    let old = c.args.self.now in
+    let sides : Sides = c.requires.stands.0 in
+    let st : TablesStandFor old sides = c.requires.stands.1 in
+    let cell : ℕ = cell_of c.args.page in
+    let slot : Slot = c.index_mut-home.result.now in
+    let owned : owner_at old.slots.items c.args.slot ≡ Some cell = st.named cell c.args.slot c.requires.known in
+    let here : slice_get old.slots.items c.args.slot ≡ Some slot = read-slot old.slots.items c.args.slot slot (owned-within old.slots.items c.args.slot cell owned) c.index_mut-home.ensures.value in
+    let account : CellAccount = account_at old.directory old.snapshot old.slots.items sides st cell in
+    let stood : StandsFor slot.cell account = slot-stands old.directory old.snapshot old.slots.items sides st cell c.args.slot slot here owned in
+    let takes = c.touch-answer.ensures.made.follows account stood in
+    even-slots old.slots.items c.args.slot slot (record { owner = slot.owner; cell = c.touch-answer.new.self }) here
+        (holds-own slot.cell account stood (λ account stands. sym c.held.ensures.held ∙ c.held.ensures.share account stands))
+        (holds-own c.touch-answer.new.self _ takes.stands (λ account stands. sym c.held-2.ensures.held ∙ c.held-2.ensures.share account stands))

@@ -18,11 +18,11 @@ use Rattle.page_tables.specs.declared.tables.PageTables.{PageTables}
 use Rattle.page_tables.specs.Sides.{Sides}
 use Rattle.page_tables.specs.Standing.{TablesStandFor, IsSlotFor}
 use Rattle.page_tables.specs.Held.{frames_in, snapshot_frames}
-use Rattle.kernel_meaning.specs.EventRequests.{page_touched}
-use Rattle.page_tables.specs.Making.{Follows, pages_with}
+use Rattle.page_tables.specs.Making.{FollowsTouch}
+use Rattle.page_tables.proofs.ClearedSlot.{even-slots, holds-own}
 use Rattle.page_tables.proofs.Room.{room-left, fits-again}
 use Rattle.page_tables.proofs.Rows.{deals_behind, deals_up_to}
-use Rattle.page_tables.proofs.NewTouch.{granted-follows, refused-follows, lacking-follows, added-removed, account, stood}
+use Rattle.page_tables.proofs.NewTouch.{granted-touches, refused-touches, lacking-touches, added-removed, account, stood}
 use Rattle.page_tables.proofs.OwnedSlots.{held-within, frames-set, read-slot, slot-unjoined, set-same, same_slot}
 use Rattle.page_tables.proofs.tables.PageTables.touch_new.Goals as goal
 
@@ -42,9 +42,9 @@ returns-in-Err-clause-made g c =
       deals = deals_up_to refuses.front refuses.want c.in-Err.refused.at;
       led = refuses.deals;
       follows = λ sides st.
-          subst (λ d. Follows (page_touched c.args.page) (pages_with c.args.page) (record { directory = d; snapshot = old.snapshot; slots = old.slots }) (deals_up_to refuses.front refuses.want c.in-Err.refused.at) (Some (record { at = c.in-Err.refused.at; page = Some c.args.page })) sides)
+          subst (λ d. FollowsTouch c.args.page (record { directory = d; snapshot = old.snapshot; slots = old.slots }) (deals_up_to refuses.front refuses.want c.in-Err.refused.at) (Some (record { at = c.in-Err.refused.at; page = Some c.args.page })) sides)
               (sym c.in-Err.ensures.kept)
-              (lacking-follows old sides st c.args.page c.args.slot home.slot c.requires.new home.here (fits-again old.directory old.snapshot old.slots.items c.requires.stands.0 sides c.requires.stands.1.0 st (cell_of c.args.page) home.slot.owner home.fits)
+              (lacking-touches old sides st c.args.page c.args.slot home.slot c.requires.new home.here (fits-again old.directory old.snapshot old.slots.items c.requires.stands.0 sides c.requires.stands.1.0 st (cell_of c.args.page) home.slot.owner home.fits)
                   refuses.front refuses.want refuses.rest refuses.order c.in-Err.refused.at);
     }
 
@@ -88,8 +88,9 @@ returns-in-Ok-touch-clause-made g c =
       follows = λ sides st.
           let fits : IsSlotFor sides.leaves (cell_of c.args.page) c.index_mut-home.result.now.owner =
               fits-again old.directory old.snapshot old.slots.items c.requires.stands.0 sides c.requires.stands.1.0 st (cell_of c.args.page) c.index_mut-home.result.now.owner (subst (λ it. IsSlotFor c.requires.stands.0.leaves (cell_of c.args.page) it.owner) (same_slot home.slot c.index_mut-home.result.now (sym home.here ∙ here)) home.fits) in
-          granted-follows old sides st c.args.page c.args.slot c.index_mut-home.result.now c.requires.new here fits c.touch.new.self made.deals
+          granted-touches old sides st c.args.page c.args.slot c.index_mut-home.result.now c.requires.new here fits c.touch.new.self made.deals
               (made.follows (account old sides st c.args.page c.args.slot c.index_mut-home.result.now c.requires.new here fits) (stood old sides st c.args.page c.args.slot c.index_mut-home.result.now c.requires.new here fits))
+              (g.A.Allot.refused (g.A.Allot.state c.insert.new.allot)) (g.A.Allot.refused (g.A.Allot.state c.touch.new.allot)) c.in-Ok-touch.ensures.touched
               (record { directory = c.insert.new.self; snapshot = old.snapshot; slots = with_item old.slots c.args.slot (record { owner = Some (cell_of c.args.page); cell = c.touch.new.self }) })
               c.in-Ok.ensures.added refl refl;
     }
@@ -129,9 +130,24 @@ returns-in-Err-touch-clause-made g c =
       follows = λ sides st.
           let fits : IsSlotFor sides.leaves cell c.index_mut-home.result.now.owner =
               fits-again old.directory old.snapshot old.slots.items c.requires.stands.0 sides c.requires.stands.1.0 st cell c.index_mut-home.result.now.owner (subst (λ it. IsSlotFor c.requires.stands.0.leaves cell it.owner) (same_slot home.slot c.index_mut-home.result.now (sym home.here ∙ here)) home.fits) in
-          refused-follows old sides st c.args.page c.args.slot c.index_mut-home.result.now c.requires.new here fits c.touch.new.self made.deals at
+          refused-touches old sides st c.args.page c.args.slot c.index_mut-home.result.now c.requires.new here fits c.touch.new.self made.deals at
               (made.follows (account old sides st c.args.page c.args.slot c.index_mut-home.result.now c.requires.new here fits) (stood old sides st c.args.page c.args.slot c.index_mut-home.result.now c.requires.new here fits))
               (record { directory = c.remove.new.self; snapshot = old.snapshot; slots = with_item old.slots c.args.slot (record { owner = c.index_mut-home.result.now.owner; cell = c.touch.new.self }) })
               gone refl
               (ap (λ view. slice_set old.slots.items c.args.slot (record { owner = c.index_mut-home.result.now.owner; cell = view })) c.in-Err-touch.ensures.refused ∙ set-same old.slots.items c.args.slot c.index_mut-home.result.now here);
     }
+
+-- src/touch.rt:70:5
+pub returns-in-Ok-touch-clause-even : goal.returns-in-Ok-touch-clause-even
+returns-in-Ok-touch-clause-even g c =
+    let home = c.requires.stands.1.1 in
+    let old : PageTables = c.args.self.now in
+    let slot : Slot = c.index_mut-home.result.now in
+    let within : c.args.slot < length old.slots.items = slice_get_within old.slots.items c.args.slot home.slot home.here in
+    let here : slice_get old.slots.items c.args.slot ≡ Some slot = read-slot old.slots.items c.args.slot slot within c.index_mut-home.ensures.value in
+    let fits : IsSlotFor c.requires.stands.0.leaves (cell_of c.args.page) slot.owner = subst (λ it. IsSlotFor c.requires.stands.0.leaves (cell_of c.args.page) it.owner) (same_slot home.slot slot (sym home.here ∙ here)) home.fits in
+    let stood_here = stood old c.requires.stands.0 c.requires.stands.1.0 c.args.page c.args.slot slot c.requires.new here fits in
+    let takes = c.in-Ok-touch.ensures.made.follows (account old c.requires.stands.0 c.requires.stands.1.0 c.args.page c.args.slot slot c.requires.new here fits) stood_here in
+    even-slots old.slots.items c.args.slot slot (record { owner = Some (cell_of c.args.page); cell = c.touch.new.self }) here
+        (holds-own slot.cell _ stood_here (λ account stands. sym c.held.ensures.held ∙ c.held.ensures.share account stands))
+        (holds-own c.touch.new.self _ takes.stands (λ account stands. sym c.held-in-Ok-touch.ensures.held ∙ c.held-in-Ok-touch.ensures.share account stands))

@@ -1,0 +1,42 @@
+use Rattle.std.proofs.Common.{◌≡◌, ◌+◌, ℕ, List, ◌∷◌, length, take, drop, sym, ◌∙◌, ap, subst, arith}
+use Rattle.std.proofs.Math.Seq.{take-length}
+use Rattle.std.specs.Prelude.{slice_index_or}
+use Rattle.page_tables.specs.Standing.{TablesStandFor}
+use Rattle.page_tables.specs.Ranges.{sides_without_pages, AreThere}
+use Rattle.page_tables.proofs.TakenBack.{IsTakenBack, none-taken, one-more, take-one-more, drop-one-more, there-present}
+use Rattle.page_tables.proofs.tables.PageTables.take_back.Goals as goal
+
+-- src/range.rt:97:9
+pub loop-page-init : goal.loop-page-init
+loop-page-init g c = record {
+  taken = none-taken g.A.Allot.goes g.A.Allot.refused g.A.Allot.out (g.A.Allot.state c.args.allot.now) c.args.added.now c.args.self.now c.requires.stands.0 c.requires.stands.1.0 c.requires.stands.1.1;
+  untold = c.requires.untold;
+}
+
+-- src/range.rt:100:13
+pub clear_in_cell-requires-clause-stands : goal.clear_in_cell-requires-clause-stands
+clear_in_cell-requires-clause-stands g c =
+    let so_far = c.loop-page.invariant.taken in
+    let there = subst (AreThere so_far.sides.leaves) (drop-one-more c.args.added.now c.loop-page.page-index c.loop-page-test.true) so_far.there in
+    (so_far.sides, (so_far.stands, there-present so_far.sides.leaves (slice_index_or c.args.added.now c.loop-page.page-index 0) there.0))
+
+-- src/range.rt:97:9
+pub loop-page-preserved : goal.loop-page-preserved
+loop-page-preserved g c =
+    let i : ℕ = c.loop-page.page-index in
+    let page : ℕ = slice_index_or c.args.added.now i 0 in
+    let so_far = subst (λ left. IsTakenBack g.A.Allot.goes g.A.Allot.refused g.A.Allot.out (g.A.Allot.state c.args.allot.now) (g.A.Allot.state c.loop-page.allot) (take i c.args.added.now) left c.args.self.now c.loop-page.self)
+        (drop-one-more c.args.added.now i c.loop-page-test.true) c.loop-page.invariant.taken in
+    record {
+      taken = subst (λ done. IsTakenBack g.A.Allot.goes g.A.Allot.refused g.A.Allot.out (g.A.Allot.state c.args.allot.now) (g.A.Allot.state c.clear_in_cell.new.allot) done (drop (i + 1) c.args.added.now) c.args.self.now c.clear_in_cell.new.self)
+          (sym (take-one-more c.args.added.now i c.loop-page-test.true))
+          (one-more g.A.Allot.goes g.A.Allot.refused g.A.Allot.out (g.A.Allot.state c.args.allot.now) (g.A.Allot.state c.loop-page.allot) (g.A.Allot.state c.clear_in_cell.new.allot) (take i c.args.added.now) (drop (i + 1) c.args.added.now) page c.args.self.now c.loop-page.self c.clear_in_cell.new.self
+              so_far c.clear_in_cell.ensures.given c.clear_in_cell.ensures.shrunk c.clear_in_cell.ensures.follows c.clear_in_cell.ensures.held c.clear_in_cell.ensures.slots c.clear_in_cell.ensures.unrefused c.clear_in_cell.ensures.even c.clear_in_cell.ensures.snapshot);
+      untold = c.clear_in_cell.ensures.untold;
+    }
+
+-- src/range.rt:84:5
+pub returns-clause-follows : goal.returns-clause-follows
+returns-clause-follows g c = λ sides st.
+    let whole : c.loop-page.page-index ≡ length c.args.added.now = omega (arith, c.loop-page-test.false, c.loop-page.auto.page-index-end) in
+    subst (λ done. TablesStandFor c.loop-page.self (sides_without_pages done sides)) (ap (λ n. take n c.args.added.now) whole ∙ take-length c.args.added.now) (c.loop-page.invariant.taken.follows sides st)

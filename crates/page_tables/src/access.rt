@@ -1,0 +1,210 @@
+//! Reading both sides, and storing.
+ghost use Rattle.std.specs.Prelude.{◌≡◌, ◌+◌, ◌*◌, ◌/◌, ◌%◌, ◌^◌, ◌<◌, ◌≤◌, ℕ, Some, is_some, length};
+ghost use Rattle.std.specs.FinMap.{get};
+ghost use Rattle.vm_base.specs.Places.{page_of, offset_of, cell_of};
+ghost use Rattle.vm_base.specs.FlatMemory.{bytes_at};
+ghost use Rattle.vm_base.specs.FlatStep.{with_bytes};
+ghost use Rattle.kernel_meaning.specs.Leaves.{kept_by};
+ghost use Rattle.kernel_meaning.specs.FrameLaw.{cell_at};
+ghost use Rattle.leaf_cell.specs.States.{state_of};
+ghost use Rattle.page_tables.specs.Sides.{Sides};
+ghost use Rattle.page_tables.specs.Standing.{TablesStandFor, slot_in, slot_count};
+ghost use Rattle.page_tables.specs.Held.{frames_of, frames_in, shares_in};
+ghost use Rattle.page_tables.specs.Accesses.{IsReady, IsSnapshotRead};
+
+use crate::pieces::{location_of, piece_of_cell, piece_of_page};
+use crate::tables::PageTables;
+use leaf_cell::LeafState;
+use vm_base::Lost;
+
+impl PageTables {
+    /// Reads bytes of the parent from an address on. What is absent reads as zeros.
+    pub fn read(&self, addr: u64, buf: &mut [u8])
+        requires range { addr + length buf.old ≤ 2 ^ 48 }
+        requires stands { (sides : Sides) × TablesStandFor self.now sides }
+        ensures read { (sides : Sides) → TablesStandFor self.now sides → buf.new ≡ bytes_at sides.pages addr (length buf.old) }
+    {
+        let mut done = 0;
+        while done < buf.len() {
+            let at = addr + done as u64;
+            let piece = piece_of_page(at, buf.len() - done);
+            self.read_piece(at, &mut buf[done..done + piece]);
+            done += piece;
+        }
+    }
+
+    /// Reads bytes of the parent within one page.
+    fn read_piece(&self, addr: u64, buf: &mut [u8])
+        requires inside { addr < 2 ^ 48 }
+        requires room { offset_of addr + length buf.old ≤ 4096 }
+        requires stands { (sides : Sides) × TablesStandFor self.now sides }
+        ensures read { (sides : Sides) → TablesStandFor self.now sides → buf.new ≡ bytes_at sides.pages addr (length buf.old) }
+    {
+        let location = location_of(addr);
+        match self.directory.find(location.cell) {
+            Some(slot) => {
+                let cell = &self.slots[slot as usize].cell;
+                cell.read(location.page, location.at, buf);
+            }
+            None => buf.fill(0),
+        }
+    }
+
+    /// Stores bytes from an address on, in pages that were touched since the last fork.
+    pub fn store(&mut self, addr: u64, bytes: &[u8])
+        requires range { addr + length bytes.now ≤ 2 ^ 48 }
+        requires stands { (sides : Sides) × (TablesStandFor self.old sides ×
+            ((page : ℕ) → page_of addr ≤ page → page * 4096 < addr + length bytes.now → IsReady sides.leaves page)) }
+        ensures stored { (sides : Sides) → TablesStandFor self.old sides → TablesStandFor self.new (record sides { pages = with_bytes sides.pages addr bytes.now }) }
+        ensures held { frames_of self.new ≡ frames_of self.old }
+        ensures frames { frames_in self.new.slots.items ≡ frames_in self.old.slots.items }
+        ensures shares { shares_in self.new.slots.items ≡ shares_in self.old.slots.items }
+        ensures snapshot { self.new.snapshot ≡ self.old.snapshot }
+        ensures slots { slot_count self.new ≡ slot_count self.old }
+    {
+        let mut done = 0;
+        while done < bytes.len() {
+            let at = addr + done as u64;
+            let piece = piece_of_page(at, bytes.len() - done);
+            self.store_piece(at, &bytes[done..done + piece]);
+            done += piece;
+        }
+    }
+
+    /// Stores bytes within one page.
+    fn store_piece(&mut self, addr: u64, bytes: &[u8])
+        requires inside { addr < 2 ^ 48 }
+        requires room { offset_of addr + length bytes.now ≤ 4096 }
+        requires stands { (sides : Sides) × (TablesStandFor self.old sides × IsReady sides.leaves (page_of addr)) }
+        ensures stored { (sides : Sides) → TablesStandFor self.old sides → TablesStandFor self.new (record sides { pages = with_bytes sides.pages addr bytes.now }) }
+        ensures held { frames_of self.new ≡ frames_of self.old }
+        ensures frames { frames_in self.new.slots.items ≡ frames_in self.old.slots.items }
+        ensures shares { shares_in self.new.slots.items ≡ shares_in self.old.slots.items }
+        ensures snapshot { self.new.snapshot ≡ self.old.snapshot }
+        ensures slots { slot_count self.new ≡ slot_count self.old }
+    {
+        let location = location_of(addr);
+        match self.directory.find(location.cell) {
+            Some(slot) => {
+                let cell = &mut self.slots[slot as usize].cell;
+                cell.store(location.page, location.at, bytes);
+            }
+            None => unreachable!("the directory has the cell of a page that is ready"),
+        }
+    }
+
+    /// Reads bytes of a snapshot from an address on, as they were at its fork. It looks at each
+    /// cell of the range once, in rising order, and stops at the first that the snapshot has lost.
+    pub fn snap_read(&self, number: u32, addr: u64, buf: &mut [u8]) -> Result<(), Lost>
+        requires range { addr + length buf.old ≤ 2 ^ 48 }
+        requires stands { (sides : Sides) × TablesStandFor self.now sides }
+        ensures read { (sides : Sides) → TablesStandFor self.now sides → IsSnapshotRead sides number addr (length buf.old) result buf.new }
+    {
+        let mut done = 0;
+        while done < buf.len() {
+            let at = addr + done as u64;
+            let piece = piece_of_cell(at, buf.len() - done);
+            match self.snap_read_cell(number, at, &mut buf[done..done + piece]) {
+                Ok(()) => done += piece,
+                Err(lost) => return Err(lost),
+            }
+        }
+        Ok(())
+    }
+
+    /// Reads bytes of a snapshot within one cell.
+    fn snap_read_cell(&self, number: u32, addr: u64, buf: &mut [u8]) -> Result<(), Lost>
+        requires range { addr + length buf.old ≤ 2 ^ 48 }
+        requires room { addr % 2 ^ 21 + length buf.old ≤ 2 ^ 21 }
+        requires some { 0 < length buf.old }
+        requires stands { (sides : Sides) × TablesStandFor self.now sides }
+        ensures read { (sides : Sides) → TablesStandFor self.now sides → IsSnapshotRead sides number addr (length buf.old) result buf.new }
+    {
+        match self.snapshot_slot(location_of(addr).cell) {
+            Some(slot) => self.snap_read_slot(slot, number, addr, buf),
+            None => {
+                buf.fill(0);
+                Ok(())
+            }
+        }
+    }
+
+    /// Reads bytes of a snapshot within the cell in a slot.
+    fn snap_read_slot(
+        &self,
+        slot: u32,
+        number: u32,
+        addr: u64,
+        buf: &mut [u8],
+    ) -> Result<(), Lost>
+        requires range { addr + length buf.old ≤ 2 ^ 48 }
+        requires room { addr % 2 ^ 21 + length buf.old ≤ 2 ^ 21 }
+        requires known { slot_in self.now.snapshot (cell_of (page_of addr)) ≡ Some slot }
+        requires stands { (sides : Sides) × TablesStandFor self.now sides }
+        ensures read { (sides : Sides) → TablesStandFor self.now sides → IsSnapshotRead sides number addr (length buf.old) result buf.new }
+    {
+        let mut done = 0;
+        while done < buf.len() {
+            let at = addr + done as u64;
+            let piece = piece_of_page(at, buf.len() - done);
+            match self.snap_read_piece(slot, number, at, &mut buf[done..done + piece]) {
+                Ok(()) => done += piece,
+                Err(lost) => return Err(lost),
+            }
+        }
+        Ok(())
+    }
+
+    /// Reads bytes of a snapshot within one page of the cell in a slot.
+    fn snap_read_piece(
+        &self,
+        slot: u32,
+        number: u32,
+        addr: u64,
+        buf: &mut [u8],
+    ) -> Result<(), Lost>
+        requires inside { addr < 2 ^ 48 }
+        requires room { offset_of addr + length buf.old ≤ 4096 }
+        requires some { 0 < length buf.old }
+        requires known { slot_in self.now.snapshot (cell_of (page_of addr)) ≡ Some slot }
+        requires stands { (sides : Sides) × TablesStandFor self.now sides }
+        ensures read { (sides : Sides) → TablesStandFor self.now sides → IsSnapshotRead sides number addr (length buf.old) result buf.new }
+    {
+        let location = location_of(addr);
+        let cell = &self.slots[slot as usize].cell;
+        cell.snap_read(number, location.page, location.at, buf)
+    }
+
+    /// What a snapshot has at a cell.
+    pub fn state(&self, number: u32, cell: u32) -> LeafState
+        requires cell { cell < 2 ^ 27 }
+        requires stands { (sides : Sides) × TablesStandFor self.now sides }
+        ensures state { (sides : Sides) → TablesStandFor self.now sides → result ≡ state_of (kept_by (cell_at sides.leaves cell).kept number) }
+    {
+        match self.snapshot_slot(cell) {
+            Some(slot) => self.slots[slot as usize].cell.state(number),
+            None => LeafState::Absent,
+        }
+    }
+
+    /// Whether a snapshot of this number lives.
+    pub fn is_live(&self, number: u32) -> bool
+        ensures live { (sides : Sides) → TablesStandFor self.now sides → result ≡ is_some (get sides.snapshots number) }
+    {
+        match &self.snapshot {
+            Some(tables) => tables.number == number,
+            None => false,
+        }
+    }
+
+    /// The slot of a cell that the snapshot has.
+    fn snapshot_slot(&self, cell: u32) -> Option<u32>
+        requires { cell < 2 ^ 27 }
+        ensures { result ≡ slot_in self.now.snapshot cell }
+    {
+        match &self.snapshot {
+            Some(tables) => tables.directory.find(cell),
+            None => None,
+        }
+    }
+}

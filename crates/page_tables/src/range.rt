@@ -1,0 +1,118 @@
+//! Touching a range of pages.
+ghost use Rattle.std.specs.Prelude.{◌≡◌, ◌+◌, ◌-◌, ◌≤◌, ◌<◌, ◌^◌, ◌++◌, ◌∷◌, [], Bool, IfErr, None, length, vec_capacity, if◌then◌else◌, is_some, All};
+ghost use Rattle.std.specs.FinMap.{get};
+ghost use Rattle.vm_base.specs.Counts.{next_count};
+ghost use Rattle.vm_base.specs.Deals.{LeadsAlong};
+ghost use Rattle.table_levels.specs.Requests.{returned};
+ghost use Rattle.kernel_meaning.specs.EventRequests.{page_version};
+ghost use Rattle.page_tables.specs.Sides.{Sides};
+ghost use Rattle.page_tables.specs.Standing.{TablesStandFor, slot_count};
+ghost use Rattle.page_tables.specs.Held.{frames_of, frames_in, shares_in};
+ghost use Rattle.page_tables.specs.Ranges.{MadeRange, HasRoom, cells_of_pages, range_refusal, sides_without_pages, AreThere};
+
+use crate::tables::PageTables;
+use vm_base::Allot;
+
+/// Pages in a cell.
+const CELL_PAGES: u64 = 512;
+
+/// A page of a range was refused: the count of refused requests then, and the page.
+#[derive(Clone, Copy, Debug, PartialEq, Eq)]
+pub struct FrameRefused {
+    pub at: u64,
+    pub page: u64,
+}
+
+impl PageTables {
+    /// Touches the pages of a range in rising order, and notes in `added` those that were absent.
+    /// After a refusal those are gone again, with the tables that they alone needed; copies and
+    /// losses that came before stay, and both sides read as before.
+    pub fn touch<A: Allot>(
+        &mut self,
+        first: u64,
+        count: u64,
+        added: &mut Vec<u64>,
+        allot: &mut A,
+    ) -> Result<(), FrameRefused>
+        requires range { first + count ≤ 2 ^ 36 }
+        requires noted { count ≤ vec_capacity added.old }
+        requires stands { (sides : Sides) × (TablesStandFor self.old sides × HasRoom (slot_count self.old) sides.leaves (cells_of_pages first count)) }
+        requires lent { frames_of self.old ≤ A.out (A.state allot.old) }
+        requires untold { A.grants allot.old ≡ None }
+        ensures made { MadeRange A.goes (A.state allot.old) (A.state allot.new) first count self.old self.new (range_refusal result) }
+        ensures held { A.out (A.state allot.new) + frames_of self.old ≡ A.out (A.state allot.old) + frames_of self.new }
+        ensures untold { A.grants allot.new ≡ None }
+        ensures at { IfErr result (λ e. e.at ≡ A.refused (A.state allot.new)) }
+        ensures slots { slot_count self.new ≡ slot_count self.old }
+        ensures even { frames_in self.old.slots.items + shares_in self.new.slots.items ≡ shares_in self.old.slots.items + frames_in self.new.slots.items }
+        ensures snapshot { self.new.snapshot ≡ self.old.snapshot }
+        ensures noted { vec_capacity added.new ≡ vec_capacity added.old }
+    {
+        added.clear();
+        for page in first..first + count {
+            let was_present = self.is_present(page);
+            match self.touch_page(page, allot) {
+                Ok(()) => note_added(added, page, was_present),
+                Err(refused) => {
+                    self.take_back(added, allot);
+                    return Err(FrameRefused {
+                        at: refused.at,
+                        page,
+                    });
+                }
+            }
+        }
+        Ok(())
+    }
+
+    /// Whether the parent has a page.
+    pub fn is_present(&self, page: u64) -> bool
+        requires page { page < 2 ^ 36 }
+        requires stands { (sides : Sides) × TablesStandFor self.now sides }
+        ensures version { (sides : Sides) → TablesStandFor self.now sides → result ≡ is_some (page_version sides.leaves page) }
+        ensures page { (sides : Sides) → TablesStandFor self.now sides → result ≡ is_some (get sides.pages page) }
+    {
+        let cell = (page / CELL_PAGES) as u32;
+        match self.directory.find(cell) {
+            Some(slot) => {
+                let index = (page % CELL_PAGES) as u16;
+                self.slots[slot as usize].cell.covers(index, 1)
+            }
+            None => false,
+        }
+    }
+
+    /// Takes pages out that were added.
+    fn take_back<A: Allot>(&mut self, added: &[u64], allot: &mut A)
+        requires stands { (sides : Sides) × (TablesStandFor self.old sides × AreThere sides.leaves added.now) }
+        requires below { All (λ page. page < 2 ^ 36) added.now }
+        requires lent { frames_of self.old ≤ A.out (A.state allot.old) }
+        requires untold { A.grants allot.old ≡ None }
+        ensures given { LeadsAlong A.goes (A.state allot.old) (returned (frames_of self.old - frames_of self.new)) (A.state allot.new) }
+        ensures shrunk { frames_of self.new ≤ frames_of self.old }
+        ensures follows { (sides : Sides) → TablesStandFor self.old sides → TablesStandFor self.new (sides_without_pages added.now sides) }
+        ensures held { A.out (A.state allot.new) + frames_of self.old ≡ A.out (A.state allot.old) + frames_of self.new }
+        ensures untold { A.grants allot.new ≡ None }
+        ensures slots { slot_count self.new ≡ slot_count self.old }
+        ensures unrefused { A.refused (A.state allot.new) ≡ A.refused (A.state allot.old) }
+        ensures even { frames_in self.old.slots.items + shares_in self.new.slots.items ≡ shares_in self.old.slots.items + frames_in self.new.slots.items }
+        ensures snapshot { self.new.snapshot ≡ self.old.snapshot }
+    {
+        for &page in added {
+            let cell = (page / CELL_PAGES) as u32;
+            let index = (page % CELL_PAGES) as u16;
+            self.clear_in_cell(cell, index, 1, allot);
+        }
+    }
+}
+
+/// Notes a page that was absent.
+fn note_added(added: &mut Vec<u64>, page: u64, was_present: bool)
+    requires { length added.old.items < vec_capacity added.old }
+    ensures noted { added.new.items ≡ added.old.items ++ (if was_present then [] else page ∷ []) }
+    ensures room { vec_capacity added.new ≡ vec_capacity added.old }
+{
+    if !was_present {
+        added.push_reserved(page);
+    }
+}

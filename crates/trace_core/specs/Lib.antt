@@ -1,0 +1,8 @@
+-- What is defined of a run of the kernel, and of where its frames come from.
+pub mod SupplyState
+pub mod Answering
+pub mod KernelState
+pub mod EventMeaning
+pub mod RunMeaning
+pub mod Supplied
+pub mod KernelStanding

@@ -1,0 +1,50 @@
+//! A supply at concrete values.
+use crate::Supply;
+use frame_pool::{DenyNth, FramePolicy, Pool};
+use std::test::Fail;
+use vm_base::{Allot, Asker, Frame, Refused, Want};
+
+// The count of a refusal, where there was one.
+fn refusal(answer: Result<Frame, Refused>) -> Option<u64> {
+    match answer {
+        Ok(_) => None,
+        Err(refused) => Some(refused.at),
+    }
+}
+
+#[test]
+fn a_named_request_reaches_no_policy(rt: HostRuntime) -> Result<(), Fail> {
+    let mut policies: Vec<Box<dyn FramePolicy + Send>> = Vec::new(rt.alloc());
+    policies.push(Box::new(rt.alloc(), DenyNth::new(2))?)?;
+    let mut supply = Supply::new(Pool::new(rt.alloc(), 3, policies)?, 3);
+    // The last of two refuse lines counts.
+    supply.refuse(1);
+    supply.refuse(2);
+    // The second request is named, the third is the second that reaches the policy, and the sixth
+    // finds no frame.
+    for answer in [None, Some(1), Some(2), None, None, Some(3)] {
+        assert_eq!(rt; refusal(supply.take(Want::Page)), answer);
+    }
+    assert_eq!(rt; supply.held(), 3);
+    assert_eq!(rt; supply.free(), 0);
+    assert_eq!(rt; supply.refused(), 3);
+    Ok(())
+}
+
+#[test]
+fn each_asker_has_its_own_count(rt: HostRuntime) -> Result<(), Fail> {
+    let mut supply = Supply::new(Pool::new(rt.alloc(), 1, Vec::new(rt.alloc()))?, 1);
+    let Ok(frame) = supply.take(Want::Leaf) else {
+        return Err(Fail::new("no frame"));
+    };
+    assert_eq!(rt; refusal(supply.take(Want::Leaf)), Some(1));
+    let parents = supply.ask_as(Asker::Snapshot(7), 4);
+    assert_eq!(rt; parents, 1);
+    assert_eq!(rt; refusal(supply.take(Want::Leaf)), Some(5));
+    assert_eq!(rt; supply.ask_as(Asker::Parent, parents), 5);
+    assert_eq!(rt; supply.refused(), 1);
+    supply.give(frame);
+    assert_eq!(rt; supply.free(), 1);
+    assert_eq!(rt; supply.held(), 0);
+    Ok(())
+}

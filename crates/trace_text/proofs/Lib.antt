@@ -1,0 +1,14 @@
+pub mod Bounds
+pub mod BytesLaws
+pub mod Digits
+pub mod Faults
+pub mod LineLaws
+pub mod LinesOf
+pub mod MachineLaws
+pub mod NumberLaws
+pub mod Parts
+pub mod Readings
+pub mod ScriptLaws
+pub mod Steps
+pub mod TokenLaws
+pub mod Worked

@@ -1,0 +1,5 @@
+use Rattle.trace_text.proofs.ScriptLaws.{one_script}
+use Rattle.trace_text.proofs.laws.one_script.Goals as goal
+
+pub returns : goal.returns
+returns c = one_script

@@ -1,0 +1,96 @@
+//! Numbers as a script spells them: digits of lower case, without a leading zero.
+ghost use Rattle.std.specs.Prelude.{◌≡◌, ◌<◌, ◌≤◌, ◌^◌, [], ◌∷◌, IfSome, IsSome, Some, is_some};
+ghost use Rattle.trace_text.specs.ScriptReading.{byte_of, count_of, digit_of, digits_read, number_of};
+
+// Every address lies below it, and all other numbers of a script are smaller.
+const NUMBER_LIMIT: u64 = 0x1_0000_0000_0000;
+
+/// The number that the token spells in a base of at most 16. It lies below 2 ^ 48.
+pub(crate) fn number(token: &[u8], base: u64) -> Option<u64>
+    requires { base ≤ 16 }
+    ensures value { result ≡ number_of base token.now }
+    ensures below { IfSome result (λ number. number < 2 ^ 48) }
+{
+    match token {
+        [] | [b'0', _, ..] => None,
+        _ => digits(token, base),
+    }
+}
+
+/// The decimal number that the token spells, if it has 32 bits.
+#[tactic(auto, unfolding(crate::specs::ScriptReading::count_of))]
+pub(crate) fn count(token: &[u8]) -> Option<u32>
+    ensures { result ≡ count_of token.now }
+{
+    let number = number(token, 10)?;
+    if number < 0x1_0000_0000 {
+        Some(number as u32)
+    } else {
+        None
+    }
+}
+
+// A token of a thousand digits is left as soon as its number is too large.
+fn digits(token: &[u8], base: u64) -> Option<u64>
+    requires { base ≤ 16 }
+    ensures value { result ≡ digits_read base 0 token.now }
+    ensures below { IfSome result (λ number. number < 2 ^ 48) }
+{
+    let mut number = 0;
+    for byte in token {
+        let digit = digit(*byte)?;
+        number = number * base + digit;
+        if digit >= base || number >= NUMBER_LIMIT {
+            return None;
+        }
+    }
+    Some(number)
+}
+
+fn digit(byte: u8) -> Option<u64>
+    ensures value { result ≡ digit_of byte }
+    ensures below { IfSome result (λ digit. digit < 16) }
+{
+    if is_digit(byte) {
+        Some(u64::from(value(byte)))
+    } else {
+        None
+    }
+}
+
+/// The byte that two digits spell.
+pub(crate) fn byte(token: &[u8]) -> Option<u8>
+    ensures { result ≡ byte_of token.now }
+{
+    match token {
+        [high, low] => pair(*high, *low),
+        _ => None,
+    }
+}
+
+/// The byte of a pair of digits.
+pub(crate) fn pair(high: u8, low: u8) -> Option<u8>
+    ensures { result ≡ byte_of (high ∷ low ∷ []) }
+{
+    if is_digit(high) & is_digit(low) {
+        Some(value(high) * 16 + value(low))
+    } else {
+        None
+    }
+}
+
+// Both kinds of digits come in any order, so that a branch here would be guessed wrong: this test
+// and the value have none.
+fn is_digit(byte: u8) -> bool
+    ensures { result ≡ is_some (digit_of byte) }
+{
+    (b'0' <= byte && byte <= b'9') | (b'a' <= byte && byte <= b'f')
+}
+
+fn value(byte: u8) -> u8
+    requires { IsSome (digit_of byte) }
+    ensures value { digit_of byte ≡ Some result }
+    ensures below { result < 16 }
+{
+    byte % 16 + 9 * (byte / 64)
+}
