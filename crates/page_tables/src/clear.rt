@@ -123,6 +123,7 @@ impl PageTables {
         ensures snapshot { self.new.snapshot ≡ self.old.snapshot }
     {
         let home = &mut self.slots[slot as usize];
+        // A cell holds its share, before and after: what goes back is what the share falls by.
         prove!(home.cell.held() <= u32::MAX);
         home.cell.clear(first, count, allot);
         prove!(home.cell.held() <= u32::MAX);
