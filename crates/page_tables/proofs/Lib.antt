@@ -35,6 +35,12 @@ pub mod LessShare
 pub mod ClearedCell
 pub mod ClearedTables
 pub mod ClearedSlot
+pub mod FirstCell
+pub mod ChangedCells
+pub mod OutOfCell
+pub mod PresentPages
+pub mod UnmapSteps
+pub mod ProtectedPages
 pub mod Vacancies
 pub mod SnapshotShares
 pub mod ForkSlots
