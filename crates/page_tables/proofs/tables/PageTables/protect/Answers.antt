@@ -1,5 +1,5 @@
 use Rattle.page_tables.proofs.ProtectedPages.{protect-runs}
 use Rattle.page_tables.proofs.tables.PageTables.protect.Goals as goal
 
-pub returns-clause-made : goal.returns-clause-made
-returns-clause-made c = λ sides st. protect-runs c.args.first c.args.count c.args.self.now sides st
+pub returns : goal.returns
+returns c = record { made = λ sides st. protect-runs c.args.first c.args.count c.args.self.now sides st }
