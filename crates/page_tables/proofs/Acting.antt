@@ -57,7 +57,7 @@ module _ (directory : CellMap) (snapshot : Option SnapshotTables) (slots : List 
     | inl same ↦
         let owned : slot.owner ≡ Some q = sym (ap (option_and_then (λ it. it.owner)) here) ∙ ap (owner_at slots) (sym same) ∙ e in
         ap (owner_at slots_acted) same ∙ ap (option_and_then (λ it. it.owner)) (slice_get-set-here slots s (record { owner = Some c; cell = view }) (slice_get_within slots s slot here))
-        ∙ elim fits [ | inl mine ↦ sym mine ∙ owned | inr free ↦ absurd (false≢true (ap is_some (sym free.0 ∙ owned))) ]
+        ∙ elim fits [ inl mine ↦ sym mine ∙ owned | inr free ↦ absurd (false≢true (ap is_some (sym free.0 ∙ owned))) ]
     | inr apart ↦ ap (option_and_then (λ it. it.owner)) (slice_get-set-apart slots s t (record { owner = Some c; cell = view }) apart) ∙ e
   ]
 

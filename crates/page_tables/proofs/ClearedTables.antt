@@ -62,11 +62,11 @@ module _ (directory : CellMap) (snapshot : Option SnapshotTables) (slots : List 
       pub stands_then : StandsFor view (record { state = state; made = sides.made })
       stands_then =
           subst (λ cell. StandsFor view (record { state = record { leaves = cell_without first n cell; pages = state.pages; snapshots = state.snapshots }; made = sides.made })) (st.each.leaves c)
-              (subst (λ course. StandsFor view (record { state = state_after (Clear first n) course (st.cells c); made = course.requests.made }))
-                  (cleared-is first n (st.cells c).leaves (opening_requests sides.made (answers_of deals))
-                      (ap (λ cell. has_present cell.parent first n) (st.each.leaves c) ∙ present)
-                      (subst (λ cell. AreUnjoined cell.kept) (sym (st.each.leaves c)) (st.kept.unjoined c)))
-                  takes.stands)
+          (subst (λ course. StandsFor view (record { state = state_after (Clear first n) course (st.cells c); made = course.requests.made }))
+          (cleared-is first n (st.cells c).leaves (opening_requests sides.made (answers_of deals))
+          (ap (λ cell. has_present cell.parent first n) (st.each.leaves c) ∙ present)
+          (subst (λ cell. AreUnjoined cell.kept) (sym (st.each.leaves c)) (st.kept.unjoined c)))
+          takes.stands)
 
       inside : (p : ℕ) → p < 512 → get state.pages p ≡ get then.pages (c * 512 + p)
       inside = retained-inside (st.cells c).pages sides.pages c first n (st.each.pages c)

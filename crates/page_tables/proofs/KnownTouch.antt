@@ -132,7 +132,7 @@ module _ (old : PageTables) (sides : Sides) (st : TablesStandFor old sides) (pag
       alike (Err why) = st.each.pages c q small
 
   outside : (q : ℕ) → q / 512 ≢ c → get (pages_with page refused sides.pages) q ≡ get sides.pages q
-  outside q apart = elim result as (λ result. get (pages_with page (page_refusal page result) sides.pages) q ≡ get sides.pages q) [ | Ok done ↦ with_page-outside sides.pages page q apart | Err why ↦ refl ]
+  outside q apart = elim result as (λ result. get (pages_with page (page_refusal page result) sides.pages) q ≡ get sides.pages q) [ Ok done ↦ with_page-outside sides.pages page q apart | Err why ↦ refl ]
 
   abbrev leaves : Leaves
   leaves = with_cell sides.leaves c end.cell
@@ -158,9 +158,9 @@ module _ (old : PageTables) (sides : Sides) (st : TablesStandFor old sides) (pag
   runs_then : Runs (page_touched page) sides.leaves sides.made deals leaves end.requests.made refused
   runs_then =
       let at_cell : RunsAt (touched p) (cell_at sides.leaves c) sides.made deals end.cell end.requests.made end.refused =
-          subst (λ cell. RunsAt (touched p) cell sides.made deals end.cell end.requests.made end.refused) (st.each.leaves c) (touch-runs p (st.cells c).leaves sides.made deals unjoined takes.asked) in
+      subst (λ cell. RunsAt (touched p) cell sides.made deals end.cell end.requests.made end.refused) (st.each.leaves c) (touch-runs p (st.cells c).leaves sides.made deals unjoined takes.asked) in
       subst (λ refused. Runs (page_touched page) sides.leaves sides.made deals leaves end.requests.made refused) (ap (refusal_at page) takes.ended ∙ refusal-of page result)
-          (known-runs page sides.leaves sides.made deals end.cell end.requests.made end.refused at_cell (missing-known sides.leaves c st.kept.sorted had))
+      (known-runs page sides.leaves sides.made deals end.cell end.requests.made end.refused at_cell (missing-known sides.leaves c st.kept.sorted had))
 
   pub known-follows : (new : PageTables) → new.directory ≡ old.directory → new.snapshot ≡ old.snapshot → new.slots.items ≡ new_slots → Follows (page_touched page) (pages_with page) new deals refused sides
   known-follows new same alike set = record {

@@ -112,13 +112,13 @@ module _ {X : Type 0} where
       let rest : is_some (find nat_cmp q (filter (λ e. test e.1) es)) ≡ passes test (find nat_cmp q es) = is_some-filter test q es (right _ _ h) in
       elim (eq_by_cmp nat_cmp q f.0) as (λ b. eq_by_cmp nat_cmp q f.0 ≡ b → is_some (find nat_cmp q (filter (λ e. test e.1) (f ∷ es))) ≡ passes test (cond b (Some f.1) (find nat_cmp q es))) [
         | true ↦ λ same. elim (test f.1) as (λ t. is_some (find nat_cmp q (cond t (f ∷ filter (λ e. test e.1) es) (filter (λ e. test e.1) es))) ≡ t) [
-            | true ↦ ap (λ b. is_some (cond b (Some f.1) (find nat_cmp q (filter (λ e. test e.1) es)))) same
-            | false ↦ ap is_some (missed-below q (filter (λ e. test e.1) es) (below-filter test q es (below-tied q f es same (left _ _ h))))
-          ]
+          | true ↦ ap (λ b. is_some (cond b (Some f.1) (find nat_cmp q (filter (λ e. test e.1) es)))) same
+          | false ↦ ap is_some (missed-below q (filter (λ e. test e.1) es) (below-filter test q es (below-tied q f es same (left _ _ h))))
+        ]
         | false ↦ λ other. elim (test f.1) as (λ t. is_some (find nat_cmp q (cond t (f ∷ filter (λ e. test e.1) es) (filter (λ e. test e.1) es))) ≡ passes test (find nat_cmp q es)) [
-            | true ↦ ap (λ b. is_some (cond b (Some f.1) (find nat_cmp q (filter (λ e. test e.1) es)))) other ∙ rest
-            | false ↦ rest
-          ]
+          | true ↦ ap (λ b. is_some (cond b (Some f.1) (find nat_cmp q (filter (λ e. test e.1) es)))) other ∙ rest
+          | false ↦ rest
+        ]
       ] refl
 
 -- entries without their values
@@ -149,7 +149,7 @@ pub keys-alike : {X Y : Type 0} (es : List (ℕ × X)) (fs : List (ℕ × Y)) �
 keys-alike es fs h k alike =
     sym (keys-bare es)
     ∙ ap (map (λ e. e.0)) (same_entries nat_cmp nat_cmp_total nat_cmp-IsAntisymmetric (bare es) (bare fs) (subst T (sym (sorted-bare es)) h) (subst T (sym (sorted-bare fs)) k)
-        (λ q. find-bare q es ∙ ap (λ b. cond b (Some true) None) (alike q) ∙ sym (find-bare q fs)))
+    (λ q. find-bare q es ∙ ap (λ b. cond b (Some true) None) (alike q) ∙ sym (find-bare q fs)))
     ∙ keys-bare fs
 
 module _ (leaves : Leaves) (c : ℕ) (new : CellLeaves) (used : is_used new ≡ true) where
@@ -205,7 +205,7 @@ module _ (leaves : Leaves) (c : ℕ) (new : CellLeaves) (used : is_used new ≡ 
 
 -- a cell with pages is in the map
 pub used-found : (leaves : Leaves) (c : ℕ) → is_used (cell_at leaves c) ≡ true → is_some (find nat_cmp c leaves) ≡ true
-used-found leaves c used = elim (find nat_cmp c leaves) as (λ o. is_used (unwrap_or o unused_cell) ≡ true → is_some o ≡ true) [ | Some cell ↦ λ h. refl | None ↦ λ h. h ] used
+used-found leaves c used = elim (find nat_cmp c leaves) as (λ o. is_used (unwrap_or o unused_cell) ≡ true → is_some o ≡ true) [ Some cell ↦ λ h. refl | None ↦ λ h. h ] used
 
 -- a cell that is in the map is used
 pub found-used : (leaves : Leaves) → AllByRecursion (λ e. is_used e.1 ≡ true) leaves → (c : ℕ) → is_some (find nat_cmp c leaves) ≡ true → is_used (cell_at leaves c) ≡ true
@@ -220,7 +220,7 @@ pub parent_cells-alike : (leaves : Leaves) → T (is_sorted nat_cmp leaves) → 
     → ((c : ℕ) → is_some (find nat_cmp c es) ≡ has_pages (cell_at leaves c).parent) → map (λ e. e.0) es ≡ parent_cells leaves
 parent_cells-alike leaves h es k alike =
     keys-alike es (filter (λ e. has_pages e.1.parent) leaves) k (sorted-filter (λ cell. has_pages cell.parent) leaves h)
-        (λ q. alike q ∙ sym (is_some-filter (λ cell. has_pages cell.parent) q leaves h ∙ passed q))
+    (λ q. alike q ∙ sym (is_some-filter (λ cell. has_pages cell.parent) q leaves h ∙ passed q))
   where
     passed : (q : ℕ) → passes (λ cell. has_pages cell.parent) (find nat_cmp q leaves) ≡ has_pages (cell_at leaves q).parent
-    passed q = elim (find nat_cmp q leaves) as (λ o. passes (λ cell. has_pages cell.parent) o ≡ has_pages (unwrap_or o unused_cell).parent) [ | Some cell ↦ refl | None ↦ refl ]
+    passed q = elim (find nat_cmp q leaves) as (λ o. passes (λ cell. has_pages cell.parent) o ≡ has_pages (unwrap_or o unused_cell).parent) [ Some cell ↦ refl | None ↦ refl ]

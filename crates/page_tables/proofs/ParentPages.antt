@@ -58,8 +58,8 @@ module _ (directory : CellMap) (snapshot : Option SnapshotTables) (slots : List 
         let there : (slot : Slot) × ((slice_get slots owned.0 ≡ Some slot) × (slot.owner ≡ Some c)) = owned-slot slots owned.0 c owned.1 in
         let stands : StandsFor there.0.cell (account_at c) = slot-stands c owned.0 there.0 there.1.0 owned.1 in
         sym (st.each.pages c p small) ∙ sym (stands.pages p small) ∙ ap (bytes_in there.0.cell.frames)
-            (ap (λ vs. version_at vs p) stands.leaves.parent ∙ version_at-renamed stands.name (st.cells c).leaves.parent p
-            ∙ ap (option_map (stands.name p)) (ap (λ cell. version_at cell.parent p) (st.each.leaves c) ∙ none))
+        (ap (λ vs. version_at vs p) stands.leaves.parent ∙ version_at-renamed stands.name (st.cells c).leaves.parent p
+        ∙ ap (option_map (stands.name p)) (ap (λ cell. version_at cell.parent p) (st.each.leaves c) ∙ none))
     | inr unused ↦ sym (st.each.pages c p small) ∙ ap (λ state. get state.pages p) (st.blank c unused) ∙ get-empty nat_cmp p
   ]
 

@@ -42,11 +42,11 @@ byte-inside part pages c page at byte small room alike p low =
     let far : page_of ((c * 512 + page) * 4096 + at) ≡ c * 512 + page = omega arith in
     let far_at : offset_of ((c * 512 + page) * 4096 + at) ≡ at = omega arith in
     let left : with_byte part (page * 4096 + at) byte ≡ insert part page (slice_set (unwrap_or (get part page) zero_page) at byte) =
-        ap (λ q. insert part q (slice_set (unwrap_or (get part q) zero_page) (offset_of (page * 4096 + at)) byte)) near
-        ∙ ap (λ i. insert part page (slice_set (unwrap_or (get part page) zero_page) i byte)) near_at in
+    ap (λ q. insert part q (slice_set (unwrap_or (get part q) zero_page) (offset_of (page * 4096 + at)) byte)) near
+    ∙ ap (λ i. insert part page (slice_set (unwrap_or (get part page) zero_page) i byte)) near_at in
     let right : with_byte pages ((c * 512 + page) * 4096 + at) byte ≡ insert pages (c * 512 + page) (slice_set (unwrap_or (get pages (c * 512 + page)) zero_page) at byte) =
-        ap (λ q. insert pages q (slice_set (unwrap_or (get pages q) zero_page) (offset_of ((c * 512 + page) * 4096 + at)) byte)) far
-        ∙ ap (λ i. insert pages (c * 512 + page) (slice_set (unwrap_or (get pages (c * 512 + page)) zero_page) i byte)) far_at in
+    ap (λ q. insert pages q (slice_set (unwrap_or (get pages q) zero_page) (offset_of ((c * 512 + page) * 4096 + at)) byte)) far
+    ∙ ap (λ i. insert pages (c * 512 + page) (slice_set (unwrap_or (get pages (c * 512 + page)) zero_page) i byte)) far_at in
     ap (λ m. get m p) left ∙ elim (cases_eq p page) [
       | inl here ↦ get_inserted_here part page _ p here ∙ ap (λ o. Some (slice_set (unwrap_or o zero_page) at byte)) (alike page small)
           ∙ sym (get_inserted_here pages (c * 512 + page) _ (c * 512 + p) (ap (λ q. c * 512 + q) here))
@@ -68,7 +68,7 @@ bytes-inside (byte ∷ bytes) part pages c page at small room alike = λ p low.
     let far : (c * 512 + page) * 4096 + at + 1 ≡ (c * 512 + page) * 4096 + (at + 1) = omega arith in
     ap (λ a. get (with_bytes (with_byte part (page * 4096 + at) byte) a bytes) p) near
     ∙ bytes-inside bytes (with_byte part (page * 4096 + at) byte) (with_byte pages ((c * 512 + page) * 4096 + at) byte) c page (at + 1) small (omega arith)
-        (byte-inside part pages c page at byte small (omega arith) alike) p low
+    (byte-inside part pages c page at byte small (omega arith) alike) p low
     ∙ sym (ap (λ a. get (with_bytes (with_byte pages ((c * 512 + page) * 4096 + at) byte) a bytes) (c * 512 + p)) far)
 
 pub bytes-outside : (bytes : List ℕ) (pages : PageMap) (c page at q : ℕ) → page < 512 → at + length bytes ≤ 4096 → q / 512 ≢ c
@@ -85,10 +85,11 @@ pub with_cell-same : (leaves : Leaves) (c : ℕ) → AreKept leaves → is_used 
 with_cell-same leaves c kept used =
     with_cell-put leaves c (cell_at leaves c) used
     ∙ same_entries nat_cmp nat_cmp_total nat_cmp-IsAntisymmetric (put nat_cmp c (cell_at leaves c) leaves) leaves (is_sorted-put nat_cmp nat_cmp_total c (cell_at leaves c) leaves kept.sorted) kept.sorted
-        (λ q. find-put nat_cmp nat_cmp_total q c (cell_at leaves c) leaves ∙ ap (λ b. cond b (Some (cell_at leaves c)) (find nat_cmp q leaves)) (same_number q c) ∙ again q)
+    (λ q. find-put nat_cmp nat_cmp_total q c (cell_at leaves c) leaves ∙ ap (λ b. cond b (Some (cell_at leaves c)) (find nat_cmp q leaves)) (same_number q c) ∙ again q)
   where
     there : Some (cell_at leaves c) ≡ find nat_cmp c leaves
-    there = elim (find nat_cmp c leaves) as (λ o. IsSome o → Some (unwrap_or o unused_cell) ≡ o) [ | Some cell ↦ λ h. refl | None ↦ λ h. absurd (false≢true h) ] (used-found leaves c used)
+    there = elim (find nat_cmp c leaves) as (λ o. IsSome o → Some (unwrap_or o unused_cell) ≡ o) [ Some cell ↦ λ h. refl | None ↦ λ h. absurd (false≢true h) ] (used-found leaves c used)
+
     again : (q : ℕ) → cond (eqb q c) (Some (cell_at leaves c)) (find nat_cmp q leaves) ≡ find nat_cmp q leaves
     again q = elim (cases_eq q c) [
       | inl here ↦ cond-true (eqb q c) _ _ (eq-eqb q c here) ∙ there ∙ ap (λ i. find nat_cmp i leaves) (sym here)

@@ -57,9 +57,9 @@ pages-left (page ∷ pages) sides q =
     pages-left pages (sides_without (cell_of page) (page % 512) 1 sides) q
     ∙ ap (cond (list_any (eqb q) pages) None) (get-retain_keys sides.pages (is_beyond (page / 512 * 512 + page % 512) 1) q (λ x e. ap (is_beyond (page / 512 * 512 + page % 512) 1) (sym (nat_cmp-IsAntisymmetric q x e))) ∙ ap (λ b. cond b (get sides.pages q) None) (beyond-one page q))
     ∙ elim (eqb q page) as (λ b. cond (list_any (eqb q) pages) None (cond (not b) (get sides.pages q) None) ≡ cond (b || list_any (eqb q) pages) None (get sides.pages q)) [
-        | true ↦ elim (list_any (eqb q) pages) as (λ b. cond {A = Option (List ℕ)} b None None ≡ None) [ true ↦ refl | false ↦ refl ]
-        | false ↦ refl
-      ]
+      | true ↦ elim (list_any (eqb q) pages) as (λ b. cond {A = Option (List ℕ)} b None None ≡ None) [ true ↦ refl | false ↦ refl ]
+      | false ↦ refl
+    ]
 
 -- ---- the pages that a touch added
 
@@ -130,15 +130,15 @@ module _ (pages : PageMap) (first i : ℕ) (added : List ℕ) (new : added ≡ a
         ap (λ b. cond b None (get (with_pages pages first i) q)) yes_in
         ∙ sym (not-some (get pages q) (both-true (not (is_some (get pages q))) (list_any (eqb q) (range_with_len first i)) (sym (added-if q) ∙ yes_in)).0)
     | inr not_in ↦ ap (λ b. cond b None (get (with_pages pages first i) q)) not_in ∙ elim (cases_Bool (is_some (get pages q))) [
-        | inl there ↦ with_pages-keeps i pages first q there
-        | inr lost ↦ elim (cases_lt q first) [
-            | inl below ↦ get-with_pages_below i pages first q below
-            | inr above ↦ elim (cases_lt q (first + i)) [
-                | inl inside ↦ absurd (out-of-range q first i (sym (ap (λ b. not b && list_any (eqb q) (range_with_len first i)) lost) ∙ sym (added-if q) ∙ not_in) above inside)
-                | inr beyond ↦ get-with_pages_above i pages first q beyond
-              ]
-          ]
+      | inl there ↦ with_pages-keeps i pages first q there
+      | inr lost ↦ elim (cases_lt q first) [
+        | inl below ↦ get-with_pages_below i pages first q below
+        | inr above ↦ elim (cases_lt q (first + i)) [
+          | inl inside ↦ absurd (out-of-range q first i (sym (ap (λ b. not b && list_any (eqb q) (range_with_len first i)) lost) ∙ sym (added-if q) ∙ not_in) above inside)
+          | inr beyond ↦ get-with_pages_above i pages first q beyond
+        ]
       ]
+    ]
   ]
 
 -- ---- what was added is there as it is taken out
@@ -147,13 +147,14 @@ there-range : (test : ℕ → Bool) (n a : ℕ) (leaves : Leaves) → ((q : ℕ)
 there-range test zero a leaves there = tt
 there-range test (suc n) a leaves there =
     elim (test a) as (λ b. ((q : ℕ) → list_any (eqb q) (cond b (a ∷ filter test (range_with_len (a + 1) n)) (filter test (range_with_len (a + 1) n))) ≡ true → IsSome (page_version leaves q))
-        → AreThere leaves (cond b (a ∷ filter test (range_with_len (a + 1) n)) (filter test (range_with_len (a + 1) n)))) [
-      | true ↦ λ there.
-          (there a (ap (λ b. b || list_any (eqb a) (filter test (range_with_len (a + 1) n))) (eq-eqb a a refl)),
-           there-range test n (a + 1) (without_page a leaves) (λ q e.
-             let above : a + 1 ≤ q = (in-range q (a + 1) n (second (test q) (list_any (eqb q) (range_with_len (a + 1) n)) (sym (any-filter test q (range_with_len (a + 1) n)) ∙ e))).0 in
-             ap is_some (version-left leaves a q (λ same. omega (arith, above, same)))
-             ∙ there q (ap (λ b. eqb q a || b) e ∙ or-true (eqb q a))))
+    → AreThere leaves (cond b (a ∷ filter test (range_with_len (a + 1) n)) (filter test (range_with_len (a + 1) n)))) [
+      | true ↦ λ there. (
+        there a (ap (λ b. b || list_any (eqb a) (filter test (range_with_len (a + 1) n))) (eq-eqb a a refl)),
+        there-range test n (a + 1) (without_page a leaves) (λ q e.
+            let above : a + 1 ≤ q = (in-range q (a + 1) n (second (test q) (list_any (eqb q) (range_with_len (a + 1) n)) (sym (any-filter test q (range_with_len (a + 1) n)) ∙ e))).0 in
+            ap is_some (version-left leaves a q (λ same. omega (arith, above, same)))
+            ∙ there q (ap (λ b. eqb q a || b) e ∙ or-true (eqb q a))),
+      )
       | false ↦ λ there. there-range test n (a + 1) leaves there
     ] there
   where
@@ -169,7 +170,7 @@ there-range test (suc n) a leaves there =
 pub added-there : (pages : PageMap) (first i : ℕ) (added : List ℕ) → added ≡ absent_pages pages first i → (leaves : Leaves) → ((q : ℕ) → first ≤ q → q < first + i → IsReady leaves q) → AreThere leaves added
 added-there pages first i added new leaves ready =
     subst (AreThere leaves) (sym new) (there-range (λ page. not (is_some (get pages page))) i first leaves
-        (λ q e. let within : (first ≤ q) × (q < first + i) = added-within pages first i added new q (ap (list_any (eqb q)) new ∙ e) in (ready q within.0 within.1).present))
+    (λ q e. let within : (first ≤ q) × (q < first + i) = added-within pages first i added new q (ap (list_any (eqb q)) new ∙ e) in (ready q within.0 within.1).present))
 
 at-among : (xs : List ℕ) (k d : ℕ) → k < length xs → list_any (eqb (slice_index_or xs k d)) xs ≡ true
 at-among [] k d small = absurd (omega arith)
@@ -250,7 +251,7 @@ module _ (first n i : ℕ) (small : i < n) (added : List ℕ) (now mid final : P
       ∙ ap (λ next. touch_goes_on next.refused added next (pages_touched_behind (added ++ added_by so_far.leaves page) (page + 1) (n - (i + 1)) next)) (touch.follows.runs.runs (before ++ deals) rest)
       ∙ (λ j. record { leaves = final_leaves; requests = requests_between touch.follows.made rest (((before ++ deals) ++ more) ++ returned (counted j)); refused = Some refusal })
       ∙ ap (λ ds. record { leaves = final_leaves; requests = requests_between touch.follows.made rest ds; refused = Some refusal })
-          (append_assoc (before ++ deals) more (returned back) ∙ append_assoc before deals (more ++ returned back))
+      (append_assoc (before ++ deals) more (returned back) ∙ append_assoc before deals (more ++ returned back))
 
   pub range-refused : FollowsRange first n final all (Some refusal) sides
   range-refused = record {

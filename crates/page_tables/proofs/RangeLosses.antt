@@ -66,8 +66,11 @@ module _ (losses : List Loss) (n : ℕ) where
             let above : first + 1 ≤ rest.cell = rest.above in
             let below : rest.cell < first + 1 + count = rest.below in
             record {
-              cell = rest.cell; above = omega arith; below = omega arith; lost = rest.lost;
-              before = λ c over under. elim (cases_eq c first) [ | inl here ↦ ap (loss_of losses n) here ∙ e | inr apart ↦ rest.before c (omega arith) under ];
+              cell = rest.cell;
+              above = omega arith;
+              below = omega arith;
+              lost = rest.lost;
+              before = λ c over under. elim (cases_eq c first) [ inl here ↦ ap (loss_of losses n) here ∙ e | inr apart ↦ rest.before c (omega arith) under ];
             }
       ] refl some
 
@@ -133,7 +136,10 @@ module _ (losses : List Loss) (n : ℕ) where
       let order : cell_from address ≤ cell_from (address + j) = omega arith in
       let ends : cell_from (address + j + k - 1) ≤ cell_from (address + size - 1) = omega arith in
       range-lowest address size at (omega arith) (record {
-        cell = lowest.cell; above = omega arith; below = omega arith; lost = lowest.lost;
+        cell = lowest.cell;
+        above = omega arith;
+        below = omega arith;
+        lost = lowest.lost;
         before = λ c over under. elim (cases_lt c (cell_from (address + j))) [
           | inl low ↦ before-second address j k front c over low
           | inr high ↦ lowest.before c high under

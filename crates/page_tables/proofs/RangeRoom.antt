@@ -43,10 +43,10 @@ fewer-or-same has has_too c [] alike = omega arith
 fewer-or-same has has_too c (d ∷ cells) alike =
     let rest : length (lacking has_too cells) ≤ length (lacking has cells) = fewer-or-same has has_too c cells alike in
     subst (λ b. length (cond (not b) (d ∷ lacking has_too cells) (lacking has_too cells)) ≤ length (lacking has (d ∷ cells))) (sym (alike d))
-        (elim (eqb d c) as (λ e. length (cond (not (e || has d)) (d ∷ lacking has_too cells) (lacking has_too cells)) ≤ length (lacking has (d ∷ cells))) [
-          | true ↦ elim (has d) as (λ b. length (lacking has_too cells) ≤ length (cond (not b) (d ∷ lacking has cells) (lacking has cells))) [ true ↦ rest | false ↦ omega arith ]
-          | false ↦ elim (has d) as (λ b. length (cond (not b) (d ∷ lacking has_too cells) (lacking has_too cells)) ≤ length (cond (not b) (d ∷ lacking has cells) (lacking has cells))) [ true ↦ rest | false ↦ omega arith ]
-        ])
+    (elim (eqb d c) as (λ e. length (cond (not (e || has d)) (d ∷ lacking has_too cells) (lacking has_too cells)) ≤ length (lacking has (d ∷ cells))) [
+      | true ↦ elim (has d) as (λ b. length (lacking has_too cells) ≤ length (cond (not b) (d ∷ lacking has cells) (lacking has cells))) [ true ↦ rest | false ↦ omega arith ]
+      | false ↦ elim (has d) as (λ b. length (cond (not b) (d ∷ lacking has_too cells) (lacking has_too cells)) ≤ length (cond (not b) (d ∷ lacking has cells) (lacking has cells))) [ true ↦ rest | false ↦ omega arith ]
+    ])
 
 -- one that is among the cells and had no slot has one then
 fewer-lacking : (has has_too : ℕ → Bool) (c : ℕ) (cells : List ℕ) → ((d : ℕ) → has_too d ≡ (eqb d c || has d)) → has c ≡ false → is_among c cells ≡ true → length (lacking has_too cells) < length (lacking has cells)
@@ -63,7 +63,7 @@ fewer-lacking has has_too c (d ∷ cells) alike none among = elim (cases_eq c d)
       let rest : length (lacking has_too cells) < length (lacking has cells) = fewer-lacking has has_too c cells alike none (sym (ap (λ b. b || is_among c cells) (ne_eqb c d apart)) ∙ among) in
       let same : has_too d ≡ has d = alike d ∙ ap (λ b. b || has d) (ne_eqb d c (λ e. apart (sym e))) in
       subst (λ b. length (cond (not b) (d ∷ lacking has_too cells) (lacking has_too cells)) < length (lacking has (d ∷ cells))) (sym same)
-          (elim (has d) as (λ b. length (cond (not b) (d ∷ lacking has_too cells) (lacking has_too cells)) < length (cond (not b) (d ∷ lacking has cells) (lacking has cells))) [ true ↦ rest | false ↦ omega arith ])
+      (elim (has d) as (λ b. length (cond (not b) (d ∷ lacking has_too cells) (lacking has_too cells)) < length (cond (not b) (d ∷ lacking has cells) (lacking has cells))) [ true ↦ rest | false ↦ omega arith ])
 ]
 
 module _ (slots : ℕ) (leaves : Leaves) (cells : List ℕ) (c : ℕ) (room : HasRoom slots leaves cells) (among : is_among c cells ≡ true) where

@@ -53,14 +53,14 @@ module _ (first n i : ℕ) (small : i < n) (added : List ℕ) (now next : PageTa
   -- the run as it stands before this page
   pub before-page : (before : List Deal) (rest : List Answer) → pages_touched first n (progress_between sides.leaves sides.made (answers_of (deals ++ more) ++ rest) before)
       ≡ touch_goes_on (page_touched page (progress_between so_far.leaves so_far.made (answers_of more ++ rest) (before ++ deals))).refused added (page_touched page (progress_between so_far.leaves so_far.made (answers_of more ++ rest) (before ++ deals)))
-          (pages_touched_behind (added ++ added_by so_far.leaves page) (page + 1) (n - (i + 1)) (page_touched page (progress_between so_far.leaves so_far.made (answers_of more ++ rest) (before ++ deals))))
+      (pages_touched_behind (added ++ added_by so_far.leaves page) (page + 1) (n - (i + 1)) (page_touched page (progress_between so_far.leaves so_far.made (answers_of more ++ rest) (before ++ deals))))
   before-page before rest =
       let left : n - i ≡ suc (n - (i + 1)) = omega arith in
       ap (λ xs. pages_touched first n (progress_between sides.leaves sides.made xs before)) (ap (λ xs. xs ++ rest) (answers-append deals more) ∙ append_assoc (answers_of deals) (answers_of more) rest)
       ∙ so_far.runs before (answers_of more ++ rest)
       ∙ ap (λ k. pages_touched_behind added (first + i) k (progress_between so_far.leaves so_far.made (answers_of more ++ rest) (before ++ deals))) left
       ∙ ap (λ p. touch_goes_on (page_touched p (progress_between so_far.leaves so_far.made (answers_of more ++ rest) (before ++ deals))).refused added (page_touched p (progress_between so_far.leaves so_far.made (answers_of more ++ rest) (before ++ deals)))
-          (pages_touched_behind (added ++ added_by so_far.leaves p) (p + 1) (n - (i + 1)) (page_touched p (progress_between so_far.leaves so_far.made (answers_of more ++ rest) (before ++ deals))))) (sym here)
+      (pages_touched_behind (added ++ added_by so_far.leaves p) (p + 1) (n - (i + 1)) (page_touched p (progress_between so_far.leaves so_far.made (answers_of more ++ rest) (before ++ deals))))) (sym here)
 
   -- the page was granted
   module _ (was : Bool) (version : was ≡ is_some (page_version so_far.leaves page)) (bytes : was ≡ is_some (get (with_pages sides.pages first i) page))

@@ -79,7 +79,7 @@ module _ (directory : CellMap) (snapshot : Option SnapshotTables) (slots : List 
         | inl mine ↦
             let within : length sides.leaves ≤ length slots = within-slots in
             let fewer : length (filter (λ e. has_pages e.1.parent) sides.leaves) < length sides.leaves =
-                found-fails (find nat_cmp c sides.leaves) refl (st.slots_of.used s c (ap (option_and_then (λ it. it.owner)) here ∙ mine)) none in
+            found-fails (find nat_cmp c sides.leaves) refl (st.slots_of.used s c (ap (option_and_then (λ it. it.owner)) here ∙ mine)) none in
             omega arith
         | inr free ↦
             let counted : count_by (λ slot. is_some slot.owner) slots ≡ length sides.leaves = st.slots_of.counted in

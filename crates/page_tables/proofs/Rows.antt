@@ -72,7 +72,7 @@ module _ (page : ℕ) (leaves : Leaves) (made : ℕ) (wants : List Want) (missin
     all_answers : (rest : List Answer) → answers_of all_deals ++ rest ≡ answers_of (granted wants) ++ (answers_of deals ++ rest)
     all_answers rest =
         ap (λ xs. xs ++ rest) (answers-append (granted wants) (deals ++ tables_back refused (length wants)) ∙ ap (λ xs. answers_of (granted wants) ++ xs)
-            (answers-append deals (tables_back refused (length wants)) ∙ ap (λ xs. answers_of deals ++ xs) (answers-back refused (length wants)) ∙ append-nil (answers_of deals)))
+        (answers-append deals (tables_back refused (length wants)) ∙ ap (λ xs. answers_of deals ++ xs) (answers-back refused (length wants)) ∙ append-nil (answers_of deals)))
         ∙ append_assoc (answers_of (granted wants)) (answers_of deals) rest
 
     pub new-runs : Runs (page_touched page) leaves made (deals_behind wants deals refused) (with_cell leaves (cell_of page) after) later (refusal_at page refused)
@@ -87,7 +87,7 @@ module _ (page : ℕ) (leaves : Leaves) (made : ℕ) (wants : List Want) (missin
           ∙ ap (λ course. cell_touch_ended course.refused page (length wants) (with_course (cell_of page) course behind)) (at_cell.runs (before ++ granted wants) rest)
           ∙ touch-ended-behind page (length wants) (with_cell leaves (cell_of page) after) later rest ((before ++ granted wants) ++ deals) refused
           ∙ ap (λ ds. record { leaves = with_cell leaves (cell_of page) after; requests = requests_between later rest ds; refused = refusal_at page refused })
-              (append_assoc (before ++ granted wants) deals (tables_back refused (length wants)) ∙ append_assoc before (granted wants) (deals ++ tables_back refused (length wants)));
+          (append_assoc (before ++ granted wants) deals (tables_back refused (length wants)) ∙ append_assoc before (granted wants) (deals ++ tables_back refused (length wants)));
     }
 
   -- a table was refused
@@ -109,5 +109,5 @@ module _ (page : ℕ) (leaves : Leaves) (made : ℕ) (wants : List Want) (missin
           ∙ ap (λ coming. going (asked_in_row (front ++ want ∷ more) (requests_between made coming before))) (lacking_answers rest)
           ∙ ap going (row-refused front want more at made rest before)
           ∙ ap (λ ds. record { leaves = leaves; requests = requests_between (made + length front + 1) rest ds; refused = refusal_at page (Some at) })
-              (append_assoc (before ++ granted front) (Denied want at ∷ []) (returned (length front)) ∙ append_assoc before (granted front) (Denied want at ∷ returned (length front)));
+          (append_assoc (before ++ granted front) (Denied want at ∷ []) (returned (length front)) ∙ append_assoc before (granted front) (Denied want at ∷ returned (length front)));
     }

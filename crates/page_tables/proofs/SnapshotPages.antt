@@ -154,7 +154,7 @@ module _ (tables : PageTables) (sides : Sides) (st : TablesStandFor tables sides
   pages_there : (pages : PageMap) → get sides.snapshots n ≡ Some pages → bytes ≡ part_of (snapshot_page account n page) at size → bytes ≡ bytes_at pages addr size
   pages_there pages lives told =
       let part : bytes ≡ part_of (snapshot_page account n (page_of addr % 512)) (offset_of addr) size =
-          told ∙ ap (λ p. part_of (snapshot_page account n p) at size) page_is ∙ ap (λ i. part_of (snapshot_page account n (page_of addr % 512)) i size) at_is in
+      told ∙ ap (λ p. part_of (snapshot_page account n p) at size) page_is ∙ ap (λ i. part_of (snapshot_page account n (page_of addr % 512)) i size) at_is in
       part ∙ bytes_at-part pages addr size (snapshot_page account n (page_of addr % 512)) (sym (snapshot-known tables sides st n (page_of addr) pages lives)) room (sym (ap length part) ∙ as_many)
 
   pub snapshot-read : (result : Result (Unit {0}) Loss) → OnOk result (snapshot_part slot.cell n page at size ≡ Ok bytes)

@@ -35,13 +35,13 @@ not_nil {x} {xs} e = let l : length (x ∷ xs) ≡ 0 = ap length e in omega arit
 used_up : (front tail : List Deal) (x : Answer) (ys : List Answer) → length (answers_of tail) ≡ 1 → answers_of (front ++ tail) ≡ answers_of front ++ x ∷ ys → ys ≡ []
 used_up front tail x ys one e =
     let l : length (answers_of front) + length (answers_of tail) ≡ length (answers_of front) + length (x ∷ ys) =
-        sym (length-append (answers_of front) (answers_of tail)) ∙ ap length (sym (answers-append front tail) ∙ e) ∙ length-append (answers_of front) (x ∷ ys) in
+    sym (length-append (answers_of front) (answers_of tail)) ∙ ap length (sym (answers-append front tail) ∙ e) ∙ length-append (answers_of front) (x ∷ ys) in
     no_length ys (omega arith)
 
 none_used : (front tail : List Deal) → length (answers_of tail) ≡ 1 → answers_of (front ++ tail) ≢ answers_of front ++ []
 none_used front tail one e =
     let l : length (answers_of front) + length (answers_of tail) ≡ length (answers_of front) + 0 =
-        sym (length-append (answers_of front) (answers_of tail)) ∙ ap length (sym (answers-append front tail) ∙ e) ∙ length-append (answers_of front) [] in
+    sym (length-append (answers_of front) (answers_of tail)) ∙ ap length (sym (answers-append front tail) ∙ e) ∙ length-append (answers_of front) [] in
     omega arith
 
 one_refused : (at n : ℕ) → length (answers_of (Denied want.Page at ∷ replicate n Returned)) ≡ 1
@@ -59,7 +59,7 @@ module _ (page leaves : ℕ) (cell : CellLeaves) (made : ℕ) (front before : Li
       let tail : (front ++ Denied want.Page at ∷ []) ++ replicate leaves Returned ≡ front ++ Denied want.Page at ∷ replicate leaves Returned = append_assoc front (Denied want.Page at ∷ []) (replicate leaves Returned) in
       let done : ys ≡ [] = used_up front (Denied want.Page at ∷ replicate leaves Returned) (No at) ys (one_refused at leaves) (ap answers_of (sym tail) ∙ e) in
       let joined : ((before ++ front) ++ Denied want.Page at ∷ []) ++ replicate leaves Returned ≡ before ++ ((front ++ Denied want.Page at ∷ []) ++ replicate leaves Returned) =
-          ap (λ ds. ds ++ replicate leaves Returned) (append_assoc before front (Denied want.Page at ∷ [])) ∙ append_assoc before (front ++ Denied want.Page at ∷ []) (replicate leaves Returned) in
+      ap (λ ds. ds ++ replicate leaves Returned) (append_assoc before front (Denied want.Page at ∷ [])) ∙ append_assoc before (front ++ Denied want.Page at ∷ []) (replicate leaves Returned) in
       λ i. record (new_page_asked page leaves (course_between cell made (No at ∷ ys) front)) { requests = requests_between (made + 1) (done i ++ rest) (joined i) }
 
 module _ (page : ℕ) (cell : CellLeaves) (made : ℕ) (before : List Deal) (rest : List Answer) where

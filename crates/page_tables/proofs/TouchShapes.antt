@@ -55,7 +55,7 @@ module _ (page : ℕ) (start : Course) (fresh : start.refused ≡ None) (size : 
   first-course : (answer : Answer) → IsTouchCourse page start (parent_leaf_answered page answer (asking want.Leaf start))
   first-course Yes =
       subst (λ c. IsTouchCourse page start (new_page_asked page 1 c)) (sym (before_change-none (asking want.Leaf start) unjoined))
-          (behind-one page start _ (answered-new page (asking want.Leaf start) fresh size 1 (coming_answer (asking want.Leaf start))))
+      (behind-one page start _ (answered-new page (asking want.Leaf start) fresh size 1 (coming_answer (asking want.Leaf start))))
   first-course (No at) = record { touch = Same; later = omega arith; ends = refl }
 
   course-as : (version : Option ℕ) → version_at start.cell.parent page ≡ version → (leaf : Bool) → has_pages start.cell.parent ≡ leaf → IsTouchCourse page start (touched page start)

@@ -83,6 +83,6 @@ ready-left leaves p q apart ready = elim (cases_eq (cell_of q) (cell_of p)) [
       let kept : version_at new.parent (q % 512) ≡ version_at (cell_at leaves (cell_of p)).parent (q % 512) = version-cleared (cell_at leaves (cell_of p)).parent (p % 512) (q % 512) (other-place p q apart same) in
       let alone : IsAlone new (q % 512) = record { present = ap is_some kept ∙ was.present; unnamed = λ version e. was.unnamed version (sym kept ∙ e) } in
       subst (λ n. IsAlone (cell_at (without_page p leaves) n) (q % 512)) (sym same)
-          (subst (λ cell. IsAlone cell (q % 512)) (sym (same-cell leaves (cell_of p) new (page-there new (q % 512) alone.present))) alone)
+      (subst (λ cell. IsAlone cell (q % 512)) (sym (same-cell leaves (cell_of p) new (page-there new (q % 512) alone.present))) alone)
   | inr other ↦ subst (λ cell. IsAlone cell (q % 512)) (sym (other-cell leaves (cell_of p) (record (cell_at leaves (cell_of p)) { parent = without_versions (cell_at leaves (cell_of p)).parent (p % 512) 1 }) (cell_of q) other)) ready
 ]

@@ -124,13 +124,7 @@ impl PageTables {
     }
 
     /// Reads bytes of a snapshot within the cell in a slot.
-    fn snap_read_slot(
-        &self,
-        slot: u32,
-        number: u32,
-        addr: u64,
-        buf: &mut [u8],
-    ) -> Result<(), Lost>
+    fn snap_read_slot(&self, slot: u32, number: u32, addr: u64, buf: &mut [u8]) -> Result<(), Lost>
         requires range { addr + length buf.old ≤ 2 ^ 48 }
         requires room { addr % 2 ^ 21 + length buf.old ≤ 2 ^ 21 }
         requires known { slot_in self.now.snapshot (cell_of (page_of addr)) ≡ Some slot }
@@ -150,13 +144,7 @@ impl PageTables {
     }
 
     /// Reads bytes of a snapshot within one page of the cell in a slot.
-    fn snap_read_piece(
-        &self,
-        slot: u32,
-        number: u32,
-        addr: u64,
-        buf: &mut [u8],
-    ) -> Result<(), Lost>
+    fn snap_read_piece(&self, slot: u32, number: u32, addr: u64, buf: &mut [u8]) -> Result<(), Lost>
         requires inside { addr < 2 ^ 48 }
         requires room { offset_of addr + length buf.old ≤ 4096 }
         requires some { 0 < length buf.old }

@@ -18,7 +18,7 @@ returns-in-None c = record {
         read = λ pages lives. c.fill.ensures.after (λ y h. h) ∙ bytes_at-nothing pages c.args.addr (length c.args.buf.now) (λ k small.
             let same : cell_of (page_of c.args.addr) ≡ cell_of (page_of (c.args.addr + k)) = omega arith in
             snapshot-lacking c.args.self.now sides st c.args.number (page_of (c.args.addr + k)) pages
-                (subst (λ q. slot_in c.args.self.now.snapshot q ≡ None) same none) lives);
+            (subst (λ q. slot_in c.args.self.now.snapshot q ≡ None) same none) lives);
         lost = tt;
       };
 }

@@ -15,7 +15,7 @@ returns-in-Some c = record {
   state = λ sides st.
       let owned = st.snapshot_of.named c.args.cell c.in-Some.slot (sym c.snapshot_slot.ensures ∙ c.in-Some.is) in
       c.state.ensures.account (account_at c.args.self.now.directory c.args.self.now.snapshot c.args.self.now.slots.items sides st c.args.cell)
-          (slot-stands c.args.self.now.directory c.args.self.now.snapshot c.args.self.now.slots.items sides st c.args.cell c.in-Some.slot c.index.result.now (owned-here c.args.self.now.slots.items c.in-Some.slot c.args.cell c.index.result.now owned c.index.ensures) owned)
+      (slot-stands c.args.self.now.directory c.args.self.now.snapshot c.args.self.now.slots.items sides st c.args.cell c.in-Some.slot c.index.result.now (owned-here c.args.self.now.slots.items c.in-Some.slot c.args.cell c.index.result.now owned c.index.ensures) owned)
       ∙ ap (λ cell. state_of (kept_by cell.kept c.args.number)) (st.each.leaves c.args.cell);
 }
 
