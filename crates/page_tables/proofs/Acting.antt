@@ -77,7 +77,8 @@ module _ (directory : CellMap) (snapshot : Option SnapshotTables) (slots : List 
     named = named;
     snapshot_of = record {
       numbers = λ q. elim (cases_eq q c) [
-        | inl same ↦ ap (λ cell. map (λ it. it.number) cell.kept) (cell_at-here sides.leaves c state.leaves used q same) ∙ numbers ∙ ap (λ n. map (λ it. it.number) (cell_at sides.leaves n).kept) (sym same) ∙ st.snapshot_of.numbers q
+        | inl same ↦ ap (λ cell. map (λ it. it.number) cell.kept) (cell_at-here sides.leaves c state.leaves used q same) ∙ numbers
+            ∙ ap (λ n. map (λ it. it.number) (cell_at sides.leaves n).kept) (sym same) ∙ st.snapshot_of.numbers q
         | inr apart ↦ ap (λ cell. map (λ it. it.number) cell.kept) (cell_at-apart sides.leaves c state.leaves used q apart) ∙ st.snapshot_of.numbers q
       ];
       named = λ q t e. owner-kept q t (st.snapshot_of.named q t e);

@@ -27,7 +27,8 @@ slots-later leaves cells made later slots more of = record {
   counted = of.counted;
 }
 
-pub tables-later : (directory : CellMap) (snapshot : Option SnapshotTables) (slots : List Slot) (sides : Sides) (later : ℕ) → sides.made ≤ later → StandFor directory snapshot slots sides → StandFor directory snapshot slots (record sides { made = later })
+pub tables-later : (directory : CellMap) (snapshot : Option SnapshotTables) (slots : List Slot) (sides : Sides) (later : ℕ) → sides.made ≤ later
+    → StandFor directory snapshot slots sides → StandFor directory snapshot slots (record sides { made = later })
 tables-later directory snapshot slots sides later more st = record {
   cells = st.cells;
   kept = st.kept;
@@ -56,7 +57,8 @@ with_cell-same leaves c kept = by-use (is_used (cell_at leaves c)) refl
     keeps x e = elim (cases_eq x c) [ inl same ↦ same | inr apart ↦ absurd (false≢true (sym e ∙ ap not (ne_eqb x c apart))) ]
 
     by-use : (b : Bool) → is_used (cell_at leaves c) ≡ b → with_cell leaves c (cell_at leaves c) ≡ leaves
-    by-use true used = same_entries nat_cmp nat_cmp_total nat_cmp-IsAntisymmetric (with_cell leaves c (cell_at leaves c)) leaves (sorted-with_cell leaves c (cell_at leaves c) used kept.sorted) kept.sorted
+    by-use true used = same_entries nat_cmp nat_cmp_total nat_cmp-IsAntisymmetric (with_cell leaves c (cell_at leaves c)) leaves
+        (sorted-with_cell leaves c (cell_at leaves c) used kept.sorted) kept.sorted
         (λ q. elim (cases_eq q c) [
           | inl same ↦ find-here leaves c (cell_at leaves c) used q same ∙ sym (ap (λ n. find nat_cmp n leaves) same ∙ there (find nat_cmp c leaves) refl used)
           | inr apart ↦ find-apart leaves c (cell_at leaves c) used q apart

@@ -48,7 +48,8 @@ pub even-slots : (slots : List Slot) (s : ℕ) (slot new : Slot) → slice_get s
     → frames_in slots + shares_in (slice_set slots s new) ≡ shares_in slots + frames_in (slice_set slots s new)
 even-slots slots s slot new here before after =
     let held : frames_in (slice_set slots s new) + held_of slot.cell ≡ frames_in slots + held_of new.cell = frames-set slots s slot new here in
-    let shares : shares_in (slice_set slots s new) + share (slice_index_or slots s slot).cell.leaves ≡ shares_in slots + share new.cell.leaves = sum_by-set (λ it. share it.cell.leaves) slots s new slot (slice_get_within slots s slot here) in
+    let shares : shares_in (slice_set slots s new) + share (slice_index_or slots s slot).cell.leaves ≡ shares_in slots + share new.cell.leaves =
+    sum_by-set (λ it. share it.cell.leaves) slots s new slot (slice_get_within slots s slot here) in
     let was : share (slice_index_or slots s slot).cell.leaves ≡ share slot.cell.leaves = ap (λ it. share it.cell.leaves) (get_or_from_slice_get slots s slot slot here) in
     omega (arith, held, shares, was, before, after)
 
@@ -64,7 +65,8 @@ module _ (old : PageTables) (c s first n : ℕ) (slot : Slot) (known : get old.d
       ∙ ap (λ cell. has_present cell.parent first n) (st.each.leaves c)
 
   module _ (view : CellView) (deals : List Deal) (follows : (account : CellAccount) → StandsFor slot.cell account → TakesAccount (Clear first n) slot.cell view deals None account)
-      (shares_before : HoldsShare slot.cell) (shares_after : HoldsShare view) (sides : Sides) (st : TablesStandFor old sides) (present : has_present (cell_at sides.leaves c).parent first n ≡ true) where
+      (shares_before : HoldsShare slot.cell) (shares_after : HoldsShare view) (sides : Sides) (st : TablesStandFor old sides)
+      (present : has_present (cell_at sides.leaves c).parent first n ≡ true) where
     abbrev meant : CellAccount
     meant = account old.directory old.snapshot old.slots.items sides st c s slot known here
 
@@ -127,7 +129,8 @@ module _ (old : PageTables) (c s first n : ℕ) (slot : Slot) (known : get old.d
     pub freed-are : (directory : CellMap) (new : Slot) → new.cell ≡ view → tables_of directory ≤ tables_of old.directory
         → frames_before - frames_then directory new ≡ (held_of slot.cell - held_of view) + (tables_of old.directory - tables_of directory)
     freed-are directory new same fewer =
-        freed-numbers (tables_of old.directory) (tables_of directory) (snapshot_frames old.snapshot) (frames_in old.slots.items) (frames_in (slice_set old.slots.items s new)) (held_of slot.cell) (held_of view)
+        freed-numbers (tables_of old.directory) (tables_of directory) (snapshot_frames old.snapshot) (frames_in old.slots.items)
+        (frames_in (slice_set old.slots.items s new)) (held_of slot.cell) (held_of view)
         (frames-set old.slots.items s slot new here ∙ ap (λ it. frames_in old.slots.items + held_of it) same) less-held fewer
 
     -- the unmap's deals, where the tables stand for what is left
@@ -136,13 +139,15 @@ module _ (old : PageTables) (c s first n : ℕ) (slot : Slot) (known : get old.d
     event-made directory new same fewer now =
         event-runs old.directory old.snapshot old.slots.items sides st c s slot known here first n present fits (frames_before - frames_then directory new)
         (held_of slot.cell - held_of view) (tables_of old.directory - tables_of directory) (freed-are directory new same fewer) (λ i. held_before i - held_after i)
-        (λ i. directory_frames (directory-cells old.directory old.snapshot old.slots.items sides st i) - directory_frames (directory-cells directory old.snapshot (slice_set old.slots.items s new) then now i))
+        (λ i. directory_frames (directory-cells old.directory old.snapshot old.slots.items sides st i) - directory_frames
+        (directory-cells directory old.snapshot (slice_set old.slots.items s new) then now i))
 
     -- the parent has a page left in the cell
     pub stays : has_pages view.leaves.parent ≡ true → StandFor old.directory old.snapshot (slice_set old.slots.items s (record { owner = slot.owner; cell = view })) then
     stays has =
         let has_too : has_pages left.parent ≡ true = pages_left ∙ has in
-        subst (λ owner. StandFor old.directory old.snapshot (slice_set old.slots.items s (record { owner = owner; cell = view })) then) (sym (mine old.directory old.snapshot old.slots.items sides st c s slot known here))
+        subst (λ owner. StandFor old.directory old.snapshot (slice_set old.slots.items s (record { owner = owner; cell = view })) then)
+        (sym (mine old.directory old.snapshot old.slots.items sides st c s slot known here))
         (kept-stands old.directory old.snapshot old.slots.items sides st c s slot known here first n present fits view deals takes (ap (λ b. b || not (length left.kept == 0)) has_too) has_too)
 
     -- the parent has none left
@@ -160,6 +165,7 @@ module _ (old : PageTables) (c s first n : ℕ) (slot : Slot) (known : get old.d
         by [] (it ∷ others) is alike = absurd alike
         by (seen ∷ rest) [] is alike = absurd alike
         by (seen ∷ rest) (it ∷ others) is alike =
-            subst (λ owner. StandFor (remove old.directory c) old.snapshot (slice_set old.slots.items s (record { owner = owner; cell = view })) then) (sym (mine old.directory old.snapshot old.slots.items sides st c s slot known here))
+            subst (λ owner. StandFor (remove old.directory c) old.snapshot (slice_set old.slots.items s (record { owner = owner; cell = view })) then)
+            (sym (mine old.directory old.snapshot old.slots.items sides st c s slot known here))
             (left-stands old.directory old.snapshot old.slots.items sides st c s slot known here first n present fits view deals takes
             ((λ i. none_too i || not (length (is i) == 0)) ∙ ap not (ne_eqb (length (it ∷ others)) 0 (λ e. omega (arith, e)))) none_too)

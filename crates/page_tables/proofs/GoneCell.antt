@@ -30,7 +30,11 @@ turned a b = elim (cases_eq a b) [
 all-where : {X : Type 0} (P : X → Type 0) (test : ℕ → Bool) (es : List (ℕ × X)) → AllByRecursion (λ e. P e.1) es → AllByRecursion (λ e. P e.1) (where_key nat_cmp test es)
 all-where P test [] h = h
 all-where P test (e ∷ es) h =
-    elim (test e.0) as (λ b. AllByRecursion (λ e. P e.1) (cond b (e ∷ where_key nat_cmp test es) (where_key nat_cmp test es))) [ true ↦ (h.0, all-where P test es h.1) | false ↦ all-where P test es h.1 ]
+    elim (test e.0) as (λ b. AllByRecursion (λ e. P e.1) (cond b (e ∷ where_key nat_cmp test es) (where_key nat_cmp test es))) [
+      | true ↦
+          (h.0, all-where P test es h.1)
+      | false ↦ all-where P test es h.1
+    ]
 
 module _ (leaves : Leaves) (c : ℕ) (new : CellLeaves) (unused : is_used new ≡ false) where
   abbrev other : ℕ → Bool
@@ -70,8 +74,10 @@ module _ (leaves : Leaves) (c : ℕ) (new : CellLeaves) (unused : is_used new �
 
   pub length-gone : T (is_sorted nat_cmp leaves) → is_some (find nat_cmp c leaves) ≡ true → length (with_cell leaves c new) + 1 ≡ length leaves
   length-gone sorted there =
-      let same : where_key nat_cmp (λ x. not (eq_by_cmp nat_cmp c x)) leaves ≡ where_key nat_cmp (λ q. not (eqb q c)) leaves = λ i. where_key nat_cmp (λ x. not ((same_number c x ∙ turned c x) i)) leaves in
-      let whole : cond (is_some (find nat_cmp c leaves)) 1 0 + length (where_key nat_cmp (λ x. not (eq_by_cmp nat_cmp c x)) leaves) ≡ length leaves = length_without nat_cmp nat_cmp_total c leaves sorted in
+      let same : where_key nat_cmp (λ x. not (eq_by_cmp nat_cmp c x)) leaves ≡ where_key nat_cmp (λ q. not (eqb q c)) leaves =
+      λ i. where_key nat_cmp (λ x. not ((same_number c x ∙ turned c x) i)) leaves in
+      let whole : cond (is_some (find nat_cmp c leaves)) 1 0 + length (where_key nat_cmp (λ x. not (eq_by_cmp nat_cmp c x)) leaves) ≡ length leaves =
+      length_without nat_cmp nat_cmp_total c leaves sorted in
       let one : ◌≡◌ {A = ℕ} (cond (is_some (find nat_cmp c leaves)) 1 0) 1 = ap (λ b. cond b 1 0) there in
       let left : length (with_cell leaves c new) ≡ length (where_key nat_cmp (λ x. not (eq_by_cmp nat_cmp c x)) leaves) = ap length (with_cell-where ∙ sym same) in
       omega (arith, whole, one, left)
@@ -99,7 +105,8 @@ no-page view state made stands gone p =
     ∙ version_at-renamed stands.name no_versions p ∙ ap (option_map (stands.name p)) (version_at-none p))
 
 -- and so it stands for what is in the slot of nobody
-pub stands-empty : (view : CellView) (state : CellState) (made : ℕ) → StandsFor view (record { state = state; made = made }) → state.leaves ≡ unused_cell → StandsFor view (record { state = empty_state; made = made })
+pub stands-empty : (view : CellView) (state : CellState) (made : ℕ) → StandsFor view (record { state = state; made = made })
+    → state.leaves ≡ unused_cell → StandsFor view (record { state = empty_state; made = made })
 stands-empty view state made stands gone = record {
   name = stands.name;
   leaves = subst (IsRenaming stands.name view.leaves) gone stands.leaves;

@@ -75,7 +75,8 @@ cells-alike test leaves none h es k alike =
 -- a snapshot has a cell where its number is among those there
 pub kept-number : (kept : List Kept) (n : ℕ) → is_some (kept_by kept n) ≡ list_any (λ m. m == n) (map (λ it. it.number) kept)
 kept-number [] n = refl
-kept-number (it ∷ others) n = elim (it.number == n) as (λ b. is_some (cond b (Some it) (kept_by others n)) ≡ (b || list_any (λ m. m == n) (map (λ it. it.number) others))) [ true ↦ refl | false ↦ kept-number others n ]
+kept-number (it ∷ others) n = elim (it.number == n) as
+    (λ b. is_some (cond b (Some it) (kept_by others n)) ≡ (b || list_any (λ m. m == n) (map (λ it. it.number) others))) [ true ↦ refl | false ↦ kept-number others n ]
 
 module _ (n : ℕ) (has : ℕ → Bool) where
   abbrev HasNumber : ℕ × CellLeaves → Type 0
@@ -132,7 +133,8 @@ pub snapshot-cells : (directory : CellMap) (tables : SnapshotTables) (slots : Li
     → keys tables.directory ≡ snapshot_cells sides.leaves tables.number
 snapshot-cells directory tables slots sides st =
     cells-alike (λ cell. is_some (kept_by cell.kept tables.number)) sides.leaves refl st.kept.sorted (entries tables.directory) (entries_sorted tables.directory)
-    (λ c. ap is_some (sym (get-entries tables.directory c)) ∙ sym (kept-number (cell_at sides.leaves c).kept tables.number ∙ ap (list_any (λ m. m == tables.number)) (st.snapshot_of.numbers c) ∙ there (is_some (get tables.directory c))))
+    (λ c. ap is_some (sym (get-entries tables.directory c))
+    ∙ sym (kept-number (cell_at sides.leaves c).kept tables.number ∙ ap (list_any (λ m. m == tables.number)) (st.snapshot_of.numbers c) ∙ there (is_some (get tables.directory c))))
   where
     there : (b : Bool) → list_any (λ m. m == tables.number) (cond b (tables.number ∷ []) []) ≡ b
     there true = ap (λ b. b || false) (eq-eqb tables.number tables.number refl)
@@ -148,7 +150,8 @@ snapshot-law directory (Some tables) slots sides st =
     let one : ℕ → ℕ = λ n. directory_frames (snapshot_cells sides.leaves n) in
     let cells : keys tables.directory ≡ snapshot_cells sides.leaves tables.number = snapshot-cells directory tables slots sides st in
     ap (sum_by one) (few-numbers tables.number (λ c. is_some (get tables.directory c)) sides.leaves all)
-    ∙ elim (some_has tables.number (λ c. is_some (get tables.directory c)) sides.leaves) as (λ b. some_has tables.number (λ c. is_some (get tables.directory c)) sides.leaves ≡ b → sum_by one (cond b (tables.number ∷ []) []) ≡ tables_of tables.directory) [
+    ∙ elim (some_has tables.number (λ c. is_some (get tables.directory c)) sides.leaves) as
+    (λ b. some_has tables.number (λ c. is_some (get tables.directory c)) sides.leaves ≡ b → sum_by one (cond b (tables.number ∷ []) []) ≡ tables_of tables.directory) [
       | true ↦ λ is. let sum : sum_by one (tables.number ∷ []) ≡ one tables.number + 0 = sum_by-cons one tables.number [] in
           let whole : one tables.number ≡ tables_of tables.directory = ap directory_frames (sym cells) in
           omega arith
@@ -237,7 +240,8 @@ module _ (directory : CellMap) (snapshot : Option SnapshotTables) (slots : List 
       sum-alike (λ e. share e.1) (λ e. share_of (Some e.0)) sides.leaves
       (all-found (λ q cell. share cell ≡ share_of (Some q)) sides.leaves st.kept.sorted (λ q cell found. ap (λ o. share (unwrap_or o unused_cell)) (sym found) ∙ ap share (sym (st.each.leaves q))))
       ∙ sym (owners-sum share_of refl sides.leaves st.kept.sorted slots st.slots_of.once st.slots_of.used st.slots_of.owned)
-      ∙ sym (slots-alike (λ slot. share slot.cell.leaves) (λ slot. share_of slot.owner) slots (λ s slot here. share-stands slot.cell (record { state = state_in st.cells slot.owner; made = sides.made }) (st.slots_of.stands s slot here)))
+      ∙ sym (slots-alike (λ slot. share slot.cell.leaves) (λ slot. share_of slot.owner) slots
+      (λ s slot here. share-stands slot.cell (record { state = state_in st.cells slot.owner; made = sides.made }) (st.slots_of.stands s slot here)))
 
   -- the frames of the law are those of both directories and the shares of the cells
   pub frames-law : held_frames sides.leaves ≡ tables_of directory + snapshot_frames snapshot + shares_in slots
@@ -246,7 +250,8 @@ module _ (directory : CellMap) (snapshot : Option SnapshotTables) (slots : List 
       omega (arith, held_frames-shares sides.leaves, parent, snapshot-law directory snapshot slots sides st, shares-law)
 
   -- and those that the tables hold, where each cell holds its share
-  pub held-law : ((s : ℕ) (slot : Slot) → slice_get slots s ≡ Some slot → held_of slot.cell ≡ share slot.cell.leaves) → held_frames sides.leaves ≡ tables_of directory + snapshot_frames snapshot + frames_in slots
+  pub held-law : ((s : ℕ) (slot : Slot) → slice_get slots s ≡ Some slot → held_of slot.cell ≡ share slot.cell.leaves)
+      → held_frames sides.leaves ≡ tables_of directory + snapshot_frames snapshot + frames_in slots
   held-law each =
       let cells : frames_in slots ≡ shares_in slots = slots-alike (λ slot. held_of slot.cell) (λ slot. share slot.cell.leaves) slots each in
       omega (arith, frames-law, cells)

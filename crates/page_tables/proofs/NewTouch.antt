@@ -174,7 +174,8 @@ module _ (old : PageTables) (sides : Sides) (st : TablesStandFor old sides) (pag
             (subst (λ items. StandFor (insert old.directory c s) old.snapshot items then) (sym set) stands_then));
       }
 
-      pub granted-touches : (from to : ℕ) → IsTouched p from to slot.cell view → (new : PageTables) → new.directory ≡ insert old.directory c s → new.snapshot ≡ old.snapshot → new.slots.items ≡ new_slots
+      pub granted-touches : (from to : ℕ) → IsTouched p from to slot.cell view → (new : PageTables) → new.directory ≡ insert old.directory c s
+          → new.snapshot ≡ old.snapshot → new.slots.items ≡ new_slots
           → FollowsTouch page new (deals_behind wants deals None) None sides
       unfolding granted-follows
       granted-touches from to touched new directory alike set = record {
@@ -202,7 +203,8 @@ module _ (old : PageTables) (sides : Sides) (st : TablesStandFor old sides) (pag
         leaves = leaves;
         made = end.requests.made;
         runs = runs_with (Some at) takes;
-        stands = subst (λ now. StandFor new.directory new.snapshot new.slots.items (unchanged now)) same_leaves (subst (λ d. StandFor d new.snapshot new.slots.items (unchanged sides.leaves)) (sym directory)
+        stands = subst (λ now. StandFor new.directory new.snapshot new.slots.items (unchanged now)) same_leaves
+            (subst (λ d. StandFor d new.snapshot new.slots.items (unchanged sides.leaves)) (sym directory)
             (subst (λ it. StandFor old.directory it new.slots.items (unchanged sides.leaves)) (sym alike) (subst (λ items. StandFor old.directory old.snapshot items (unchanged sides.leaves)) (sym set)
             (tables-later old.directory old.snapshot old.slots.items sides end.requests.made later st))));
       }

@@ -87,8 +87,10 @@ module _ (tables : PageTables) (sides : Sides) (st : TablesStandFor tables sides
   c = cell_of (page_of addr)
 
   part : bytes ≡ part_of (get (st.cells c).pages (page_of addr % 512)) (offset_of addr) size
-  part = told (account_at tables.directory tables.snapshot tables.slots.items sides st c) (slot-stands tables.directory tables.snapshot tables.slots.items sides st c s slot (owned-here tables.slots.items s c slot (st.named c s known) here) (st.named c s known))
+  part = told (account_at tables.directory tables.snapshot tables.slots.items sides st c)
+      (slot-stands tables.directory tables.snapshot tables.slots.items sides st c s slot (owned-here tables.slots.items s c slot (st.named c s known) here) (st.named c s known))
       ∙ ap (λ p. part_of (get (st.cells c).pages p) at size) page_is ∙ ap (λ i. part_of (get (st.cells c).pages (page_of addr % 512)) i size) at_is
 
   pub parent-read : bytes ≡ bytes_at sides.pages addr size
-  parent-read = part ∙ bytes_at-part sides.pages addr size (get (st.cells c).pages (page_of addr % 512)) (sym (page-known tables.directory tables.snapshot tables.slots.items sides st (page_of addr) s known)) room (sym (ap length part) ∙ as_many)
+  parent-read = part ∙ bytes_at-part sides.pages addr size (get (st.cells c).pages (page_of addr % 512))
+      (sym (page-known tables.directory tables.snapshot tables.slots.items sides st (page_of addr) s known)) room (sym (ap length part) ∙ as_many)

@@ -84,7 +84,8 @@ bytes-outside (byte ∷ bytes) pages c page at q small room apart =
 pub with_cell-same : (leaves : Leaves) (c : ℕ) → AreKept leaves → is_used (cell_at leaves c) ≡ true → with_cell leaves c (cell_at leaves c) ≡ leaves
 with_cell-same leaves c kept used =
     with_cell-put leaves c (cell_at leaves c) used
-    ∙ same_entries nat_cmp nat_cmp_total nat_cmp-IsAntisymmetric (put nat_cmp c (cell_at leaves c) leaves) leaves (is_sorted-put nat_cmp nat_cmp_total c (cell_at leaves c) leaves kept.sorted) kept.sorted
+    ∙ same_entries nat_cmp nat_cmp_total nat_cmp-IsAntisymmetric (put nat_cmp c (cell_at leaves c) leaves) leaves
+    (is_sorted-put nat_cmp nat_cmp_total c (cell_at leaves c) leaves kept.sorted) kept.sorted
     (λ q. find-put nat_cmp nat_cmp_total q c (cell_at leaves c) leaves ∙ ap (λ b. cond b (Some (cell_at leaves c)) (find nat_cmp q leaves)) (same_number q c) ∙ again q)
   where
     there : Some (cell_at leaves c) ≡ find nat_cmp c leaves
@@ -101,7 +102,8 @@ pub alone-view : (view : CellView) (account : CellAccount) → StandsFor view ac
 alone-view view account stands page alone = alone-stands view account stands page alone
 
 module _ (old : PageTables) (sides : Sides) (st : TablesStandFor old sides) (addr s : ℕ) (bytes : List ℕ) (slot : Slot)
-    (known : get old.directory (cell_of (page_of addr)) ≡ Some s) (read : slot ≡ slice_index_or old.slots.items s slot) (page at : ℕ) (page_is : page ≡ page_of addr % 512) (at_is : at ≡ offset_of addr) where
+    (known : get old.directory (cell_of (page_of addr)) ≡ Some s) (read : slot ≡ slice_index_or old.slots.items s slot)
+    (page at : ℕ) (page_is : page ≡ page_of addr % 512) (at_is : at ≡ offset_of addr) where
   abbrev c : ℕ
   c = cell_of (page_of addr)
 
@@ -116,7 +118,8 @@ module _ (old : PageTables) (sides : Sides) (st : TablesStandFor old sides) (add
 
   -- the cell may be stored to where the page is ready
   pub ready-view : IsReady sides.leaves (page_of addr) → IsAlone slot.cell.leaves page
-  ready-view ready = subst (IsAlone slot.cell.leaves) (sym page_is) (alone-stands slot.cell (account_at old.directory old.snapshot old.slots.items sides st c) stood p (subst (λ cell. IsAlone cell p) (sym (st.each.leaves c)) ready))
+  ready-view ready = subst (IsAlone slot.cell.leaves) (sym page_is)
+      (alone-stands slot.cell (account_at old.directory old.snapshot old.slots.items sides st c) stood p (subst (λ cell. IsAlone cell p) (sym (st.each.leaves c)) ready))
 
   module _ (view : CellView) (room : offset_of addr + length bytes ≤ 4096)
       (stored : (account : CellAccount) → StandsFor slot.cell account → TakesAccount (Store page at bytes) slot.cell view [] None account) where
@@ -156,20 +159,24 @@ module _ (old : PageTables) (sides : Sides) (st : TablesStandFor old sides) (add
     abbrev then : Sides
     then = record sides { pages = with_bytes sides.pages addr bytes }
 
-    stands_then : StandFor old.directory old.snapshot new_slots (record { leaves = with_cell sides.leaves c (st.cells c).leaves; pages = with_bytes sides.pages addr bytes; snapshots = sides.snapshots; made = sides.made })
+    stands_then : StandFor old.directory old.snapshot new_slots
+        (record { leaves = with_cell sides.leaves c (st.cells c).leaves; pages = with_bytes sides.pages addr bytes; snapshots = sides.snapshots; made = sides.made })
     stands_then = tables-acted old.directory old.snapshot old.slots.items sides st c s slot here (inl mine) view state sides.made (omega arith)
         (ap is_used (st.each.leaves c) ∙ used)
         (ap (λ cell. length cell.parent) (st.each.leaves c) ∙ st.kept.sizes c)
         (subst (λ cell. AreUnjoined cell.kept) (sym (st.each.leaves c)) (st.kept.unjoined c))
-        (subst (λ q. StandsFor view (stored_account q (offset_of addr))) page_is (subst (λ i. StandsFor view (stored_account page i)) at_is (stored (account_at old.directory old.snapshot old.slots.items sides st c) stood).stands))
+        (subst (λ q. StandsFor view (stored_account q (offset_of addr))) page_is
+        (subst (λ i. StandsFor view (stored_account page i)) at_is (stored (account_at old.directory old.snapshot old.slots.items sides st c) stood).stands))
         (with_bytes sides.pages addr bytes) inside outside refl
         (ap (λ cell. map (λ it. it.number) cell.kept) (st.each.leaves c)) old.directory
         (λ q. st.parent q ∙ ap (λ leaves. has_pages (cell_at leaves q).parent) (sym same_leaves))
         (λ q t e. owner-same old.slots.items s c slot view here mine t ∙ st.named q t e)
 
-    pub stands-stored : (new : PageTables) → new.directory ≡ old.directory → new.snapshot ≡ old.snapshot → new.slots.items ≡ slice_set old.slots.items s (record { owner = slot.owner; cell = view }) → TablesStandFor new then
+    pub stands-stored : (new : PageTables) → new.directory ≡ old.directory → new.snapshot ≡ old.snapshot
+        → new.slots.items ≡ slice_set old.slots.items s (record { owner = slot.owner; cell = view }) → TablesStandFor new then
     stands-stored new same alike put =
         let set : new.slots.items ≡ new_slots = put ∙ ap (λ owner. slice_set old.slots.items s (record { owner = owner; cell = view })) mine in
         subst (λ d. StandFor d new.snapshot new.slots.items then) (sym same) (subst (λ it. StandFor old.directory it new.slots.items then) (sym alike)
         (subst (λ items. StandFor old.directory old.snapshot items then) (sym set)
-        (subst (λ leaves. StandFor old.directory old.snapshot new_slots (record { leaves = leaves; pages = with_bytes sides.pages addr bytes; snapshots = sides.snapshots; made = sides.made })) same_leaves stands_then)))
+        (subst (λ leaves. StandFor old.directory old.snapshot new_slots
+        (record { leaves = leaves; pages = with_bytes sides.pages addr bytes; snapshots = sides.snapshots; made = sides.made })) same_leaves stands_then)))

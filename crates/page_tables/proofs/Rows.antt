@@ -37,7 +37,8 @@ row-refused [] want more at made tail before =
 row-refused (first ∷ front) want more at made tail before =
     let count : made + 1 + length front + 1 ≡ made + suc (length front) + 1 = omega arith in
     let one : length front + 1 ≡ suc (length front) = omega arith in
-    ap (row_end Yes (requests_between (made + 1) (answers_of (granted front) ++ No at ∷ tail) (before ++ Granted first ∷ []))) (row-refused front want more at (made + 1) tail (before ++ Granted first ∷ []))
+    ap (row_end Yes (requests_between (made + 1) (answers_of (granted front) ++ No at ∷ tail) (before ++ Granted first ∷ [])))
+    (row-refused front want more at (made + 1) tail (before ++ Granted first ∷ []))
     ∙ λ i. record { requests = requests_between (count i) tail (append_assoc before (Granted first ∷ []) (granted front) i ++ Denied want at ∷ []); granted = one i; refused = Some at }
 
 -- what is given back where a touch was refused behind so many directory tables
@@ -59,13 +60,15 @@ answers-back (Some at) n = answers-returned n
 
 -- the touch of a page behind so many directory tables
 touch-ended-behind : (page n : ℕ) (leaves : Leaves) (made : ℕ) (rest : List Answer) (dealt : List Deal) (refused : Option ℕ)
-    → cell_touch_ended refused page n (progress_between leaves made rest dealt) ≡ record { leaves = leaves; requests = requests_between made rest (dealt ++ tables_back refused n); refused = refusal_at page refused }
+    → cell_touch_ended refused page n (progress_between leaves made rest dealt)
+    ≡ record { leaves = leaves; requests = requests_between made rest (dealt ++ tables_back refused n); refused = refusal_at page refused }
 touch-ended-behind page n leaves made rest dealt None = λ i. record { leaves = leaves; requests = requests_between made rest (sym (append-nil dealt) i); refused = None }
 touch-ended-behind page n leaves made rest dealt (Some at) = refl
 
 module _ (page : ℕ) (leaves : Leaves) (made : ℕ) (wants : List Want) (missing : missing_tables (parent_cells leaves) (cell_of page) ≡ wants) where
   -- all tables were granted
-  module _ (deals : List Deal) (after : CellLeaves) (later : ℕ) (refused : Option ℕ) (at_cell : RunsAt (touched (page % 512)) (cell_at leaves (cell_of page)) (made + length wants) deals after later refused) where
+  module _ (deals : List Deal) (after : CellLeaves) (later : ℕ) (refused : Option ℕ)
+      (at_cell : RunsAt (touched (page % 512)) (cell_at leaves (cell_of page)) (made + length wants) deals after later refused) where
     abbrev all_deals : List Deal
     all_deals = deals_behind wants deals refused
 

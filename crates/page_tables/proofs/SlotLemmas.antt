@@ -18,7 +18,8 @@ use Rattle.page_tables.specs.Standing.{owner_at, state_in, AreSlotsOf, IsSlotFor
 use Rattle.page_tables.proofs.LeafMap.{find-here, find-apart, length-with_cell}
 
 -- a cell stands for the same account behind more requests
-pub stands-later : (view : CellView) (state : CellState) (made later : ℕ) → made ≤ later → StandsFor view (record { state = state; made = made }) → StandsFor view (record { state = state; made = later })
+pub stands-later : (view : CellView) (state : CellState) (made later : ℕ) → made ≤ later → StandsFor view (record { state = state; made = made })
+    → StandsFor view (record { state = state; made = later })
 stands-later view state made later more stands = record {
   name = stands.name;
   leaves = stands.leaves;

@@ -37,7 +37,8 @@ impl PageTables {
         ensures follows { (sides : Sides) → TablesStandFor self.old sides → TablesStandFor self.new (sides_without cell first count sides) }
 
         // What the unmap of these pages makes, in the words of the events.
-        ensures event { (sides : Sides) → TablesStandFor self.old sides → Runs (cell_unmapped cell first count) sides.leaves sides.made (returned (frames_of self.old - frames_of self.new)) (sides_without cell first count sides).leaves sides.made None }
+        ensures event { (sides : Sides) → TablesStandFor self.old sides → Runs (cell_unmapped cell first count) sides.leaves sides.made
+            (returned (frames_of self.old - frames_of self.new)) (sides_without cell first count sides).leaves sides.made None }
         ensures held { A.out (A.state allot.new) + frames_of self.old ≡ A.out (A.state allot.old) + frames_of self.new }
         ensures untold { A.grants allot.new ≡ None }
         ensures slots { slot_count self.new ≡ slot_count self.old }
@@ -62,7 +63,8 @@ impl PageTables {
         ensures given { LeadsAlong A.goes (A.state allot.old) (returned (frames_of self.old - frames_of self.new)) (A.state allot.new) }
         ensures shrunk { frames_of self.new ≤ frames_of self.old }
         ensures follows { (sides : Sides) → TablesStandFor self.old sides → TablesStandFor self.new (sides_without cell first count sides) }
-        ensures event { (sides : Sides) → TablesStandFor self.old sides → Runs (cell_unmapped cell first count) sides.leaves sides.made (returned (frames_of self.old - frames_of self.new)) (sides_without cell first count sides).leaves sides.made None }
+        ensures event { (sides : Sides) → TablesStandFor self.old sides → Runs (cell_unmapped cell first count) sides.leaves sides.made
+            (returned (frames_of self.old - frames_of self.new)) (sides_without cell first count sides).leaves sides.made None }
         ensures held { A.out (A.state allot.new) + frames_of self.old ≡ A.out (A.state allot.old) + frames_of self.new }
         ensures untold { A.grants allot.new ≡ None }
         ensures slots { slot_count self.new ≡ slot_count self.old }

@@ -23,28 +23,39 @@ use Rattle.page_tables.proofs.tables.PageTables.clear_slot.Goals as goal
 -- src/clear.rt:67:25
 pub index_mut-home-requires : goal.index_mut-home-requires
 index_mut-home-requires g c =
-    let within : c.args.slot < length c.args.self.now.slots.items = owned-within c.args.self.now.slots.items c.args.slot c.args.cell (c.requires.stands.1.0.named c.args.cell c.args.slot c.requires.known) in
+    let within : c.args.slot < length c.args.self.now.slots.items =
+    owned-within c.args.self.now.slots.items c.args.slot c.args.cell (c.requires.stands.1.0.named c.args.cell c.args.slot c.requires.known) in
     subst (λ n. c.args.slot < n) (sym c.args.self.now.slots.ok.0) within
 
 pub clear-requires-clause-unjoined : goal.clear-requires-clause-unjoined
 clear-requires-clause-unjoined g c = λ _.
-    let within : c.args.slot < length c.args.self.now.slots.items = owned-within c.args.self.now.slots.items c.args.slot c.args.cell (c.requires.stands.1.0.named c.args.cell c.args.slot c.requires.known) in
+    let within : c.args.slot < length c.args.self.now.slots.items =
+    owned-within c.args.self.now.slots.items c.args.slot c.args.cell (c.requires.stands.1.0.named c.args.cell c.args.slot c.requires.known) in
     slot-unjoined c.args.self.now.directory c.args.self.now.snapshot c.args.self.now.slots.items c.requires.stands.0 c.requires.stands.1.0 c.args.slot c.index_mut-home.result.now
     (read-slot c.args.self.now.slots.items c.args.slot c.index_mut-home.result.now within c.index_mut-home.ensures.value)
 
 pub clear-requires-clause-held : goal.clear-requires-clause-held
 clear-requires-clause-held g c =
-    let within : c.args.slot < length c.args.self.now.slots.items = owned-within c.args.self.now.slots.items c.args.slot c.args.cell (c.requires.stands.1.0.named c.args.cell c.args.slot c.requires.known) in
-    let part : held_of c.index_mut-home.result.now.cell ≤ frames_in c.args.self.now.slots.items = held-within c.args.self.now.slots.items c.args.slot c.index_mut-home.result.now (read-slot c.args.self.now.slots.items c.args.slot c.index_mut-home.result.now within c.index_mut-home.ensures.value) in
-    let lent : tables_of c.args.self.now.directory + snapshot_frames c.args.self.now.snapshot + frames_in c.args.self.now.slots.items ≤ g.A.Allot.out (g.A.Allot.state c.args.allot.now) = c.requires.lent in
+    let within : c.args.slot < length c.args.self.now.slots.items =
+    owned-within c.args.self.now.slots.items c.args.slot c.args.cell (c.requires.stands.1.0.named c.args.cell c.args.slot c.requires.known) in
+    let part : held_of c.index_mut-home.result.now.cell ≤ frames_in c.args.self.now.slots.items =
+    held-within c.args.self.now.slots.items c.args.slot c.index_mut-home.result.now
+    (read-slot c.args.self.now.slots.items c.args.slot c.index_mut-home.result.now within c.index_mut-home.ensures.value) in
+    let lent : tables_of c.args.self.now.directory + snapshot_frames c.args.self.now.snapshot + frames_in c.args.self.now.slots.items ≤ g.A.Allot.out
+    (g.A.Allot.state c.args.allot.now) = c.requires.lent in
     omega (arith, part, lent)
 
 pub remove-requires-clause-lent : goal.remove-requires-clause-lent
 remove-requires-clause-lent g c =
-    let within : c.args.slot < length c.args.self.now.slots.items = owned-within c.args.self.now.slots.items c.args.slot c.args.cell (c.requires.stands.1.0.named c.args.cell c.args.slot c.requires.known) in
-    let part : held_of c.index_mut-home.result.now.cell ≤ frames_in c.args.self.now.slots.items = held-within c.args.self.now.slots.items c.args.slot c.index_mut-home.result.now (read-slot c.args.self.now.slots.items c.args.slot c.index_mut-home.result.now within c.index_mut-home.ensures.value) in
-    let lent : tables_of c.args.self.now.directory + snapshot_frames c.args.self.now.snapshot + frames_in c.args.self.now.slots.items ≤ g.A.Allot.out (g.A.Allot.state c.args.allot.now) = c.requires.lent in
-    let held : g.A.Allot.out (g.A.Allot.state c.clear.new.allot) + held_of c.index_mut-home.result.now.cell ≡ g.A.Allot.out (g.A.Allot.state c.args.allot.now) + held_of c.clear.new.self = c.clear.ensures.held in
+    let within : c.args.slot < length c.args.self.now.slots.items =
+    owned-within c.args.self.now.slots.items c.args.slot c.args.cell (c.requires.stands.1.0.named c.args.cell c.args.slot c.requires.known) in
+    let part : held_of c.index_mut-home.result.now.cell ≤ frames_in c.args.self.now.slots.items =
+    held-within c.args.self.now.slots.items c.args.slot c.index_mut-home.result.now
+    (read-slot c.args.self.now.slots.items c.args.slot c.index_mut-home.result.now within c.index_mut-home.ensures.value) in
+    let lent : tables_of c.args.self.now.directory + snapshot_frames c.args.self.now.snapshot + frames_in c.args.self.now.slots.items ≤ g.A.Allot.out
+    (g.A.Allot.state c.args.allot.now) = c.requires.lent in
+    let held : g.A.Allot.out (g.A.Allot.state c.clear.new.allot) + held_of c.index_mut-home.result.now.cell
+    ≡ g.A.Allot.out (g.A.Allot.state c.args.allot.now) + held_of c.clear.new.self = c.clear.ensures.held in
     omega (arith, part, lent, held)
 
 pub returns-then-pages-eq0-clause-given : goal.returns-then-pages-eq0-clause-given
@@ -58,12 +69,15 @@ returns-then-pages-eq0-clause-given g c =
     let made = c.clear.ensures.made in
     let deals : made.deals ≡ returned (held_of slot.cell - held_of c.clear.new.self) = deals-are old c.args.cell c.args.slot c.args.first c.args.count slot c.requires.known here c.requires.range
     c.clear.new.self made.deals made.follows before later c.requires.stands.0 c.requires.stands.1.0 c.requires.stands.1.1 in
-    let freed : (tables_of old.directory + snapshot_frames old.snapshot + frames_in old.slots.items) - (tables_of c.remove.new.self + snapshot_frames old.snapshot + frames_in (slice_set old.slots.items c.args.slot c.leave_slot.new.home))
+    let freed : (tables_of old.directory + snapshot_frames old.snapshot + frames_in old.slots.items) -
+    (tables_of c.remove.new.self + snapshot_frames old.snapshot + frames_in (slice_set old.slots.items c.args.slot c.leave_slot.new.home))
     ≡ (held_of slot.cell - held_of c.clear.new.self) + (tables_of old.directory - tables_of c.remove.new.self) =
-    freed-are old c.args.cell c.args.slot c.args.first c.args.count slot c.requires.known here c.requires.range c.clear.new.self made.deals made.follows before later c.requires.stands.0 c.requires.stands.1.0 c.requires.stands.1.1
+    freed-are old c.args.cell c.args.slot c.args.first c.args.count slot c.requires.known here c.requires.range c.clear.new.self made.deals
+    made.follows before later c.requires.stands.0 c.requires.stands.1.0 c.requires.stands.1.1
     c.remove.new.self c.leave_slot.new.home (ap (λ it. it.cell) c.leave_slot.ensures) c.remove.ensures.shrunk in
     subst (λ n. LeadsAlong g.A.Allot.goes (g.A.Allot.state c.args.allot.now) (returned n) (g.A.Allot.state c.remove.new.allot)) (sym freed)
-    (subst (λ deals. LeadsAlong g.A.Allot.goes (g.A.Allot.state c.args.allot.now) deals (g.A.Allot.state c.remove.new.allot)) (replicate-both Returned (held_of slot.cell - held_of c.clear.new.self) (tables_of old.directory - tables_of c.remove.new.self))
+    (subst (λ deals. LeadsAlong g.A.Allot.goes (g.A.Allot.state c.args.allot.now) deals (g.A.Allot.state c.remove.new.allot))
+    (replicate-both Returned (held_of slot.cell - held_of c.clear.new.self) (tables_of old.directory - tables_of c.remove.new.self))
     (LeadsAlong-append g.A.Allot.goes (returned (held_of slot.cell - held_of c.clear.new.self)) (returned (tables_of old.directory - tables_of c.remove.new.self))
     (g.A.Allot.state c.args.allot.now) (g.A.Allot.state c.clear.new.allot) (g.A.Allot.state c.remove.new.allot)
     (subst (λ deals. LeadsAlong g.A.Allot.goes (g.A.Allot.state c.args.allot.now) deals (g.A.Allot.state c.clear.new.allot)) deals made.led) c.remove.ensures.given))
@@ -98,7 +112,8 @@ returns-then-pages-eq0-clause-follows g c = λ sides st.
     ∙ present-here old c.args.cell c.args.slot c.args.first c.args.count slot c.requires.known here c.requires.range c.requires.stands.0 c.requires.stands.1.0 ∙ c.requires.stands.1.1 in
     let none : count_by is_some c.clear.new.self.leaves.parent ≡ 0 = sym c.pages.ensures.pages ∙ c.if-pages-eq0.true in
     subst (λ d. StandFor d old.snapshot (slice_set old.slots.items c.args.slot c.leave_slot.new.home) (sides_without c.args.cell c.args.first c.args.count sides)) (sym c.remove.ensures.removed)
-    (subst (λ new. StandFor (remove old.directory c.args.cell) old.snapshot (slice_set old.slots.items c.args.slot new) (sides_without c.args.cell c.args.first c.args.count sides)) (sym c.leave_slot.ensures)
+    (subst (λ new. StandFor (remove old.directory c.args.cell) old.snapshot (slice_set old.slots.items c.args.slot new) (sides_without c.args.cell c.args.first c.args.count sides))
+    (sym c.leave_slot.ensures)
     (leaves-cell old c.args.cell c.args.slot c.args.first c.args.count slot c.requires.known here c.requires.range c.clear.new.self made.deals made.follows before later sides st seen
     (pages-counted c.clear.new.self.leaves.parent none)))
 
@@ -117,7 +132,8 @@ returns-then-pages-eq0-clause-event g c = λ sides st.
     let none : count_by is_some c.clear.new.self.leaves.parent ≡ 0 = sym c.pages.ensures.pages ∙ c.if-pages-eq0.true in
     let now : StandFor c.remove.new.self old.snapshot (slice_set old.slots.items c.args.slot c.leave_slot.new.home) (sides_without c.args.cell c.args.first c.args.count sides) =
     subst (λ d. StandFor d old.snapshot (slice_set old.slots.items c.args.slot c.leave_slot.new.home) (sides_without c.args.cell c.args.first c.args.count sides)) (sym c.remove.ensures.removed)
-    (subst (λ new. StandFor (remove old.directory c.args.cell) old.snapshot (slice_set old.slots.items c.args.slot new) (sides_without c.args.cell c.args.first c.args.count sides)) (sym c.leave_slot.ensures)
+    (subst (λ new. StandFor (remove old.directory c.args.cell) old.snapshot (slice_set old.slots.items c.args.slot new) (sides_without c.args.cell c.args.first c.args.count sides))
+    (sym c.leave_slot.ensures)
     (leaves-cell old c.args.cell c.args.slot c.args.first c.args.count slot c.requires.known here c.requires.range c.clear.new.self made.deals made.follows before later sides st seen
     (pages-counted c.clear.new.self.leaves.parent none))) in
     event-made old c.args.cell c.args.slot c.args.first c.args.count slot c.requires.known here c.requires.range c.clear.new.self made.deals made.follows before later sides st seen
@@ -149,9 +165,11 @@ returns-else-pages-eq0-clause-given g c =
     c.clear.new.self made.deals made.follows before later c.requires.stands.0 c.requires.stands.1.0 c.requires.stands.1.1 in
     let same : tables_of old.directory ≤ tables_of old.directory = omega arith in
     let none : held_of slot.cell - held_of c.clear.new.self + (tables_of old.directory - tables_of old.directory) ≡ held_of slot.cell - held_of c.clear.new.self = omega arith in
-    let freed : (tables_of old.directory + snapshot_frames old.snapshot + frames_in old.slots.items) - (tables_of old.directory + snapshot_frames old.snapshot + frames_in (slice_set old.slots.items c.args.slot new))
+    let freed : (tables_of old.directory + snapshot_frames old.snapshot + frames_in old.slots.items) -
+    (tables_of old.directory + snapshot_frames old.snapshot + frames_in (slice_set old.slots.items c.args.slot new))
     ≡ held_of slot.cell - held_of c.clear.new.self =
-    freed-are old c.args.cell c.args.slot c.args.first c.args.count slot c.requires.known here c.requires.range c.clear.new.self made.deals made.follows before later c.requires.stands.0 c.requires.stands.1.0 c.requires.stands.1.1
+    freed-are old c.args.cell c.args.slot c.args.first c.args.count slot c.requires.known here c.requires.range c.clear.new.self made.deals
+    made.follows before later c.requires.stands.0 c.requires.stands.1.0 c.requires.stands.1.1
     old.directory new refl same ∙ none in
     subst (λ deals. LeadsAlong g.A.Allot.goes (g.A.Allot.state c.args.allot.now) deals (g.A.Allot.state c.clear.new.allot)) (deals ∙ ap returned (sym freed)) made.led
 
@@ -167,7 +185,8 @@ returns-else-pages-eq0-clause-shrunk g c =
     let made = c.clear.ensures.made in
     let less : held_of c.clear.new.self ≤ held_of slot.cell = less-held old c.args.cell c.args.slot c.args.first c.args.count slot c.requires.known here c.requires.range
     c.clear.new.self made.deals made.follows before later c.requires.stands.0 c.requires.stands.1.0 c.requires.stands.1.1 in
-    let sums : frames_in (slice_set old.slots.items c.args.slot new) + held_of slot.cell ≡ frames_in old.slots.items + held_of c.clear.new.self = frames-set old.slots.items c.args.slot slot new here in
+    let sums : frames_in (slice_set old.slots.items c.args.slot new) + held_of slot.cell ≡ frames_in old.slots.items + held_of c.clear.new.self =
+    frames-set old.slots.items c.args.slot slot new here in
     omega (arith, less, sums)
 
 pub returns-else-pages-eq0-clause-follows : goal.returns-else-pages-eq0-clause-follows
@@ -209,7 +228,8 @@ returns-else-pages-eq0-clause-held g c =
     let here : slice_get old.slots.items c.args.slot ≡ Some c.index_mut-home.result.now = read-slot old.slots.items c.args.slot c.index_mut-home.result.now within c.index_mut-home.ensures.value in
     let slot : Slot = c.index_mut-home.result.now in
     let new : Slot = record { owner = slot.owner; cell = c.clear.new.self } in
-    let sums : frames_in (slice_set old.slots.items c.args.slot new) + held_of slot.cell ≡ frames_in old.slots.items + held_of c.clear.new.self = frames-set old.slots.items c.args.slot slot new here in
+    let sums : frames_in (slice_set old.slots.items c.args.slot new) + held_of slot.cell ≡ frames_in old.slots.items + held_of c.clear.new.self =
+    frames-set old.slots.items c.args.slot slot new here in
     let held : g.A.Allot.out (g.A.Allot.state c.clear.new.allot) + held_of slot.cell ≡ g.A.Allot.out (g.A.Allot.state c.args.allot.now) + held_of c.clear.new.self = c.clear.ensures.held in
     omega (arith, sums, held)
 
@@ -221,7 +241,8 @@ returns-then-pages-eq0-clause-even g c =
     let before : HoldsShare c.index_mut-home.result.now.cell = λ account stands. sym c.held.ensures.held ∙ c.held.ensures.share account stands in
     let later : HoldsShare c.clear.new.self = λ account stands. sym c.held-2.ensures.held ∙ c.held-2.ensures.share account stands in
     let made = c.clear.ensures.made in
-    even-here old c.args.cell c.args.slot c.args.first c.args.count c.index_mut-home.result.now c.requires.known here c.requires.range c.clear.new.self made.deals made.follows before later c.requires.stands.0 c.requires.stands.1.0 c.requires.stands.1.1
+    even-here old c.args.cell c.args.slot c.args.first c.args.count c.index_mut-home.result.now c.requires.known here c.requires.range c.clear.new.self
+    made.deals made.follows before later c.requires.stands.0 c.requires.stands.1.0 c.requires.stands.1.1
     c.leave_slot.new.home (ap (λ it. it.cell) c.leave_slot.ensures)
 
 pub returns-else-pages-eq0-clause-even : goal.returns-else-pages-eq0-clause-even
@@ -232,5 +253,6 @@ returns-else-pages-eq0-clause-even g c =
     let before : HoldsShare c.index_mut-home.result.now.cell = λ account stands. sym c.held.ensures.held ∙ c.held.ensures.share account stands in
     let later : HoldsShare c.clear.new.self = λ account stands. sym c.held-2.ensures.held ∙ c.held-2.ensures.share account stands in
     let made = c.clear.ensures.made in
-    even-here old c.args.cell c.args.slot c.args.first c.args.count c.index_mut-home.result.now c.requires.known here c.requires.range c.clear.new.self made.deals made.follows before later c.requires.stands.0 c.requires.stands.1.0 c.requires.stands.1.1
+    even-here old c.args.cell c.args.slot c.args.first c.args.count c.index_mut-home.result.now c.requires.known here c.requires.range c.clear.new.self
+    made.deals made.follows before later c.requires.stands.0 c.requires.stands.1.0 c.requires.stands.1.1
     (record { owner = c.index_mut-home.result.now.owner; cell = c.clear.new.self }) refl

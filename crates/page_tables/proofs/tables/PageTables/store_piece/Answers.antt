@@ -16,19 +16,22 @@ use Rattle.page_tables.proofs.tables.PageTables.store_piece.Goals as goal
 pub index_mut-requires : goal.index_mut-requires
 index_mut-requires c =
     let known = ap (get c.args.self.now.directory) (sym c.location_of-location.ensures.cell) ∙ sym c.find.ensures ∙ c.in-Some.is in
-    owned-index c.args.self.now.slots.items _ c.in-Some.slot (cell_of (page_of c.args.addr)) c.args.self.now.slots.ok.0 (c.requires.stands.1.0.named (cell_of (page_of c.args.addr)) c.in-Some.slot known)
+    owned-index c.args.self.now.slots.items _ c.in-Some.slot (cell_of (page_of c.args.addr)) c.args.self.now.slots.ok.0
+    (c.requires.stands.1.0.named (cell_of (page_of c.args.addr)) c.in-Some.slot known)
 
 pub store-requires-clause-present : goal.store-requires-clause-present
 store-requires-clause-present c =
     let known = ap (get c.args.self.now.directory) (sym c.location_of-location.ensures.cell) ∙ sym c.find.ensures ∙ c.in-Some.is in
-    let alone : IsAlone c.index_mut.result.now.cell.leaves c.location_of-location.result.page = ready-view c.args.self.now c.requires.stands.0 c.requires.stands.1.0 c.args.addr c.in-Some.slot c.args.bytes.now c.index_mut.result.now known
+    let alone : IsAlone c.index_mut.result.now.cell.leaves c.location_of-location.result.page =
+    ready-view c.args.self.now c.requires.stands.0 c.requires.stands.1.0 c.args.addr c.in-Some.slot c.args.bytes.now c.index_mut.result.now known
     c.index_mut.ensures.value c.location_of-location.result.page c.location_of-location.result.at c.location_of-location.ensures.page c.location_of-location.ensures.at c.requires.stands.1.1 in
     alone.present
 
 pub store-requires-clause-unnamed : goal.store-requires-clause-unnamed
 store-requires-clause-unnamed c =
     let known = ap (get c.args.self.now.directory) (sym c.location_of-location.ensures.cell) ∙ sym c.find.ensures ∙ c.in-Some.is in
-    let alone : IsAlone c.index_mut.result.now.cell.leaves c.location_of-location.result.page = ready-view c.args.self.now c.requires.stands.0 c.requires.stands.1.0 c.args.addr c.in-Some.slot c.args.bytes.now c.index_mut.result.now known
+    let alone : IsAlone c.index_mut.result.now.cell.leaves c.location_of-location.result.page =
+    ready-view c.args.self.now c.requires.stands.0 c.requires.stands.1.0 c.args.addr c.in-Some.slot c.args.bytes.now c.index_mut.result.now known
     c.index_mut.ensures.value c.location_of-location.result.page c.location_of-location.result.at c.location_of-location.ensures.page c.location_of-location.ensures.at c.requires.stands.1.1 in
     alone.unnamed
 
@@ -37,13 +40,19 @@ returns-clause-stored c = λ sides st.
     let known = ap (get c.args.self.now.directory) (sym c.location_of-location.ensures.cell) ∙ sym c.find.ensures ∙ c.in-Some.is in
     stands-stored c.args.self.now sides st c.args.addr c.in-Some.slot c.args.bytes.now c.index_mut.result.now known c.index_mut.ensures.value
     c.location_of-location.result.page c.location_of-location.result.at c.location_of-location.ensures.page c.location_of-location.ensures.at c.store.new.self c.requires.room c.store.ensures.stored
-    (record { directory = c.args.self.now.directory; snapshot = c.args.self.now.snapshot; slots = with_item c.args.self.now.slots c.in-Some.slot (record { owner = c.index_mut.result.now.owner; cell = c.store.new.self }) })
+    (record {
+      directory = c.args.self.now.directory;
+      snapshot = c.args.self.now.snapshot;
+      slots = with_item c.args.self.now.slots c.in-Some.slot
+          (record { owner = c.index_mut.result.now.owner; cell = c.store.new.self });
+    })
     refl refl refl
 
 pub returns-clause-held : goal.returns-clause-held
 returns-clause-held c =
     let known = ap (get c.args.self.now.directory) (sym c.location_of-location.ensures.cell) ∙ sym c.find.ensures ∙ c.in-Some.is in
-    let here = owned-here c.args.self.now.slots.items c.in-Some.slot (cell_of (page_of c.args.addr)) c.index_mut.result.now (c.requires.stands.1.0.named (cell_of (page_of c.args.addr)) c.in-Some.slot known) c.index_mut.ensures.value in
+    let here = owned-here c.args.self.now.slots.items c.in-Some.slot (cell_of (page_of c.args.addr)) c.index_mut.result.now
+    (c.requires.stands.1.0.named (cell_of (page_of c.args.addr)) c.in-Some.slot known) c.index_mut.ensures.value in
     let new : Slot = record { owner = c.index_mut.result.now.owner; cell = c.store.new.self } in
     let sums : frames_in (slice_set c.args.self.now.slots.items c.in-Some.slot new) + held_of c.index_mut.result.now.cell ≡ frames_in c.args.self.now.slots.items + held_of c.store.new.self =
     frames-set c.args.self.now.slots.items c.in-Some.slot c.index_mut.result.now new here in

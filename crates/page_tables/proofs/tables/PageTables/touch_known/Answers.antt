@@ -21,47 +21,67 @@ use Rattle.page_tables.proofs.tables.PageTables.touch_known.Goals as goal
 -- src/touch.rt:56:9
 pub index_mut-home-requires : goal.index_mut-home-requires
 index_mut-home-requires g c =
-    let within : c.args.slot < length c.args.self.now.slots.items = owned-within c.args.self.now.slots.items c.args.slot (cell_of c.args.page) (c.requires.stands.1.named (cell_of c.args.page) c.args.slot c.requires.known) in
+    let within : c.args.slot < length c.args.self.now.slots.items =
+    owned-within c.args.self.now.slots.items c.args.slot (cell_of c.args.page) (c.requires.stands.1.named (cell_of c.args.page) c.args.slot c.requires.known) in
     subst (λ n. c.args.slot < n) (sym c.args.self.now.slots.ok.0) within
 
 -- src/touch.rt:56:9
 pub touch-answer-requires-clause-unjoined : goal.touch-answer-requires-clause-unjoined
 touch-answer-requires-clause-unjoined g c =
-    let within : c.args.slot < length c.args.self.now.slots.items = owned-within c.args.self.now.slots.items c.args.slot (cell_of c.args.page) (c.requires.stands.1.named (cell_of c.args.page) c.args.slot c.requires.known) in
+    let within : c.args.slot < length c.args.self.now.slots.items =
+    owned-within c.args.self.now.slots.items c.args.slot (cell_of c.args.page) (c.requires.stands.1.named (cell_of c.args.page) c.args.slot c.requires.known) in
     slot-unjoined c.args.self.now.directory c.args.self.now.snapshot c.args.self.now.slots.items c.requires.stands.0 c.requires.stands.1 c.args.slot c.index_mut-home.result.now
     (read-slot c.args.self.now.slots.items c.args.slot c.index_mut-home.result.now within c.index_mut-home.ensures.value)
 
 -- src/touch.rt:56:9
 pub touch-answer-requires-clause-held : goal.touch-answer-requires-clause-held
 touch-answer-requires-clause-held g c =
-    let within : c.args.slot < length c.args.self.now.slots.items = owned-within c.args.self.now.slots.items c.args.slot (cell_of c.args.page) (c.requires.stands.1.named (cell_of c.args.page) c.args.slot c.requires.known) in
-    let part : held_of c.index_mut-home.result.now.cell ≤ frames_in c.args.self.now.slots.items = held-within c.args.self.now.slots.items c.args.slot c.index_mut-home.result.now (read-slot c.args.self.now.slots.items c.args.slot c.index_mut-home.result.now within c.index_mut-home.ensures.value) in
-    let lent : tables_of c.args.self.now.directory + snapshot_frames c.args.self.now.snapshot + frames_in c.args.self.now.slots.items ≤ g.A.Allot.out (g.A.Allot.state c.args.allot.now) = c.requires.lent in
+    let within : c.args.slot < length c.args.self.now.slots.items =
+    owned-within c.args.self.now.slots.items c.args.slot (cell_of c.args.page) (c.requires.stands.1.named (cell_of c.args.page) c.args.slot c.requires.known) in
+    let part : held_of c.index_mut-home.result.now.cell ≤ frames_in c.args.self.now.slots.items =
+    held-within c.args.self.now.slots.items c.args.slot c.index_mut-home.result.now
+    (read-slot c.args.self.now.slots.items c.args.slot c.index_mut-home.result.now within c.index_mut-home.ensures.value) in
+    let lent : tables_of c.args.self.now.directory + snapshot_frames c.args.self.now.snapshot + frames_in c.args.self.now.slots.items ≤ g.A.Allot.out
+    (g.A.Allot.state c.args.allot.now) = c.requires.lent in
     omega (arith, part, lent)
 
 -- src/touch.rt:44:5
 pub returns-clause-made : goal.returns-clause-made
 returns-clause-made g c =
     let s = c.args.slot in
-    let within : c.args.slot < length c.args.self.now.slots.items = owned-within c.args.self.now.slots.items c.args.slot (cell_of c.args.page) (c.requires.stands.1.named (cell_of c.args.page) c.args.slot c.requires.known) in
-    let here : slice_get c.args.self.now.slots.items c.args.slot ≡ Some c.index_mut-home.result.now = read-slot c.args.self.now.slots.items c.args.slot c.index_mut-home.result.now within c.index_mut-home.ensures.value in
-    let mine : c.index_mut-home.result.now.owner ≡ Some (cell_of c.args.page) = sym (ap (option_and_then (λ it. it.owner)) here) ∙ c.requires.stands.1.named (cell_of c.args.page) c.args.slot c.requires.known in
+    let within : c.args.slot < length c.args.self.now.slots.items =
+    owned-within c.args.self.now.slots.items c.args.slot (cell_of c.args.page) (c.requires.stands.1.named (cell_of c.args.page) c.args.slot c.requires.known) in
+    let here : slice_get c.args.self.now.slots.items c.args.slot ≡ Some c.index_mut-home.result.now =
+    read-slot c.args.self.now.slots.items c.args.slot c.index_mut-home.result.now within c.index_mut-home.ensures.value in
+    let mine : c.index_mut-home.result.now.owner ≡ Some (cell_of c.args.page) =
+    sym (ap (option_and_then (λ it. it.owner)) here) ∙ c.requires.stands.1.named (cell_of c.args.page) c.args.slot c.requires.known in
     record {
       deals = c.touch-answer.ensures.made.deals;
       led = c.touch-answer.ensures.made.led;
-      follows = λ sides st. known-touches c.args.self.now sides st c.args.page c.args.slot c.index_mut-home.result.now c.requires.known here c.touch-answer.new.self c.touch-answer.ensures.made.deals c.touch-answer.result c.touch-answer.ensures.made.follows (g.A.Allot.refused (g.A.Allot.state c.args.allot.now)) (g.A.Allot.refused (g.A.Allot.state c.touch-answer.new.allot)) c.touch-answer.ensures.touched
-          (record { directory = c.args.self.now.directory; snapshot = c.args.self.now.snapshot; slots = with_item c.args.self.now.slots c.args.slot (record { owner = c.index_mut-home.result.now.owner; cell = c.touch-answer.new.self }) })
+      follows = λ sides st. known-touches c.args.self.now sides st c.args.page c.args.slot c.index_mut-home.result.now c.requires.known here
+          c.touch-answer.new.self c.touch-answer.ensures.made.deals c.touch-answer.result c.touch-answer.ensures.made.follows
+          (g.A.Allot.refused (g.A.Allot.state c.args.allot.now)) (g.A.Allot.refused (g.A.Allot.state c.touch-answer.new.allot)) c.touch-answer.ensures.touched
+          (record {
+            directory = c.args.self.now.directory;
+            snapshot = c.args.self.now.snapshot;
+            slots = with_item c.args.self.now.slots c.args.slot
+                (record { owner = c.index_mut-home.result.now.owner; cell = c.touch-answer.new.self });
+          })
           refl refl (ap (λ owner. slice_set c.args.self.now.slots.items c.args.slot (record { owner = owner; cell = c.touch-answer.new.self })) mine);
     }
 
 -- src/touch.rt:44:5
 pub returns-clause-held : goal.returns-clause-held
 returns-clause-held g c =
-    let within : c.args.slot < length c.args.self.now.slots.items = owned-within c.args.self.now.slots.items c.args.slot (cell_of c.args.page) (c.requires.stands.1.named (cell_of c.args.page) c.args.slot c.requires.known) in
-    let here : slice_get c.args.self.now.slots.items c.args.slot ≡ Some c.index_mut-home.result.now = read-slot c.args.self.now.slots.items c.args.slot c.index_mut-home.result.now within c.index_mut-home.ensures.value in
+    let within : c.args.slot < length c.args.self.now.slots.items =
+    owned-within c.args.self.now.slots.items c.args.slot (cell_of c.args.page) (c.requires.stands.1.named (cell_of c.args.page) c.args.slot c.requires.known) in
+    let here : slice_get c.args.self.now.slots.items c.args.slot ≡ Some c.index_mut-home.result.now =
+    read-slot c.args.self.now.slots.items c.args.slot c.index_mut-home.result.now within c.index_mut-home.ensures.value in
     let new : Slot = record { owner = c.index_mut-home.result.now.owner; cell = c.touch-answer.new.self } in
-    let sums : frames_in (slice_set c.args.self.now.slots.items c.args.slot new) + held_of c.index_mut-home.result.now.cell ≡ frames_in c.args.self.now.slots.items + held_of c.touch-answer.new.self = frames-set c.args.self.now.slots.items c.args.slot c.index_mut-home.result.now new here in
-    let held : g.A.Allot.out (g.A.Allot.state c.touch-answer.new.allot) + held_of c.index_mut-home.result.now.cell ≡ g.A.Allot.out (g.A.Allot.state c.args.allot.now) + held_of c.touch-answer.new.self = c.touch-answer.ensures.held in
+    let sums : frames_in (slice_set c.args.self.now.slots.items c.args.slot new) + held_of c.index_mut-home.result.now.cell
+    ≡ frames_in c.args.self.now.slots.items + held_of c.touch-answer.new.self = frames-set c.args.self.now.slots.items c.args.slot c.index_mut-home.result.now new here in
+    let held : g.A.Allot.out (g.A.Allot.state c.touch-answer.new.allot) + held_of c.index_mut-home.result.now.cell
+    ≡ g.A.Allot.out (g.A.Allot.state c.args.allot.now) + held_of c.touch-answer.new.self = c.touch-answer.ensures.held in
     omega (arith, sums, held)
 
 -- src/touch.rt:47:5

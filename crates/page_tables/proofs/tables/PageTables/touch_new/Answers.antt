@@ -30,7 +30,8 @@ use Rattle.page_tables.proofs.tables.PageTables.touch_new.Goals as goal
 pub insert-requires-clause-fewer : goal.insert-requires-clause-fewer
 insert-requires-clause-fewer g c =
     let home = c.requires.stands.1.1 in
-    room-left c.args.self.now.directory c.args.self.now.snapshot c.args.self.now.slots.items c.requires.stands.0 c.requires.stands.1.0 (cell_of c.args.page) c.args.slot home.slot home.here home.fits c.requires.new
+    room-left c.args.self.now.directory c.args.self.now.snapshot c.args.self.now.slots.items c.requires.stands.0 c.requires.stands.1.0
+    (cell_of c.args.page) c.args.slot home.slot home.here home.fits c.requires.new
 
 -- src/touch.rt:74:29
 pub returns-in-Err-clause-made : goal.returns-in-Err-clause-made
@@ -42,9 +43,11 @@ returns-in-Err-clause-made g c =
       deals = deals_up_to refuses.front refuses.want c.in-Err.refused.at;
       led = refuses.deals;
       follows = λ sides st.
-          subst (λ d. FollowsTouch c.args.page (record { directory = d; snapshot = old.snapshot; slots = old.slots }) (deals_up_to refuses.front refuses.want c.in-Err.refused.at) (Some (record { at = c.in-Err.refused.at; page = Some c.args.page })) sides)
+          subst (λ d. FollowsTouch c.args.page (record { directory = d; snapshot = old.snapshot; slots = old.slots }) (deals_up_to refuses.front refuses.want c.in-Err.refused.at)
+          (Some (record { at = c.in-Err.refused.at; page = Some c.args.page })) sides)
           (sym c.in-Err.ensures.kept)
-          (lacking-touches old sides st c.args.page c.args.slot home.slot c.requires.new home.here (fits-again old.directory old.snapshot old.slots.items c.requires.stands.0 sides c.requires.stands.1.0 st (cell_of c.args.page) home.slot.owner home.fits)
+          (lacking-touches old sides st c.args.page c.args.slot home.slot c.requires.new home.here
+          (fits-again old.directory old.snapshot old.slots.items c.requires.stands.0 sides c.requires.stands.1.0 st (cell_of c.args.page) home.slot.owner home.fits)
           refuses.front refuses.want refuses.rest refuses.order c.in-Err.refused.at);
     }
 
@@ -67,9 +70,13 @@ pub touch-requires-clause-held : goal.touch-requires-clause-held
 touch-requires-clause-held g c =
     let home = c.requires.stands.1.1 in
     let within : c.args.slot < length c.args.self.now.slots.items = slice_get_within c.args.self.now.slots.items c.args.slot home.slot home.here in
-    let part : held_of c.index_mut-home.result.now.cell ≤ frames_in c.args.self.now.slots.items = held-within c.args.self.now.slots.items c.args.slot c.index_mut-home.result.now (read-slot c.args.self.now.slots.items c.args.slot c.index_mut-home.result.now within c.index_mut-home.ensures.value) in
-    let lent : tables_of c.args.self.now.directory + snapshot_frames c.args.self.now.snapshot + frames_in c.args.self.now.slots.items ≤ g.A.Allot.out (g.A.Allot.state c.args.allot.now) = c.requires.lent in
-    let moved : g.A.Allot.out (g.A.Allot.state c.insert.new.allot) + tables_of c.args.self.now.directory ≡ g.A.Allot.out (g.A.Allot.state c.args.allot.now) + tables_of c.insert.new.self = c.insert.ensures.out in
+    let part : held_of c.index_mut-home.result.now.cell ≤ frames_in c.args.self.now.slots.items =
+    held-within c.args.self.now.slots.items c.args.slot c.index_mut-home.result.now
+    (read-slot c.args.self.now.slots.items c.args.slot c.index_mut-home.result.now within c.index_mut-home.ensures.value) in
+    let lent : tables_of c.args.self.now.directory + snapshot_frames c.args.self.now.snapshot + frames_in c.args.self.now.slots.items ≤ g.A.Allot.out
+    (g.A.Allot.state c.args.allot.now) = c.requires.lent in
+    let moved : g.A.Allot.out (g.A.Allot.state c.insert.new.allot) + tables_of c.args.self.now.directory
+    ≡ g.A.Allot.out (g.A.Allot.state c.args.allot.now) + tables_of c.insert.new.self = c.insert.ensures.out in
     omega (arith, part, lent, moved)
 
 -- src/touch.rt:60:5
@@ -78,18 +85,22 @@ returns-in-Ok-touch-clause-made g c =
     let home = c.requires.stands.1.1 in
     let old : PageTables = c.args.self.now in
     let within : c.args.slot < length c.args.self.now.slots.items = slice_get_within c.args.self.now.slots.items c.args.slot home.slot home.here in
-    let here : slice_get c.args.self.now.slots.items c.args.slot ≡ Some c.index_mut-home.result.now = read-slot c.args.self.now.slots.items c.args.slot c.index_mut-home.result.now within c.index_mut-home.ensures.value in
+    let here : slice_get c.args.self.now.slots.items c.args.slot ≡ Some c.index_mut-home.result.now =
+    read-slot c.args.self.now.slots.items c.args.slot c.index_mut-home.result.now within c.index_mut-home.ensures.value in
     let made = c.in-Ok-touch.ensures.made in
     let wants : List Want = missing_tables (keys old.directory) (cell_of c.args.page) in
     record {
       deals = deals_behind (missing_tables (keys old.directory) (cell_of c.args.page)) made.deals None;
-      led = LeadsAlong-append g.A.Allot.goes (granted wants) (made.deals ++ []) (g.A.Allot.state c.args.allot.now) (g.A.Allot.state c.insert.new.allot) (g.A.Allot.state c.touch.new.allot) c.in-Ok.ensures.requests
+      led = LeadsAlong-append g.A.Allot.goes (granted wants) (made.deals ++ []) (g.A.Allot.state c.args.allot.now)
+          (g.A.Allot.state c.insert.new.allot) (g.A.Allot.state c.touch.new.allot) c.in-Ok.ensures.requests
           (LeadsAlong-append g.A.Allot.goes made.deals [] (g.A.Allot.state c.insert.new.allot) (g.A.Allot.state c.touch.new.allot) (g.A.Allot.state c.touch.new.allot) made.led refl);
       follows = λ sides st.
           let fits : IsSlotFor sides.leaves (cell_of c.args.page) c.index_mut-home.result.now.owner =
-          fits-again old.directory old.snapshot old.slots.items c.requires.stands.0 sides c.requires.stands.1.0 st (cell_of c.args.page) c.index_mut-home.result.now.owner (subst (λ it. IsSlotFor c.requires.stands.0.leaves (cell_of c.args.page) it.owner) (same_slot home.slot c.index_mut-home.result.now (sym home.here ∙ here)) home.fits) in
+          fits-again old.directory old.snapshot old.slots.items c.requires.stands.0 sides c.requires.stands.1.0 st (cell_of c.args.page) c.index_mut-home.result.now.owner
+          (subst (λ it. IsSlotFor c.requires.stands.0.leaves (cell_of c.args.page) it.owner) (same_slot home.slot c.index_mut-home.result.now (sym home.here ∙ here)) home.fits) in
           granted-touches old sides st c.args.page c.args.slot c.index_mut-home.result.now c.requires.new here fits c.touch.new.self made.deals
-          (made.follows (account old sides st c.args.page c.args.slot c.index_mut-home.result.now c.requires.new here fits) (stood old sides st c.args.page c.args.slot c.index_mut-home.result.now c.requires.new here fits))
+          (made.follows (account old sides st c.args.page c.args.slot c.index_mut-home.result.now c.requires.new here fits)
+          (stood old sides st c.args.page c.args.slot c.index_mut-home.result.now c.requires.new here fits))
           (g.A.Allot.refused (g.A.Allot.state c.insert.new.allot)) (g.A.Allot.refused (g.A.Allot.state c.touch.new.allot)) c.in-Ok-touch.ensures.touched
           (record { directory = c.insert.new.self; snapshot = old.snapshot; slots = with_item old.slots c.args.slot (record { owner = Some (cell_of c.args.page); cell = c.touch.new.self }) })
           c.in-Ok.ensures.added refl refl;
@@ -100,11 +111,15 @@ pub returns-in-Ok-touch-clause-held : goal.returns-in-Ok-touch-clause-held
 returns-in-Ok-touch-clause-held g c =
     let home = c.requires.stands.1.1 in
     let within : c.args.slot < length c.args.self.now.slots.items = slice_get_within c.args.self.now.slots.items c.args.slot home.slot home.here in
-    let here : slice_get c.args.self.now.slots.items c.args.slot ≡ Some c.index_mut-home.result.now = read-slot c.args.self.now.slots.items c.args.slot c.index_mut-home.result.now within c.index_mut-home.ensures.value in
+    let here : slice_get c.args.self.now.slots.items c.args.slot ≡ Some c.index_mut-home.result.now =
+    read-slot c.args.self.now.slots.items c.args.slot c.index_mut-home.result.now within c.index_mut-home.ensures.value in
     let new : Slot = record { owner = Some (cell_of c.args.page); cell = c.touch.new.self } in
-    let sums : frames_in (slice_set c.args.self.now.slots.items c.args.slot new) + held_of c.index_mut-home.result.now.cell ≡ frames_in c.args.self.now.slots.items + held_of c.touch.new.self = frames-set c.args.self.now.slots.items c.args.slot c.index_mut-home.result.now new here in
-    let held : g.A.Allot.out (g.A.Allot.state c.touch.new.allot) + held_of c.index_mut-home.result.now.cell ≡ g.A.Allot.out (g.A.Allot.state c.insert.new.allot) + held_of c.touch.new.self = c.touch.ensures.held in
-    let moved : g.A.Allot.out (g.A.Allot.state c.insert.new.allot) + tables_of c.args.self.now.directory ≡ g.A.Allot.out (g.A.Allot.state c.args.allot.now) + tables_of c.insert.new.self = c.insert.ensures.out in
+    let sums : frames_in (slice_set c.args.self.now.slots.items c.args.slot new) + held_of c.index_mut-home.result.now.cell ≡ frames_in c.args.self.now.slots.items + held_of c.touch.new.self =
+    frames-set c.args.self.now.slots.items c.args.slot c.index_mut-home.result.now new here in
+    let held : g.A.Allot.out (g.A.Allot.state c.touch.new.allot) + held_of c.index_mut-home.result.now.cell
+    ≡ g.A.Allot.out (g.A.Allot.state c.insert.new.allot) + held_of c.touch.new.self = c.touch.ensures.held in
+    let moved : g.A.Allot.out (g.A.Allot.state c.insert.new.allot) + tables_of c.args.self.now.directory
+    ≡ g.A.Allot.out (g.A.Allot.state c.args.allot.now) + tables_of c.insert.new.self = c.insert.ensures.out in
     omega (arith, sums, held, moved)
 
 -- src/touch.rt:60:5
@@ -114,7 +129,8 @@ returns-in-Err-touch-clause-made g c =
     let old : PageTables = c.args.self.now in
     let cell : ℕ = cell_of c.args.page in
     let within : c.args.slot < length c.args.self.now.slots.items = slice_get_within c.args.self.now.slots.items c.args.slot home.slot home.here in
-    let here : slice_get c.args.self.now.slots.items c.args.slot ≡ Some c.index_mut-home.result.now = read-slot c.args.self.now.slots.items c.args.slot c.index_mut-home.result.now within c.index_mut-home.ensures.value in
+    let here : slice_get c.args.self.now.slots.items c.args.slot ≡ Some c.index_mut-home.result.now =
+    read-slot c.args.self.now.slots.items c.args.slot c.index_mut-home.result.now within c.index_mut-home.ensures.value in
     let made = c.in-Err-touch.ensures.made in
     let wants : List Want = missing_tables (keys old.directory) cell in
     let at : ℕ = c.in-Err-touch.refused.at in
@@ -124,17 +140,21 @@ returns-in-Err-touch-clause-made g c =
     let back : tables_of c.insert.new.self - tables_of c.remove.new.self ≡ length wants = omega (arith, more, less) in
     record {
       deals = deals_behind wants made.deals (Some at);
-      led = LeadsAlong-append g.A.Allot.goes (granted wants) (made.deals ++ returned (length wants)) (g.A.Allot.state c.args.allot.now) (g.A.Allot.state c.insert.new.allot) (g.A.Allot.state c.remove.new.allot) c.in-Ok.ensures.requests
+      led = LeadsAlong-append g.A.Allot.goes (granted wants) (made.deals ++ returned (length wants)) (g.A.Allot.state c.args.allot.now)
+          (g.A.Allot.state c.insert.new.allot) (g.A.Allot.state c.remove.new.allot) c.in-Ok.ensures.requests
           (LeadsAlong-append g.A.Allot.goes made.deals (returned (length wants)) (g.A.Allot.state c.insert.new.allot) (g.A.Allot.state c.touch.new.allot) (g.A.Allot.state c.remove.new.allot) made.led
           (subst (λ n. LeadsAlong g.A.Allot.goes (g.A.Allot.state c.touch.new.allot) (returned n) (g.A.Allot.state c.remove.new.allot)) back c.remove.ensures.given));
       follows = λ sides st.
           let fits : IsSlotFor sides.leaves cell c.index_mut-home.result.now.owner =
-          fits-again old.directory old.snapshot old.slots.items c.requires.stands.0 sides c.requires.stands.1.0 st cell c.index_mut-home.result.now.owner (subst (λ it. IsSlotFor c.requires.stands.0.leaves cell it.owner) (same_slot home.slot c.index_mut-home.result.now (sym home.here ∙ here)) home.fits) in
+          fits-again old.directory old.snapshot old.slots.items c.requires.stands.0 sides c.requires.stands.1.0 st cell c.index_mut-home.result.now.owner
+          (subst (λ it. IsSlotFor c.requires.stands.0.leaves cell it.owner) (same_slot home.slot c.index_mut-home.result.now (sym home.here ∙ here)) home.fits) in
           refused-touches old sides st c.args.page c.args.slot c.index_mut-home.result.now c.requires.new here fits c.touch.new.self made.deals at
-          (made.follows (account old sides st c.args.page c.args.slot c.index_mut-home.result.now c.requires.new here fits) (stood old sides st c.args.page c.args.slot c.index_mut-home.result.now c.requires.new here fits))
+          (made.follows (account old sides st c.args.page c.args.slot c.index_mut-home.result.now c.requires.new here fits)
+          (stood old sides st c.args.page c.args.slot c.index_mut-home.result.now c.requires.new here fits))
           (record { directory = c.remove.new.self; snapshot = old.snapshot; slots = with_item old.slots c.args.slot (record { owner = c.index_mut-home.result.now.owner; cell = c.touch.new.self }) })
           gone refl
-          (ap (λ view. slice_set old.slots.items c.args.slot (record { owner = c.index_mut-home.result.now.owner; cell = view })) c.in-Err-touch.ensures.refused ∙ set-same old.slots.items c.args.slot c.index_mut-home.result.now here);
+          (ap (λ view. slice_set old.slots.items c.args.slot (record { owner = c.index_mut-home.result.now.owner; cell = view })) c.in-Err-touch.ensures.refused
+          ∙ set-same old.slots.items c.args.slot c.index_mut-home.result.now here);
     }
 
 -- src/touch.rt:70:5
@@ -145,7 +165,8 @@ returns-in-Ok-touch-clause-even g c =
     let slot : Slot = c.index_mut-home.result.now in
     let within : c.args.slot < length old.slots.items = slice_get_within old.slots.items c.args.slot home.slot home.here in
     let here : slice_get old.slots.items c.args.slot ≡ Some slot = read-slot old.slots.items c.args.slot slot within c.index_mut-home.ensures.value in
-    let fits : IsSlotFor c.requires.stands.0.leaves (cell_of c.args.page) slot.owner = subst (λ it. IsSlotFor c.requires.stands.0.leaves (cell_of c.args.page) it.owner) (same_slot home.slot slot (sym home.here ∙ here)) home.fits in
+    let fits : IsSlotFor c.requires.stands.0.leaves (cell_of c.args.page) slot.owner =
+    subst (λ it. IsSlotFor c.requires.stands.0.leaves (cell_of c.args.page) it.owner) (same_slot home.slot slot (sym home.here ∙ here)) home.fits in
     let stood_here = stood old c.requires.stands.0 c.requires.stands.1.0 c.args.page c.args.slot slot c.requires.new here fits in
     let takes = c.in-Ok-touch.ensures.made.follows (account old c.requires.stands.0 c.requires.stands.1.0 c.args.page c.args.slot slot c.requires.new here fits) stood_here in
     even-slots old.slots.items c.args.slot slot (record { owner = Some (cell_of c.args.page); cell = c.touch.new.self }) here
