@@ -43,15 +43,21 @@ freed-numbers d e s f g h k sums less fewer = omega arith
 abbrev pub HoldsShare : CellView → Type 0
 HoldsShare view = (account : CellAccount) → StandsFor view account → held_of view ≡ share account.state.leaves
 
+-- one slot gets another cell, with its share
+pub shares-set : (slots : List Slot) (s : ℕ) (slot new : Slot) → slice_get slots s ≡ Some slot → shares_in (slice_set slots s new) + share slot.cell.leaves ≡ shares_in slots + share new.cell.leaves
+shares-set slots s slot new here =
+    let sums : shares_in (slice_set slots s new) + share (slice_index_or slots s slot).cell.leaves ≡ shares_in slots + share new.cell.leaves =
+    sum_by-set (λ it. share it.cell.leaves) slots s new slot (slice_get_within slots s slot here) in
+    let was : share (slice_index_or slots s slot).cell.leaves ≡ share slot.cell.leaves = ap (λ it. share it.cell.leaves) (get_or_from_slice_get slots s slot slot here) in
+    omega (arith, sums, was)
+
 -- what the cells hold and their shares change by the same, where one slot's cell holds its share before and after
 pub even-slots : (slots : List Slot) (s : ℕ) (slot new : Slot) → slice_get slots s ≡ Some slot → held_of slot.cell ≡ share slot.cell.leaves → held_of new.cell ≡ share new.cell.leaves
     → frames_in slots + shares_in (slice_set slots s new) ≡ shares_in slots + frames_in (slice_set slots s new)
 even-slots slots s slot new here before after =
     let held : frames_in (slice_set slots s new) + held_of slot.cell ≡ frames_in slots + held_of new.cell = frames-set slots s slot new here in
-    let shares : shares_in (slice_set slots s new) + share (slice_index_or slots s slot).cell.leaves ≡ shares_in slots + share new.cell.leaves =
-    sum_by-set (λ it. share it.cell.leaves) slots s new slot (slice_get_within slots s slot here) in
-    let was : share (slice_index_or slots s slot).cell.leaves ≡ share slot.cell.leaves = ap (λ it. share it.cell.leaves) (get_or_from_slice_get slots s slot slot here) in
-    omega (arith, held, shares, was, before, after)
+    let shares : shares_in (slice_set slots s new) + share slot.cell.leaves ≡ shares_in slots + share new.cell.leaves = shares-set slots s slot new here in
+    omega (arith, held, shares, before, after)
 
 -- a cell that stands for some account holds the share of its own leaves
 pub holds-own : (view : CellView) (account : CellAccount) → StandsFor view account → HoldsShare view → held_of view ≡ share view.leaves

@@ -35,3 +35,4 @@ pub mod LessShare
 pub mod ClearedCell
 pub mod ClearedTables
 pub mod ClearedSlot
+pub mod Vacancies

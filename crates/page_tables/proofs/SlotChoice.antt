@@ -34,7 +34,7 @@ all-owned (it ∷ slots) h =
 
 module _ (tables : PageTables) (sides : Sides) (st : TablesStandFor tables sides) (c : ℕ) where
   -- no slot has the cell, and so no one has it
-  unfound : IsSlotOf tables.slots.items (Some c) None → is_some (find nat_cmp c sides.leaves) ≡ false
+  pub unfound : IsSlotOf tables.slots.items (Some c) None → is_some (find nat_cmp c sides.leaves) ≡ false
   unfound none = elim (is_some (find nat_cmp c sides.leaves)) as (λ b. is_some (find nat_cmp c sides.leaves) ≡ b → b ≡ false) [
     | false ↦ λ e. refl
     | true ↦ λ e. let owned : (s : ℕ) × (owner_at tables.slots.items s ≡ Some c) = st.slots_of.owned c e in absurd (held owned.0 (slice_get tables.slots.items owned.0) refl owned.1)

@@ -33,6 +33,10 @@ range_refusal (Err refused) = Some (record { at = refused.at; page = Some refuse
 abbrev pub cells_of_pages : ℕ → ℕ → List ℕ
 cells_of_pages first n = if n == 0 then [] else range_with_len (cell_of first) (cell_of (first + n - 1) + 1 - cell_of first)
 
+-- how many of n cells have no slot
+abbrev pub missing_in : Leaves → ℕ → ℕ → ℕ
+missing_in leaves first n = length (cells_without_slot leaves (range_with_len first n))
+
 -- there are slots for the cells that have none
 abbrev pub HasRoom : ℕ → Leaves → List ℕ → Type 0
 HasRoom slots leaves cells = length leaves + length (cells_without_slot leaves cells) ≤ slots

@@ -9,7 +9,7 @@ ghost use Rattle.kernel_meaning.specs.FrameLaw.{cell_at};
 ghost use Rattle.leaf_cell.specs.States.{state_of};
 ghost use Rattle.page_tables.specs.Sides.{Sides};
 ghost use Rattle.page_tables.specs.Standing.{TablesStandFor, slot_in, slot_count};
-ghost use Rattle.page_tables.specs.Held.{frames_of};
+ghost use Rattle.page_tables.specs.Held.{frames_of, frames_in, shares_in};
 ghost use Rattle.page_tables.specs.Accesses.{IsReady, IsSnapshotRead};
 
 use crate::pieces::{location_of, piece_of_cell, piece_of_page};
@@ -59,6 +59,9 @@ impl PageTables {
             ((page : ℕ) → page_of addr ≤ page → page * 4096 < addr + length bytes.now → IsReady sides.leaves page)) }
         ensures stored { (sides : Sides) → TablesStandFor self.old sides → TablesStandFor self.new (record sides { pages = with_bytes sides.pages addr bytes.now }) }
         ensures held { frames_of self.new ≡ frames_of self.old }
+        ensures frames { frames_in self.new.slots.items ≡ frames_in self.old.slots.items }
+        ensures shares { shares_in self.new.slots.items ≡ shares_in self.old.slots.items }
+        ensures snapshot { self.new.snapshot ≡ self.old.snapshot }
         ensures slots { slot_count self.new ≡ slot_count self.old }
     {
         let mut done = 0;
@@ -77,6 +80,9 @@ impl PageTables {
         requires stands { (sides : Sides) × (TablesStandFor self.old sides × IsReady sides.leaves (page_of addr)) }
         ensures stored { (sides : Sides) → TablesStandFor self.old sides → TablesStandFor self.new (record sides { pages = with_bytes sides.pages addr bytes.now }) }
         ensures held { frames_of self.new ≡ frames_of self.old }
+        ensures frames { frames_in self.new.slots.items ≡ frames_in self.old.slots.items }
+        ensures shares { shares_in self.new.slots.items ≡ shares_in self.old.slots.items }
+        ensures snapshot { self.new.snapshot ≡ self.old.snapshot }
         ensures slots { slot_count self.new ≡ slot_count self.old }
     {
         let location = location_of(addr);

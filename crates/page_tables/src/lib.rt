@@ -14,6 +14,7 @@ mod range;
 mod slot;
 mod tables;
 mod touch;
+mod vacancy;
 
 pub use range::FrameRefused;
 pub use tables::PageTables;

@@ -115,7 +115,7 @@ impl PageTables {
 }
 
 /// The lowest slot with this owner.
-fn slot_of(slots: &[Slot], owner: Option<u32>) -> Option<u32>
+pub(crate) fn slot_of(slots: &[Slot], owner: Option<u32>) -> Option<u32>
     requires { length slots.now ≤ 512 }
     ensures { IsSlotOf slots.now owner result }
 {

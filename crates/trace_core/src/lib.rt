@@ -6,10 +6,12 @@
 //! README.md goes on.
 #![tactic(auto)]
 
+mod kernel;
 mod laws;
 mod supply;
 #[cfg(test)]
 mod tests;
 
 pub use laws::a_supply_answers_as_it_may;
+pub use kernel::Kernel;
 pub use supply::Supply;

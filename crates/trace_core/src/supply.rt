@@ -1,13 +1,12 @@
 //! Where the kernel's frames come from.
-ghost use Rattle.std.specs.Prelude.{◌≡◌, ◌+◌, map, Some, IfOk};
+ghost use Rattle.std.specs.Prelude.{◌≡◌, ◌+◌, map, Some, None};
 ghost use Rattle.vm_base.specs.Counts.{next_count};
-ghost use Rattle.frame_pool.specs.Policies.{standing};
-ghost use Rattle.trace_core.specs.SupplyState.{SupplyState, state_of, opening_supply, policy_sum, is_next, pending_behind, SupplyGoes};
+ghost use Rattle.vm_base.specs.declared.frame_request.Asker.TheVariants.{Parent};
+ghost use Rattle.trace_core.specs.SupplyState.{SupplyState, state_of, is_next, pending_behind, SupplyGoes};
 
-use frame_pool::{FramePolicy, Pool};
-use std::alloc::Global;
+use frame_pool::{FramePolicy, Pool, Seen};
 use std::marker::PhantomData;
-use vm_base::{Allot, Asker, Frame, NoMemory, Refused, Want};
+use vm_base::{Allot, Asker, Frame, Refused, Want};
 
 /// A pool, and who asks it. One of the requests that follow may be named to be refused: the pool
 /// is not asked for that one.
@@ -28,23 +27,20 @@ pub struct Supply {
 }
 
 impl Supply {
-    /// All frames are there, the parent asks, and nothing was refused.
-    pub fn new(
-        alloc: Global,
-        frames: u32,
-        policies: Vec<Box<dyn FramePolicy + Send>>,
-    ) -> Result<Supply, NoMemory>
-        ensures { IfOk result (λ supply. ⟦<Supply as Allot>⟧.state supply
-            ≡ opening_supply frames (policy_sum (standing (map (λ policy. told policy) policies.items)))) }
+    /// Of a pool that made so many frames. The parent asks, and was not refused yet.
+    pub fn new(pool: Pool, frames: u32) -> Supply
+        requires { (⟦<Pool as Seen>⟧.seen pool).made ≡ frames }
+        ensures { ⟦<Supply as Allot>⟧.state result
+            ≡ state_of (⟦<Pool as Seen>⟧.seen pool) Parent 0 None }
     {
-        Ok(Supply {
-            pool: Pool::new(alloc, frames, policies)?,
+        Supply {
+            pool,
             frames,
             asker: Asker::Parent,
             refused: 0,
             pending: None,
             policies: PhantomData,
-        })
+        }
     }
 
     /// Names the nth request that follows, counted from 1, to be refused. It takes the place of one

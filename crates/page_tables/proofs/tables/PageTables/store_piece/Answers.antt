@@ -7,7 +7,9 @@ use Rattle.vm_base.specs.Places.{page_of, cell_of}
 use Rattle.leaf_cell.specs.CellView.{held_of}
 use Rattle.leaf_cell.specs.Touching.{IsAlone}
 use Rattle.page_tables.specs.declared.slot.Slot.{Slot}
-use Rattle.page_tables.specs.Held.{frames_in}
+use Rattle.page_tables.specs.Held.{frames_in, shares_in}
+use Rattle.kernel_meaning.specs.Leaves.{share}
+use Rattle.page_tables.proofs.ClearedSlot.{shares-set}
 use Rattle.page_tables.proofs.OwnedSlots.{frames-set}
 use Rattle.page_tables.proofs.ParentPages.{owned-here, owned-index}
 use Rattle.page_tables.proofs.ParentStore.{ready-view, stands-stored}
@@ -57,4 +59,26 @@ returns-clause-held c =
     let sums : frames_in (slice_set c.args.self.now.slots.items c.in-Some.slot new) + held_of c.index_mut.result.now.cell ≡ frames_in c.args.self.now.slots.items + held_of c.store.new.self =
     frames-set c.args.self.now.slots.items c.in-Some.slot c.index_mut.result.now new here in
     let same : held_of c.store.new.self ≡ held_of c.index_mut.result.now.cell = c.store.ensures.held in
+    omega (arith, sums, same)
+
+pub returns-clause-frames : goal.returns-clause-frames
+returns-clause-frames c =
+    let known = ap (get c.args.self.now.directory) (sym c.location_of-location.ensures.cell) ∙ sym c.find.ensures ∙ c.in-Some.is in
+    let here = owned-here c.args.self.now.slots.items c.in-Some.slot (cell_of (page_of c.args.addr)) c.index_mut.result.now
+    (c.requires.stands.1.0.named (cell_of (page_of c.args.addr)) c.in-Some.slot known) c.index_mut.ensures.value in
+    let new : Slot = record { owner = c.index_mut.result.now.owner; cell = c.store.new.self } in
+    let sums : frames_in (slice_set c.args.self.now.slots.items c.in-Some.slot new) + held_of c.index_mut.result.now.cell ≡ frames_in c.args.self.now.slots.items + held_of c.store.new.self =
+    frames-set c.args.self.now.slots.items c.in-Some.slot c.index_mut.result.now new here in
+    let same : held_of c.store.new.self ≡ held_of c.index_mut.result.now.cell = c.store.ensures.held in
+    omega (arith, sums, same)
+
+pub returns-clause-shares : goal.returns-clause-shares
+returns-clause-shares c =
+    let known = ap (get c.args.self.now.directory) (sym c.location_of-location.ensures.cell) ∙ sym c.find.ensures ∙ c.in-Some.is in
+    let here = owned-here c.args.self.now.slots.items c.in-Some.slot (cell_of (page_of c.args.addr)) c.index_mut.result.now
+    (c.requires.stands.1.0.named (cell_of (page_of c.args.addr)) c.in-Some.slot known) c.index_mut.ensures.value in
+    let new : Slot = record { owner = c.index_mut.result.now.owner; cell = c.store.new.self } in
+    let sums : shares_in (slice_set c.args.self.now.slots.items c.in-Some.slot new) + share c.index_mut.result.now.cell.leaves ≡ shares_in c.args.self.now.slots.items + share c.store.new.self.leaves =
+    shares-set c.args.self.now.slots.items c.in-Some.slot c.index_mut.result.now new here in
+    let same : share c.store.new.self.leaves ≡ share c.index_mut.result.now.cell.leaves = ap share c.store.ensures.leaves in
     omega (arith, sums, same)

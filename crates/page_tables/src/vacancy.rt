@@ -1,0 +1,72 @@
+//! Whether the cells of a range have slots.
+ghost use Rattle.std.specs.Prelude.{◌≡◌, ◌+◌, ◌-◌, ◌<◌, ◌≤◌, ◌^◌, is_some, length, count_by};
+ghost use Rattle.std.specs.Ordering.{nat_cmp};
+ghost use Rattle.std.specs.FinMap.{find};
+ghost use Rattle.kernel_meaning.specs.FrameLaw.{lacks_slots};
+ghost use Rattle.page_tables.specs.Sides.{Sides};
+ghost use Rattle.page_tables.specs.Standing.{TablesStandFor, slot_count};
+ghost use Rattle.page_tables.specs.Ranges.{cells_of_pages, missing_in};
+
+use crate::slot::Slot;
+use crate::tables::PageTables;
+use crate::touch::slot_of;
+
+/// Pages in a cell.
+const CELL_PAGES: u64 = 512;
+
+impl PageTables {
+    /// Whether the cells of a range of pages that have no slot are more than the free slots: what a
+    /// caller asks before a touch. It looks for each cell of the range, and then through the slots.
+    pub fn lacks_slots(&self, first: u64, count: u64) -> bool
+        requires some { 0 < count }
+        requires range { first + count ≤ 2 ^ 36 }
+        requires stands { (sides : Sides) × TablesStandFor self.now sides }
+        ensures { (sides : Sides) → TablesStandFor self.now sides → result ≡ lacks_slots (slot_count self.now) sides.leaves (cells_of_pages first count) }
+    {
+        let low = (first / CELL_PAGES) as u32;
+        let high = ((first + count - 1) / CELL_PAGES) as u32;
+        let missing = self.missing_slots(low, high);
+        missing > 0 && missing > free_slots(&self.slots)
+    }
+
+    /// How many of the cells from one to another have no slot.
+    fn missing_slots(&self, low: u32, high: u32) -> usize
+        requires order { low ≤ high }
+        requires cells { high < 2 ^ 27 }
+        requires stands { (sides : Sides) × TablesStandFor self.now sides }
+        ensures { (sides : Sides) → TablesStandFor self.now sides → result ≡ missing_in sides.leaves low (high + 1 - low) }
+    {
+        let mut missing = 0;
+        for cell in low..high + 1 {
+            if !self.has_slot(cell) {
+                missing += 1;
+            }
+        }
+        missing
+    }
+
+    /// Whether a cell has a slot.
+    fn has_slot(&self, cell: u32) -> bool
+        requires cell { cell < 2 ^ 27 }
+        requires stands { (sides : Sides) × TablesStandFor self.now sides }
+        ensures { (sides : Sides) → TablesStandFor self.now sides → result ≡ is_some (find nat_cmp cell sides.leaves) }
+    {
+        if self.directory.find(cell).is_some() {
+            return true;
+        }
+        slot_of(&self.slots, Some(cell)).is_some()
+    }
+}
+
+/// How many slots nobody has.
+fn free_slots(slots: &[Slot]) -> usize
+    ensures { result + count_by (λ slot. is_some slot.owner) slots.now ≡ length slots.now }
+{
+    let mut free = 0;
+    for slot in slots {
+        if slot.owner.is_none() {
+            free += 1;
+        }
+    }
+    free
+}
