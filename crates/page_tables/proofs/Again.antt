@@ -27,7 +27,8 @@ slots-later leaves cells made later slots more of = record {
   counted = of.counted;
 }
 
-pub tables-later : (directory : CellMap) (snapshot : Option SnapshotTables) (slots : List Slot) (sides : Sides) (later : ℕ) → sides.made ≤ later → StandFor directory snapshot slots sides → StandFor directory snapshot slots (record sides { made = later })
+pub tables-later : (directory : CellMap) (snapshot : Option SnapshotTables) (slots : List Slot) (sides : Sides) (later : ℕ) → sides.made ≤ later
+    → StandFor directory snapshot slots sides → StandFor directory snapshot slots (record sides { made = later })
 tables-later directory snapshot slots sides later more st = record {
   cells = st.cells;
   kept = st.kept;
@@ -53,10 +54,11 @@ with_cell-same leaves c kept = by-use (is_used (cell_at leaves c)) refl
     gone (Some cell) e unused = absurd (false≢true (sym unused ∙ found-used leaves kept.in_use c (ap is_some e)))
 
     keeps : (x : ℕ) → not (eqb x c) ≡ false → x ≡ c
-    keeps x e = elim (cases_eq x c) [ | inl same ↦ same | inr apart ↦ absurd (false≢true (sym e ∙ ap not (ne_eqb x c apart))) ]
+    keeps x e = elim (cases_eq x c) [ inl same ↦ same | inr apart ↦ absurd (false≢true (sym e ∙ ap not (ne_eqb x c apart))) ]
 
     by-use : (b : Bool) → is_used (cell_at leaves c) ≡ b → with_cell leaves c (cell_at leaves c) ≡ leaves
-    by-use true used = same_entries nat_cmp nat_cmp_total nat_cmp-IsAntisymmetric (with_cell leaves c (cell_at leaves c)) leaves (sorted-with_cell leaves c (cell_at leaves c) used kept.sorted) kept.sorted
+    by-use true used = same_entries nat_cmp nat_cmp_total nat_cmp-IsAntisymmetric (with_cell leaves c (cell_at leaves c)) leaves
+        (sorted-with_cell leaves c (cell_at leaves c) used kept.sorted) kept.sorted
         (λ q. elim (cases_eq q c) [
           | inl same ↦ find-here leaves c (cell_at leaves c) used q same ∙ sym (ap (λ n. find nat_cmp n leaves) same ∙ there (find nat_cmp c leaves) refl used)
           | inr apart ↦ find-apart leaves c (cell_at leaves c) used q apart
@@ -65,8 +67,8 @@ with_cell-same leaves c kept = by-use (is_used (cell_at leaves c)) refl
         let test : ℕ → Bool = λ n. not (eqb n c) in
         cond-false (is_used (cell_at leaves c)) _ _ unused
         ∙ same_entries nat_cmp nat_cmp_total nat_cmp-IsAntisymmetric (where_key nat_cmp test leaves) leaves (is_sorted-where_key nat_cmp test leaves kept.sorted) kept.sorted
-            (λ q. find-where_key nat_cmp test q (λ x e. ap test (sym (nat_cmp-IsAntisymmetric q x e))) leaves
-              ∙ elim (cases_eq q c) [
-                  | inl same ↦ ap (λ b. cond (not b) (find nat_cmp q leaves) None) (eq-eqb q c same) ∙ sym (ap (λ n. find nat_cmp n leaves) same ∙ gone (find nat_cmp c leaves) refl unused)
-                  | inr apart ↦ ap (λ b. cond (not b) (find nat_cmp q leaves) None) (ne_eqb q c apart)
-                ])
+        (λ q. find-where_key nat_cmp test q (λ x e. ap test (sym (nat_cmp-IsAntisymmetric q x e))) leaves
+        ∙ elim (cases_eq q c) [
+          | inl same ↦ ap (λ b. cond (not b) (find nat_cmp q leaves) None) (eq-eqb q c same) ∙ sym (ap (λ n. find nat_cmp n leaves) same ∙ gone (find nat_cmp c leaves) refl unused)
+          | inr apart ↦ ap (λ b. cond (not b) (find nat_cmp q leaves) None) (ne_eqb q c apart)
+        ])

@@ -82,8 +82,10 @@ module _ (directory : CellMap) (snapshot : Option SnapshotTables) (slots : List 
         kept-named : (q t : ℕ) → get directory q ≡ Some t → owner_at kept_slots t ≡ Some q
         kept-named q t e = owner-same slots s c slot view here mine t ∙ st.named q t e
 
-        acted : (found : CellMap) → ((q : ℕ) → is_some (get found q) ≡ has_pages (cell_at then.leaves q).parent) → ((q t : ℕ) → get found q ≡ Some t → owner_at kept_slots t ≡ Some q) → StandFor found snapshot kept_slots then
-        acted = tables-acted directory snapshot slots sides st c s slot here (inl mine) view state sides.made (omega arith) used size (st.kept.unjoined c) stands_then then.pages inside outside refl refl
+        acted : (found : CellMap) → ((q : ℕ) → is_some (get found q) ≡ has_pages (cell_at then.leaves q).parent)
+            → ((q t : ℕ) → get found q ≡ Some t → owner_at kept_slots t ≡ Some q) → StandFor found snapshot kept_slots then
+        acted = tables-acted directory snapshot slots sides st c s slot here (inl mine) view state sides.made (omega arith) used size
+            (st.kept.unjoined c) stands_then then.pages inside outside refl refl
 
         -- the parent has
         pub kept-stands : has_pages after.parent ≡ true → StandFor directory snapshot kept_slots then
@@ -191,7 +193,8 @@ module _ (directory : CellMap) (snapshot : Option SnapshotTables) (slots : List 
                 by false b e = refl
 
     -- the deals of the unmap, where the cell gives back so many frames, and the directory so many
-    pub event-runs : (freed share_less tables_less : ℕ) → freed ≡ share_less + tables_less → share_less ≡ share_freed first n (cell_at sides.leaves c) → tables_less ≡ tables_freed sides.leaves then.leaves
+    pub event-runs : (freed share_less tables_less : ℕ) → freed ≡ share_less + tables_less → share_less ≡ share_freed first n (cell_at sides.leaves c)
+        → tables_less ≡ tables_freed sides.leaves then.leaves
         → Runs (cell_unmapped c first n) sides.leaves sides.made (returned freed) then.leaves sides.made None
     event-runs freed share_less tables_less whole cell tables =
         unmapped-runs c first n sides.leaves sides.made present (st.kept.unjoined c) freed (omega (arith, whole, cell, tables))

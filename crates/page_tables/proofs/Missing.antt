@@ -49,7 +49,7 @@ pub parent-there : (leaves : Leaves) (c : ℕ) → T (is_sorted nat_cmp leaves) 
 parent-there leaves c sorted there =
     sym (is_some-find nat_cmp c (filter (λ e. has_pages e.1.parent) leaves))
     ∙ is_some-filter (λ cell. has_pages cell.parent) c leaves sorted
-    ∙ elim (find nat_cmp c leaves) as (λ o. has_pages (unwrap_or o unused_cell).parent ≡ true → passes (λ cell. has_pages cell.parent) o ≡ true) [ | Some cell ↦ λ h. h | None ↦ λ h. h ] there
+    ∙ elim (find nat_cmp c leaves) as (λ o. has_pages (unwrap_or o unused_cell).parent ≡ true → passes (λ cell. has_pages cell.parent) o ≡ true) [ Some cell ↦ λ h. h | None ↦ λ h. h ] there
 
 -- a touch at a cell of the parent lacks no table
 pub missing-known : (leaves : Leaves) (c : ℕ) → T (is_sorted nat_cmp leaves) → has_pages (cell_at leaves c).parent ≡ true → missing_tables (parent_cells leaves) c ≡ []

@@ -103,7 +103,7 @@ module _ (old : PageTables) (sides : Sides) (st : TablesStandFor old sides) (pag
     cell_runs : (refused : Option ℕ) → TakesAccount (Touch p) slot.cell view deals refused account → RunsAt (touched p) (cell_at sides.leaves c) asked_for deals end.cell end.requests.made refused
     cell_runs refused takes =
         subst (λ r. RunsAt (touched p) (cell_at sides.leaves c) asked_for deals end.cell end.requests.made r) takes.ended
-            (subst (λ cell. RunsAt (touched p) cell asked_for deals end.cell end.requests.made end.refused) (st.each.leaves c) (touch-runs p (st.cells c).leaves asked_for deals unjoined takes.asked))
+        (subst (λ cell. RunsAt (touched p) cell asked_for deals end.cell end.requests.made end.refused) (st.each.leaves c) (touch-runs p (st.cells c).leaves asked_for deals unjoined takes.asked))
 
     runs_with : (refused : Option ℕ) → TakesAccount (Touch p) slot.cell view deals refused account
         → Runs (page_touched page) sides.leaves sides.made (deals_behind wants deals refused) leaves end.requests.made (refusal_at page refused)
@@ -151,9 +151,9 @@ module _ (old : PageTables) (sides : Sides) (st : TablesStandFor old sides) (pag
             ap (owner_at new_slots) slot_is ∙ owner_here ∙ ap Some (sym same)
         | inr apart ↦
             owner-kept old.directory old.snapshot old.slots.items sides st c s slot here fits view state end.requests.made later used
-                (touch-size p start.cell end.cell shape.touch ∙ size) (touch-unjoined p start.cell end.cell shape.touch unjoined) takes.stands
-                (pages_with page None sides.pages) inside (λ q apart. with_page-outside sides.pages page q apart) refl numbers
-                q t (st.named q t (sym (get_inserted_apart old.directory c s q apart) ∙ e))
+            (touch-size p start.cell end.cell shape.touch ∙ size) (touch-unjoined p start.cell end.cell shape.touch unjoined) takes.stands
+            (pages_with page None sides.pages) inside (λ q apart. with_page-outside sides.pages page q apart) refl numbers
+            q t (st.named q t (sym (get_inserted_apart old.directory c s q apart) ∙ e))
       ]
 
       abbrev then : Sides
@@ -174,7 +174,8 @@ module _ (old : PageTables) (sides : Sides) (st : TablesStandFor old sides) (pag
             (subst (λ items. StandFor (insert old.directory c s) old.snapshot items then) (sym set) stands_then));
       }
 
-      pub granted-touches : (from to : ℕ) → IsTouched p from to slot.cell view → (new : PageTables) → new.directory ≡ insert old.directory c s → new.snapshot ≡ old.snapshot → new.slots.items ≡ new_slots
+      pub granted-touches : (from to : ℕ) → IsTouched p from to slot.cell view → (new : PageTables) → new.directory ≡ insert old.directory c s
+          → new.snapshot ≡ old.snapshot → new.slots.items ≡ new_slots
           → FollowsTouch page new (deals_behind wants deals None) None sides
       unfolding granted-follows
       granted-touches from to touched new directory alike set = record {
@@ -202,9 +203,10 @@ module _ (old : PageTables) (sides : Sides) (st : TablesStandFor old sides) (pag
         leaves = leaves;
         made = end.requests.made;
         runs = runs_with (Some at) takes;
-        stands = subst (λ now. StandFor new.directory new.snapshot new.slots.items (unchanged now)) same_leaves (subst (λ d. StandFor d new.snapshot new.slots.items (unchanged sides.leaves)) (sym directory)
+        stands = subst (λ now. StandFor new.directory new.snapshot new.slots.items (unchanged now)) same_leaves
+            (subst (λ d. StandFor d new.snapshot new.slots.items (unchanged sides.leaves)) (sym directory)
             (subst (λ it. StandFor old.directory it new.slots.items (unchanged sides.leaves)) (sym alike) (subst (λ items. StandFor old.directory old.snapshot items (unchanged sides.leaves)) (sym set)
-                (tables-later old.directory old.snapshot old.slots.items sides end.requests.made later st))));
+            (tables-later old.directory old.snapshot old.slots.items sides end.requests.made later st))));
       }
 
       pub refused-touches : (new : PageTables) → new.directory ≡ old.directory → new.snapshot ≡ old.snapshot → new.slots.items ≡ old.slots.items

@@ -28,7 +28,8 @@ module _ (losses : List Loss) (n : ℕ) where
   unlost-back : (count first : ℕ) → first_loss losses n (range_with_len first count) ≡ None → AreUnlost first (first + count)
   unlost-back zero first none = λ c above below. absurd (omega arith)
   unlost-back (suc count) first none = λ c above below.
-      let both : (loss_of losses n first ≡ None) × (first_loss losses n (range_with_len (first + 1) count) ≡ None) = neither (loss_of losses n first) (first_loss losses n (range_with_len (first + 1) count)) none in
+      let both : (loss_of losses n first ≡ None) × (first_loss losses n (range_with_len (first + 1) count) ≡ None) =
+      neither (loss_of losses n first) (first_loss losses n (range_with_len (first + 1) count)) none in
       elim (cases_eq c first) [
         | inl here ↦ ap (loss_of losses n) here ∙ both.0
         | inr apart ↦ unlost-back count (first + 1) both.1 c (omega arith) (omega arith)
@@ -53,7 +54,8 @@ module _ (losses : List Loss) (n : ℕ) where
             let low : first ≤ first = omega arith in
             let high : first < lowest.cell = omega arith in
             ap (λ o. option_or o (first_loss losses n (range_with_len (first + 1) count))) (lowest.before first low high)
-            ∙ lost-lowest count (first + 1) at (record { cell = lowest.cell; above = omega arith; below = omega arith; before = λ c over under. lowest.before c (omega arith) under; lost = lowest.lost })
+            ∙ lost-lowest count (first + 1) at
+            (record { cell = lowest.cell; above = omega arith; below = omega arith; before = λ c over under. lowest.before c (omega arith) under; lost = lowest.lost })
       ]
 
   lowest-back : (count first at : ℕ) → first_loss losses n (range_with_len first count) ≡ Some at → IsLowest first (first + count) at

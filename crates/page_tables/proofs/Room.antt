@@ -79,7 +79,7 @@ module _ (directory : CellMap) (snapshot : Option SnapshotTables) (slots : List 
         | inl mine ↦
             let within : length sides.leaves ≤ length slots = within-slots in
             let fewer : length (filter (λ e. has_pages e.1.parent) sides.leaves) < length sides.leaves =
-                found-fails (find nat_cmp c sides.leaves) refl (st.slots_of.used s c (ap (option_and_then (λ it. it.owner)) here ∙ mine)) none in
+            found-fails (find nat_cmp c sides.leaves) refl (st.slots_of.used s c (ap (option_and_then (λ it. it.owner)) here ∙ mine)) none in
             omega arith
         | inr free ↦
             let counted : count_by (λ slot. is_some slot.owner) slots ≡ length sides.leaves = st.slots_of.counted in
@@ -88,12 +88,14 @@ module _ (directory : CellMap) (snapshot : Option SnapshotTables) (slots : List 
             omega arith
       ]
     where
-      found-fails : (o : Option CellLeaves) → find nat_cmp c sides.leaves ≡ o → is_some o ≡ true → has_pages (unwrap_or o unused_cell).parent ≡ false → length (filter (λ e. has_pages e.1.parent) sides.leaves) < length sides.leaves
+      found-fails : (o : Option CellLeaves) → find nat_cmp c sides.leaves ≡ o → is_some o ≡ true → has_pages (unwrap_or o unused_cell).parent ≡ false
+          → length (filter (λ e. has_pages e.1.parent) sides.leaves) < length sides.leaves
       found-fails None e there nope = absurd (false≢true there)
       found-fails (Some cell) e there nope = filter-shorter (λ cell. has_pages cell.parent) c cell sides.leaves e nope
 
 -- a slot that serves a cell serves it whatever sides the tables stand for
-pub fits-again : (directory : CellMap) (snapshot : Option SnapshotTables) (slots : List Slot) (first second : Sides) → StandFor directory snapshot slots first → StandFor directory snapshot slots second
+pub fits-again : (directory : CellMap) (snapshot : Option SnapshotTables) (slots : List Slot) (first second : Sides)
+    → StandFor directory snapshot slots first → StandFor directory snapshot slots second
     → (c : ℕ) (owner : Option ℕ) → IsSlotFor first.leaves c owner → IsSlotFor second.leaves c owner
 fits-again directory snapshot slots first second st st_too c owner fits = elim fits [
   | inl mine ↦ inl mine

@@ -67,7 +67,8 @@ module _ {State : Type 0} (goes : State → Deal → State → Type 0) (refused 
       }
 
 -- nothing was taken out yet
-pub none-taken : {State : Type 0} (goes : State → Deal → State → Type 0) (refused : State → ℕ) (out : State → ℕ) (from : State) (left : List ℕ) (old : PageTables) (sides : Sides) → TablesStandFor old sides → AreThere sides.leaves left
+pub none-taken : {State : Type 0} (goes : State → Deal → State → Type 0) (refused : State → ℕ) (out : State → ℕ) (from : State) (left : List ℕ) (old : PageTables) (sides : Sides)
+    → TablesStandFor old sides → AreThere sides.leaves left
     → IsTakenBack goes refused out from from [] left old old
 none-taken goes refused out from left old sides st there = record {
   led = subst (λ n. LeadsAlong goes from (returned n) from) (let e : 0 ≡ frames_of old - frames_of old = omega arith in e) refl;

@@ -37,18 +37,20 @@ pub missing-push : (leaves : Leaves) (first n : ℕ) → missing_in leaves first
 missing-push leaves first n =
     let test : ℕ → Bool = λ cell. not (is_some (find nat_cmp cell leaves)) in
     let one : length (filter test ((first + n) ∷ [])) ≡ cond (is_some (find nat_cmp (first + n) leaves)) 0 1 =
-        elim (is_some (find nat_cmp (first + n) leaves)) as (λ b. length (cond (not b) ((first + n) ∷ []) []) ≡ cond b 0 1) [ true ↦ refl | false ↦ refl ] in
+    elim (is_some (find nat_cmp (first + n) leaves)) as (λ b. length (cond (not b) ((first + n) ∷ []) []) ≡ cond b 0 1) [ true ↦ refl | false ↦ refl ] in
     ap (λ xs. length (filter test xs)) (range-split first n 1) ∙ ap length (filter-append test (range_with_len first n) ((first + n) ∷ []))
     ∙ length-append (filter test (range_with_len first n)) (filter test ((first + n) ∷ [])) ∙ ap (λ k. missing_in leaves first n + k) one
 
-module _ (tables : PageTables) (sides : Sides) (st : TablesStandFor tables sides) (first n free : ℕ) (some : 0 < n) (counted : free + count_by (λ slot. is_some slot.owner) tables.slots.items ≡ length tables.slots.items) where
+module _ (tables : PageTables) (sides : Sides) (st : TablesStandFor tables sides) (first n free : ℕ) (some : 0 < n)
+    (counted : free + count_by (λ slot. is_some slot.owner) tables.slots.items ≡ length tables.slots.items) where
   abbrev missing : ℕ
   missing = missing_in sides.leaves (cell_of first) (cell_of (first + n - 1) + 1 - cell_of first)
 
   -- the cells that lack a slot are more than the free slots
   pub lacking-told : (nat_lt 0 missing && nat_lt free missing) ≡ lacks_slots (slot_count tables) sides.leaves (cells_of_pages first n)
   lacking-told =
-      let cells : cells_of_pages first n ≡ range_with_len (cell_of first) (cell_of (first + n - 1) + 1 - cell_of first) = ap (λ b. cond b [] (range_with_len (cell_of first) (cell_of (first + n - 1) + 1 - cell_of first))) (ne_eqb n 0 (λ e. omega arith)) in
+      let cells : cells_of_pages first n ≡ range_with_len (cell_of first) (cell_of (first + n - 1) + 1 - cell_of first) =
+      ap (λ b. cond b [] (range_with_len (cell_of first) (cell_of (first + n - 1) + 1 - cell_of first))) (ne_eqb n 0 (λ e. omega arith)) in
       let owned : count_by (λ slot. is_some slot.owner) tables.slots.items ≡ length sides.leaves = st.slots_of.counted in
       let used : length (used_cells sides.leaves) ≡ length sides.leaves = length-map sides.leaves (λ e. e.0) in
       let left : slot_count tables - length (used_cells sides.leaves) ≡ free = omega arith in

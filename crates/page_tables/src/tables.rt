@@ -14,8 +14,8 @@ pub(crate) struct SnapshotTables {
     pub(crate) directory: Directory,
 }
 
-/// The directory of the parent, that of its snapshot, and the cells in their slots. It is made once, with all its room,
-/// and no other call takes memory.
+/// The directory of the parent, that of its snapshot, and the cells in their slots. It is made
+/// once, with all its room, and no other call takes memory.
 #[derive(Debug, Drop)]
 pub struct PageTables {
     pub(crate) directory: Directory,
@@ -32,6 +32,8 @@ impl PageTables {
     ghost use Rattle.page_tables.specs.Held.{frames_of};
 
     /// No page, and so many free slots.
+    /// No page, no snapshot, and so many free slots, 512 at most: each has room for one cell. It
+    /// fails only for want of memory.
     pub fn new(alloc: Global, slots: u32) -> Result<PageTables, NoMemory>
         requires { slots ≤ 512 }
         ensures stands { IfOk result (λ tables. TablesStandFor tables opening_sides) }

@@ -8,7 +8,8 @@ use Rattle.page_tables.proofs.tables.PageTables.state.Goals as goal
 
 pub index-requires : goal.index-requires
 index-requires c =
-    owned-index c.args.self.now.slots.items _ c.in-Some.slot c.args.cell c.args.self.now.slots.ok.0 (c.requires.stands.1.snapshot_of.named c.args.cell c.in-Some.slot (sym c.snapshot_slot.ensures ∙ c.in-Some.is))
+    owned-index c.args.self.now.slots.items _ c.in-Some.slot c.args.cell c.args.self.now.slots.ok.0
+    (c.requires.stands.1.snapshot_of.named c.args.cell c.in-Some.slot (sym c.snapshot_slot.ensures ∙ c.in-Some.is))
 
 pub returns-in-Some : goal.returns-in-Some
 returns-in-Some c = record {
