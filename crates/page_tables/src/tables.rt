@@ -31,7 +31,6 @@ impl PageTables {
     ghost use Rattle.page_tables.specs.Standing.{TablesStandFor, slot_count};
     ghost use Rattle.page_tables.specs.Held.{frames_of};
 
-    /// No page, and so many free slots.
     /// No page, no snapshot, and so many free slots, 512 at most: each has room for one cell. It
     /// fails only for want of memory.
     pub fn new(alloc: Global, slots: u32) -> Result<PageTables, NoMemory>

@@ -12,6 +12,6 @@ mod supply;
 #[cfg(test)]
 mod tests;
 
-pub use laws::a_supply_answers_as_it_may;
 pub use kernel::Kernel;
+pub use laws::a_supply_answers_as_it_may;
 pub use supply::Supply;

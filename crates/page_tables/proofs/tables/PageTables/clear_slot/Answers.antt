@@ -222,7 +222,7 @@ returns-then-pages-eq0-clause-even g c =
     let later : HoldsShare c.clear.new.self = λ account stands. sym c.held-2.ensures.held ∙ c.held-2.ensures.share account stands in
     let made = c.clear.ensures.made in
     even-here old c.args.cell c.args.slot c.args.first c.args.count c.index_mut-home.result.now c.requires.known here c.requires.range c.clear.new.self made.deals made.follows before later c.requires.stands.0 c.requires.stands.1.0 c.requires.stands.1.1
-        c.leave_slot.new.home (ap (λ it. it.cell) c.leave_slot.ensures)
+    c.leave_slot.new.home (ap (λ it. it.cell) c.leave_slot.ensures)
 
 pub returns-else-pages-eq0-clause-even : goal.returns-else-pages-eq0-clause-even
 returns-else-pages-eq0-clause-even g c =
@@ -233,4 +233,4 @@ returns-else-pages-eq0-clause-even g c =
     let later : HoldsShare c.clear.new.self = λ account stands. sym c.held-2.ensures.held ∙ c.held-2.ensures.share account stands in
     let made = c.clear.ensures.made in
     even-here old c.args.cell c.args.slot c.args.first c.args.count c.index_mut-home.result.now c.requires.known here c.requires.range c.clear.new.self made.deals made.follows before later c.requires.stands.0 c.requires.stands.1.0 c.requires.stands.1.1
-        (record { owner = c.index_mut-home.result.now.owner; cell = c.clear.new.self }) refl
+    (record { owner = c.index_mut-home.result.now.owner; cell = c.clear.new.self }) refl

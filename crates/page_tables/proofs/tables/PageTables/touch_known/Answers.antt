@@ -29,7 +29,7 @@ pub touch-answer-requires-clause-unjoined : goal.touch-answer-requires-clause-un
 touch-answer-requires-clause-unjoined g c =
     let within : c.args.slot < length c.args.self.now.slots.items = owned-within c.args.self.now.slots.items c.args.slot (cell_of c.args.page) (c.requires.stands.1.named (cell_of c.args.page) c.args.slot c.requires.known) in
     slot-unjoined c.args.self.now.directory c.args.self.now.snapshot c.args.self.now.slots.items c.requires.stands.0 c.requires.stands.1 c.args.slot c.index_mut-home.result.now
-        (read-slot c.args.self.now.slots.items c.args.slot c.index_mut-home.result.now within c.index_mut-home.ensures.value)
+    (read-slot c.args.self.now.slots.items c.args.slot c.index_mut-home.result.now within c.index_mut-home.ensures.value)
 
 -- src/touch.rt:56:9
 pub touch-answer-requires-clause-held : goal.touch-answer-requires-clause-held
@@ -78,5 +78,5 @@ returns-clause-even g c =
     let stood : StandsFor slot.cell account = slot-stands old.directory old.snapshot old.slots.items sides st cell c.args.slot slot here owned in
     let takes = c.touch-answer.ensures.made.follows account stood in
     even-slots old.slots.items c.args.slot slot (record { owner = slot.owner; cell = c.touch-answer.new.self }) here
-        (holds-own slot.cell account stood (λ account stands. sym c.held.ensures.held ∙ c.held.ensures.share account stands))
-        (holds-own c.touch-answer.new.self _ takes.stands (λ account stands. sym c.held-2.ensures.held ∙ c.held-2.ensures.share account stands))
+    (holds-own slot.cell account stood (λ account stands. sym c.held.ensures.held ∙ c.held.ensures.share account stands))
+    (holds-own c.touch-answer.new.self _ takes.stands (λ account stands. sym c.held-2.ensures.held ∙ c.held-2.ensures.share account stands))
