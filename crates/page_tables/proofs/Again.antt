@@ -1,12 +1,11 @@
 -- Tables that nothing has changed stand for the same sides behind more requests.
-use Rattle.std.proofs.Common.{◌≡◌, ◌≢◌, ℕ, ◌≤◌, List, length, map, Option, Some, None, cond, eqb, refl, sym, ◌∙◌, ap, subst, arith, inl, inr}
-use Rattle.std.specs.Prelude.{Bool, true, false, T, is_some, not, filter, unwrap_or}
+use Rattle.std.proofs.Common.{◌≡◌, ℕ, ◌≤◌, List, Option, Some, None, cond, eqb, refl, sym, ◌∙◌, ap, inl, inr}
+use Rattle.std.specs.Prelude.{Bool, true, false, is_some, not, unwrap_or}
 use Rattle.std.specs.Ordering.{nat_cmp}
 use Rattle.std.specs.Cmp.{nat_cmp_total}
-use Rattle.std.specs.List.{AllByRecursion}
-use Rattle.std.specs.FinMap.{find, is_sorted, nat_cmp-IsAntisymmetric}
+use Rattle.std.specs.FinMap.{find, nat_cmp-IsAntisymmetric}
 use Rattle.std.specs.FinMap.Entries.{same_entries, where_key, is_sorted-where_key, find-where_key}
-use Rattle.std.proofs.lemmas.Bool.{cases_eq, cond-true, cond-false, eq-eqb, ne_eqb, false≢true}
+use Rattle.std.proofs.lemmas.Bool.{cases_eq, cond-false, eq-eqb, ne_eqb, false≢true}
 use Rattle.kernel_meaning.specs.Leaves.{CellLeaves, unused_cell}
 use Rattle.kernel_meaning.specs.FrameLaw.{Leaves, cell_at, with_cell, is_used}
 use Rattle.kernel_meaning.specs.CellAccount.{CellState}

@@ -1,17 +1,16 @@
 -- The cells in which one of some pages is present, and what one of them less leaves.
-use Rattle.std.proofs.Common.{◌≡◌, ◌≢◌, ℕ, ◌+◌, ◌-◌, ◌*◌, ◌/◌, ◌<◌, ◌≤◌, min, List, [], ◌∷◌, length, map, take, drop, Option, Some, None, cond, eqb, refl, sym, ◌∙◌, ap, subst, arith, inl, inr}
+use Rattle.std.proofs.Common.{◌≡◌, ◌≢◌, ℕ, ◌+◌, ◌*◌, ◌/◌, ◌<◌, ◌≤◌, List, [], ◌∷◌, Option, Some, None, cond, refl, sym, ◌∙◌, ap, subst, arith, inl, inr}
 use Rattle.std.specs.Prelude.{Bool, true, false, T, ◌&&◌, is_some, filter, unwrap_or}
-use Rattle.std.specs.Ordering.{nat_cmp, eq_by_cmp}
+use Rattle.std.specs.Ordering.{nat_cmp}
 use Rattle.std.specs.FinMap.{find, is_sorted}
 use Rattle.std.specs.FinMap.Entries.{below_all}
-use Rattle.std.proofs.lemmas.Bool.{cases_eq, cases_lt, eq-eqb, ne_eqb, false≢true}
-use Rattle.std.proofs.lemmas.Bool.Decides.{nat_tests}
-use Rattle.kernel_meaning.specs.Leaves.{CellLeaves, Versions, unused_cell, has_present, has_pages, without_versions, version_at}
+use Rattle.std.proofs.lemmas.Bool.{cases_eq, false≢true}
+use Rattle.kernel_meaning.specs.Leaves.{CellLeaves, unused_cell, has_present, has_pages}
 use Rattle.kernel_meaning.specs.FrameLaw.{Leaves, cell_at, with_cell, is_used}
 use Rattle.kernel_meaning.specs.EventRequests.{changed_cells, first_in_cell, count_in_cell}
-use Rattle.leaf_cell.proofs.AbsentPages.{has_present-never, has_present-there}
-use Rattle.page_tables.specs.Clearing.{has_some, cell_without}
-use Rattle.page_tables.proofs.LeafMap.{same_number, passes, missed-below, keys-alike, cell_at-apart}
+use Rattle.leaf_cell.proofs.AbsentPages.{has_present-never}
+use Rattle.page_tables.specs.Clearing.{has_some}
+use Rattle.page_tables.proofs.LeafMap.{passes, missed-below, keys-alike, cell_at-apart}
 use Rattle.page_tables.proofs.GoneCell.{cell_at-stays}
 use Rattle.page_tables.proofs.FirstCell.{find-head, find-tail, all-above}
 use Rattle.page_tables.proofs.ClearedCell.{present-pages}

@@ -1,12 +1,12 @@
 -- The map of the cells behind a drop.
-use Rattle.std.proofs.Common.{◌≡◌, ◌≢◌, ℕ, ◌+◌, List, [], ◌∷◌, length, map, Option, Some, None, cond, eqb, refl, sym, ◌∙◌, ap, subst, arith, inl, inr}
+use Rattle.std.proofs.Common.{◌≡◌, ◌≢◌, ℕ, List, [], ◌∷◌, length, map, Some, None, cond, eqb, refl, sym, ◌∙◌, ap, subst, arith, inl, inr}
 use Rattle.std.specs.Prelude.{Bool, true, false, not, T, ◌||◌, ◌&&◌, ◌==◌, is_some, filter, unwrap_or}
-use Rattle.std.specs.Ordering.{nat_cmp, eq_by_cmp}
+use Rattle.std.specs.Ordering.{nat_cmp}
 use Rattle.std.specs.List.{AllByRecursion}
 use Rattle.std.specs.FinMap.{find, is_sorted, nat_cmp-IsAntisymmetric}
-use Rattle.std.specs.FinMap.Entries.{below_all, where_key, is_sorted-where_key, find-where_key}
-use Rattle.std.proofs.lemmas.Bool.{cases_eq, cond-true, cond-false, eq-eqb, ne_eqb, false≢true}
-use Rattle.kernel_meaning.specs.Leaves.{CellLeaves, Kept, Versions, no_versions, unused_cell, has_pages, is_joined, kept_by, without_kept}
+use Rattle.std.specs.FinMap.Entries.{below_all, is_sorted-where_key, find-where_key}
+use Rattle.std.proofs.lemmas.Bool.{cases_eq, cond-false, eq-eqb, ne_eqb, false≢true}
+use Rattle.kernel_meaning.specs.Leaves.{CellLeaves, Kept, no_versions, unused_cell, has_pages, kept_by, without_kept}
 use Rattle.kernel_meaning.specs.FrameLaw.{Leaves, cell_at, with_cell, is_used, snapshot_cells}
 use Rattle.kernel_meaning.specs.EventRequests.{without_snapshot_at}
 use Rattle.leaf_cell.specs.CellView.{AreUnjoined, without_snapshot}

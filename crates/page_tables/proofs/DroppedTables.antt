@@ -1,9 +1,9 @@
 -- The tables behind a drop.
-use Rattle.std.proofs.Common.{◌≡◌, ◌≢◌, ℕ, zero, suc, ◌+◌, ◌-◌, ◌*◌, ◌<◌, ◌≤◌, List, [], ◌∷◌, ◌++◌, length, map, replicate, Option, Some, None, cond, eqb, refl, sym, ◌∙◌, ap, subst, arith, inl, inr}
-use Rattle.std.specs.Prelude.{Bool, true, false, not, ◌||◌, ◌==◌, is_some, IsSome, unwrap_or, count_by, sum_by}
+use Rattle.std.proofs.Common.{◌≡◌, ℕ, zero, suc, ◌+◌, ◌-◌, ◌*◌, ◌<◌, ◌≤◌, List, [], ◌∷◌, ◌++◌, length, map, replicate, Option, Some, None, cond, refl, sym, ◌∙◌, ap, subst, arith, inl, inr}
+use Rattle.std.specs.Prelude.{Bool, true, false, not, ◌||◌, ◌==◌, is_some, IsSome, unwrap_or, sum_by}
 use Rattle.std.specs.Ordering.{nat_cmp}
 use Rattle.std.specs.Option.{option_and_then}
-use Rattle.std.specs.List.{list_any, slice_get}
+use Rattle.std.specs.List.{slice_get}
 use Rattle.std.specs.FinMap.{get, find, remove, empty, get-empty, get-remove}
 use Rattle.std.specs.Cmp.{nat_cmp_total}
 use Rattle.std.proofs.lemmas.Bool.{cases_eq, eq-eqb, ne_eqb, false≢true}
@@ -11,12 +11,11 @@ use Rattle.std.proofs.lemmas.Option.{slice_get_within}
 use Rattle.vm_base.specs.Deals.{Deal, Returned, LeadsAlong}
 use Rattle.vm_base.specs.FlatMemory.{PageMap}
 use Rattle.vm_base.proofs.DealLemmas.{LeadsAlong-append}
-use Rattle.kernel_meaning.specs.Requests.{answers_of}
-use Rattle.kernel_meaning.specs.Leaves.{CellLeaves, Kept, unused_cell, has_pages, kept_by, without_kept, share}
+use Rattle.kernel_meaning.specs.Leaves.{Kept, unused_cell, has_pages, kept_by, without_kept, share}
 use Rattle.kernel_meaning.specs.CellAccount.{CellState, CellAccount, empty_state}
 use Rattle.kernel_meaning.specs.FrameLaw.{Leaves, cell_at, is_used, snapshot_cells, held_frames}
 use Rattle.kernel_meaning.specs.EventRequests.{without_snapshot_at, snapshot_dropped}
-use Rattle.leaf_cell.specs.CellView.{CellView, without_snapshot, bytes_in, held_of}
+use Rattle.leaf_cell.specs.CellView.{CellView, without_snapshot, bytes_in}
 use Rattle.leaf_cell.specs.Standing.{StandsFor}
 use Rattle.table_levels.specs.Cells.{CellMap, tables_of}
 use Rattle.table_levels.specs.Requests.{returned}
@@ -25,9 +24,9 @@ use Rattle.page_tables.specs.declared.slot.Slot.{Slot}
 use Rattle.page_tables.specs.declared.tables.SnapshotTables.{SnapshotTables}
 use Rattle.page_tables.specs.declared.tables.PageTables.{PageTables}
 use Rattle.page_tables.specs.Sides.{Sides}
-use Rattle.page_tables.specs.Courses.{requests_between, progress_between, Runs}
-use Rattle.page_tables.specs.Held.{frames_in, shares_in}
-use Rattle.page_tables.specs.Standing.{owner_at, state_in, AreKept, AreCellsOf, AreSlotsOf, StandFor, TablesStandFor, number_of}
+use Rattle.page_tables.specs.Courses.{requests_between, Runs}
+use Rattle.page_tables.specs.Held.{shares_in}
+use Rattle.page_tables.specs.Standing.{owner_at, state_in, AreKept, AreCellsOf, AreSlotsOf, StandFor, number_of}
 use Rattle.page_tables.specs.Forking.{AllBecome, Becomes, AreFreed, owner_if_used, dropped_state, snapshots_without, MadeOfSnapshots}
 use Rattle.page_tables.specs.Returning.{Returning}
 use Rattle.page_tables.proofs.TouchRuns.{answers-returned}

@@ -1,15 +1,15 @@
 -- A fork and a drop at one slot.
-use Rattle.std.proofs.Common.{◌≡◌, ◌≢◌, ℕ, ◌+◌, ◌-◌, ◌≤◌, ◌<◌, List, [], ◌∷◌, ◌++◌, length, map, Option, Some, None, Result, Ok, Err, cond, refl, sym, ◌∙◌, ap, subst, arith, inl, inr}
-use Rattle.std.specs.Prelude.{Bool, true, false, replicate, is_some, unwrap_or, ◌==◌, ◌||◌, not, IsSome, OnOk}
+use Rattle.std.proofs.Common.{◌≡◌, ℕ, ◌+◌, ◌-◌, ◌≤◌, List, [], ◌∷◌, length, Option, Some, None, Result, Ok, Err, cond, refl, sym, ◌∙◌, ap, subst, arith, inl, inr}
+use Rattle.std.specs.Prelude.{true, false, is_some, ◌==◌, ◌||◌, not, OnOk}
 use Rattle.std.proofs.lemmas.Bool.{false≢true, ne_eqb}
 use Rattle.vm_base.specs.declared.fork_mode.Mode.TheVariants.{Eager}
 use Rattle.vm_base.specs.declared.frame_request.Want.TheVariants as want
-use Rattle.vm_base.specs.Deals.{Deal, Granted, Denied, Returned, LeadsAlong}
+use Rattle.vm_base.specs.Deals.{Deal, Granted, Denied, LeadsAlong}
 use Rattle.vm_base.specs.declared.refusals.Refused.{Refused}
 use Rattle.std.specs.FinMap.{insert}
 use Rattle.kernel_meaning.specs.Requests.{Answer, Yes, No, deal_of, answers_of, first_answer, opening_requests}
-use Rattle.kernel_meaning.specs.Leaves.{CellLeaves, Kept, Own, has_pages, is_lost, kept_by, version_at, without_kept, with_kept, share}
-use Rattle.kernel_meaning.specs.CellActs.{Course, opening_course, asking, eager_fork_answered, with_fork, forked}
+use Rattle.kernel_meaning.specs.Leaves.{CellLeaves, Kept, Own, has_pages, kept_by, with_kept, share}
+use Rattle.kernel_meaning.specs.CellActs.{Course, opening_course, asking, eager_fork_answered, with_fork}
 use Rattle.kernel_meaning.specs.CellAccount.{CellAccount, CellState, Fork, Drop as DropAct}
 use Rattle.kernel_meaning.specs.FrameLaw.{is_used}
 use Rattle.leaf_cell.specs.CellView.{CellView, without_snapshot}
@@ -18,10 +18,9 @@ use Rattle.leaf_cell.specs.Standing.{StandsFor, TakesAccount, MadeAct}
 use Rattle.leaf_cell.specs.States.{refused_count, nth_number}
 use Rattle.leaf_cell.proofs.Renamed.{has_pages-renamed}
 use Rattle.leaf_cell.proofs.HeldShare.{share-stands}
-use Rattle.table_levels.specs.Requests.{Asks, returned}
+use Rattle.table_levels.specs.Requests.{Asks}
 use Rattle.page_tables.specs.declared.slot.Slot.{Slot}
-use Rattle.page_tables.specs.Held.{shares_in}
-use Rattle.page_tables.specs.Forking.{Becomes, is_forked, forked_leaves, forked_state, same_leaves, same_state, dropped_state}
+use Rattle.page_tables.specs.Forking.{Becomes, forked_leaves, forked_state, dropped_state}
 use Rattle.page_tables.specs.Returning.{Returning}
 use Rattle.page_tables.proofs.SnapshotShares.{share-falls}
 

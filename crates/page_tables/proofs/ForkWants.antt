@@ -1,12 +1,12 @@
 -- What a fork asks for, and the event that asks for it.
-use Rattle.std.proofs.Common.{◌≡◌, ℕ, ◌+◌, ◌/◌, ◌^◌, List, [], ◌∷◌, ◌++◌, length, map, replicate, Option, Some, None, refl, sym, ◌∙◌, ap, subst, append_assoc, append-nil, length-append, arith}
+use Rattle.std.proofs.Common.{◌≡◌, ℕ, ◌+◌, ◌/◌, ◌^◌, List, [], ◌∷◌, ◌++◌, length, map, replicate, Some, None, refl, ◌∙◌, ap, append_assoc, length-append, arith}
 use Rattle.std.proofs.lemmas.List.{length-replicate}
 use Rattle.vm_base.specs.declared.fork_mode.Mode.TheVariants.{Eager}
 use Rattle.vm_base.specs.declared.frame_request.Want.{Want}
 use Rattle.vm_base.specs.declared.frame_request.Want.TheVariants as want
-use Rattle.vm_base.specs.Deals.{Deal, Granted, Denied, Returned}
+use Rattle.vm_base.specs.Deals.{Denied}
 use Rattle.vm_base.specs.Places.{distinct, directory_frames}
-use Rattle.kernel_meaning.specs.Requests.{Answer, Yes, No, RowEnd, answers_of, asked_in_row}
+use Rattle.kernel_meaning.specs.Requests.{Answer, No, RowEnd, answers_of, asked_in_row}
 use Rattle.kernel_meaning.specs.FrameLaw.{Leaves, parent_cells}
 use Rattle.kernel_meaning.specs.EventRequests as event
 use Rattle.kernel_meaning.specs.EventRequests.{Progress, FrameRefusal, fork_wants, fork_answered, snapshot_forked, with_fork_at}

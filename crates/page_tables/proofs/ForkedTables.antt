@@ -1,5 +1,5 @@
 -- The tables behind a fork.
-use Rattle.std.proofs.Common.{◌≡◌, ◌≢◌, ℕ, ◌+◌, ◌*◌, ◌<◌, ◌≤◌, List, [], ◌∷◌, ◌++◌, length, map, replicate, Option, Some, None, Result, Ok, Err, cond, eqb, refl, sym, ◌∙◌, ap, subst, arith, inl, inr}
+use Rattle.std.proofs.Common.{◌≡◌, ℕ, ◌+◌, ◌*◌, ◌<◌, ◌≤◌, List, [], ◌∷◌, ◌++◌, length, map, replicate, Option, Some, None, Err, cond, refl, sym, ◌∙◌, ap, subst, arith, inl, inr}
 use Rattle.std.specs.Prelude.{Bool, true, false, ◌||◌, ◌==◌, is_some}
 use Rattle.std.specs.Ordering.{nat_cmp}
 use Rattle.std.specs.Option.{option_and_then}
@@ -9,13 +9,11 @@ use Rattle.std.proofs.lemmas.Bool.{cases_eq, eq-eqb, ne_eqb, false≢true}
 use Rattle.vm_base.specs.declared.fork_mode.Mode.TheVariants.{Eager}
 use Rattle.vm_base.specs.declared.frame_request.Want.{Want}
 use Rattle.vm_base.specs.declared.frame_request.Want.TheVariants as want
-use Rattle.vm_base.specs.declared.refusals.Refused.{Refused}
 use Rattle.vm_base.specs.Deals.{Deal, LeadsAlong}
 use Rattle.vm_base.specs.FlatMemory.{PageMap}
 use Rattle.vm_base.proofs.NumberedMaps.{get_inserted_here, get_inserted_apart}
-use Rattle.kernel_meaning.specs.Leaves.{CellLeaves, Own, has_pages, with_kept}
+use Rattle.kernel_meaning.specs.Leaves.{Own, has_pages, with_kept}
 use Rattle.kernel_meaning.specs.CellActs.{with_fork}
-use Rattle.kernel_meaning.specs.CellAccount.{CellState, empty_state}
 use Rattle.kernel_meaning.specs.FrameLaw.{Leaves, cell_at, is_used, parent_cells}
 use Rattle.kernel_meaning.specs.EventRequests.{with_fork_at, snapshot_forked, fork_wants}
 use Rattle.table_levels.specs.Cells.{CellMap}
@@ -25,7 +23,7 @@ use Rattle.page_tables.specs.declared.tables.SnapshotTables.{SnapshotTables}
 use Rattle.page_tables.specs.declared.tables.PageTables.{PageTables}
 use Rattle.page_tables.specs.Sides.{Sides}
 use Rattle.page_tables.specs.Standing.{owner_at, AreKept, AreCellsOf, StandFor, TablesStandFor}
-use Rattle.page_tables.specs.Forking.{AllBecome, Becomes, forked_count, forked_leaves, forked_state, same_leaves, same_state, fork_refusal, snapshots_with, SnapshotPages, MadeOfSnapshots, FollowsAt}
+use Rattle.page_tables.specs.Forking.{AllBecome, Becomes, forked_count, forked_leaves, forked_state, same_leaves, same_state, snapshots_with, MadeOfSnapshots}
 use Rattle.page_tables.proofs.Room.{directory-cells}
 use Rattle.page_tables.proofs.Changing.{undoes-fork}
 use Rattle.page_tables.proofs.StandingFacts.{found-is-used, no-numbers, no-page, owners-same, slots-become, forks-counted}

@@ -1,18 +1,18 @@
 -- The frames of the frame law lie in the two directories and in the cells of the slots.
-use Rattle.std.proofs.Common.{◌≡◌, ◌≢◌, ℕ, zero, suc, ◌+◌, ◌<◌, List, [], ◌∷◌, ◌++◌, length, map, Option, Some, None, cond, eqb, refl, sym, ◌∙◌, ap, subst, arith, inl, inr}
-use Rattle.std.specs.Prelude.{Bool, true, false, T, ◌||◌, ◌&&◌, ◌==◌, is_some, IsSome, filter, flat_map, count_by, sum_by, unwrap_or, slice_set, slice_index_or}
+use Rattle.std.proofs.Common.{◌≡◌, ◌≢◌, ℕ, suc, ◌+◌, ◌<◌, List, [], ◌∷◌, ◌++◌, length, map, Option, Some, None, cond, eqb, refl, sym, ◌∙◌, ap, subst, arith}
+use Rattle.std.specs.Prelude.{Bool, true, false, T, ◌||◌, ◌&&◌, ◌==◌, is_some, IsSome, filter, flat_map, sum_by, unwrap_or, slice_set, slice_index_or}
 use Rattle.std.specs.Ordering.{nat_cmp, eq_by_cmp}
 use Rattle.std.specs.Option.{option_and_then}
 use Rattle.std.specs.List.{slice_get, list_any, AllByRecursion}
 use Rattle.std.specs.FinMap.{get, keys, entries, find, is_sorted, entries_sorted, get-entries}
 use Rattle.std.specs.FinMap.Entries.{below_all}
-use Rattle.std.proofs.lemmas.Bool.{cases_eq, cond-true, cond-false, eq-eqb, ne_eqb, false≢true}
+use Rattle.std.proofs.lemmas.Bool.{eq-eqb, ne_eqb, false≢true}
 use Rattle.std.proofs.lemmas.Bool.Decides.{nat_tests}
 use Rattle.std.proofs.lemmas.List.Sums.{sum_by-cons, sum_by-set}
 use Rattle.std.proofs.lemmas.Option.{slice_get_within, get_or_from_slice_get}
 use Rattle.vm_base.specs.Places.{distinct, directory_frames}
 use Rattle.kernel_meaning.specs.Leaves.{CellLeaves, Kept, unused_cell, kept_by, share}
-use Rattle.kernel_meaning.specs.FrameLaw.{Leaves, cell_at, cells_where, parent_cells, snapshot_cells, numbers_of, snapshot_tables, held_frames}
+use Rattle.kernel_meaning.specs.FrameLaw.{Leaves, cell_at, cells_where, parent_cells, snapshot_cells, snapshot_tables, held_frames}
 use Rattle.kernel_meaning.proofs.Shares.{held_frames-shares}
 use Rattle.leaf_cell.specs.CellView.{held_of}
 use Rattle.leaf_cell.proofs.HeldShare.{share-stands}

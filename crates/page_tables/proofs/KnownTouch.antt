@@ -1,23 +1,22 @@
 -- The touch of a page in a cell that the directory has.
-use Rattle.std.proofs.Common.{◌≡◌, ◌≢◌, ℕ, ◌+◌, ◌*◌, ◌/◌, ◌%◌, ◌<◌, ◌≤◌, List, [], ◌∷◌, ◌++◌, length, Option, Some, None, Result, Ok, Err, cond, eqb, refl, sym, ◌∙◌, ap, subst, arith, inl, inr}
-use Rattle.std.specs.Prelude.{OnOk, true, false, is_some, slice_set, map, replicate, ◌||◌, ◌==◌, not}
-use Rattle.std.specs.Option.{option_and_then, option_map}
+use Rattle.std.proofs.Common.{◌≡◌, ◌≢◌, ℕ, ◌+◌, ◌*◌, ◌/◌, ◌%◌, ◌<◌, List, [], ◌++◌, length, Option, Some, None, Result, Ok, Err, refl, sym, ◌∙◌, ap, subst, arith, inl, inr}
+use Rattle.std.specs.Prelude.{OnOk, true, is_some, slice_set, map, ◌||◌, ◌==◌, not}
+use Rattle.std.specs.Option.{option_and_then}
 use Rattle.std.specs.List.{slice_get}
 use Rattle.std.specs.FinMap.{get}
 use Rattle.std.proofs.lemmas.Bool.{cases_eq, false≢true}
 use Rattle.std.proofs.lemmas.List.{append-nil}
-use Rattle.std.proofs.lemmas.Option.{slice_get_within}
 use Rattle.vm_base.specs.declared.refusals.Refused.{Refused}
-use Rattle.vm_base.specs.Deals.{Deal, LeadsAlong}
+use Rattle.vm_base.specs.Deals.{Deal}
 use Rattle.vm_base.specs.Places.{cell_of}
 use Rattle.kernel_meaning.specs.Requests.{answers_of, Answer, asked_in_row}
-use Rattle.kernel_meaning.specs.Leaves.{CellLeaves, version_at, has_pages}
+use Rattle.kernel_meaning.specs.Leaves.{CellLeaves, has_pages}
 use Rattle.kernel_meaning.specs.FrameLaw.{Leaves, cell_at, with_cell, is_used, parent_cells}
 use Rattle.kernel_meaning.specs.CellActs.{Course, touched}
 use Rattle.kernel_meaning.specs.CellAccount.{CellState, CellAccount, Touch, state_after, pages_after}
-use Rattle.kernel_meaning.specs.EventRequests.{Progress, FrameRefusal, page_touched, page_in_cell, missing_tables, tables_answered, cell_touched, cell_touch_ended, with_course, course_at}
+use Rattle.kernel_meaning.specs.EventRequests.{Progress, FrameRefusal, page_touched, missing_tables, tables_answered, cell_touch_ended, with_course}
 use Rattle.leaf_cell.specs.CellView.{CellView, AreUnjoined}
-use Rattle.leaf_cell.specs.Standing.{StandsFor, TakesAccount, MadeAct}
+use Rattle.leaf_cell.specs.Standing.{StandsFor, TakesAccount}
 use Rattle.leaf_cell.specs.States.{refused_count}
 use Rattle.leaf_cell.specs.Touching.{IsTouched}
 use Rattle.page_tables.specs.declared.slot.Slot.{Slot}
@@ -27,15 +26,15 @@ use Rattle.page_tables.specs.Courses.{requests_between, course_between, progress
 use Rattle.page_tables.specs.Standing.{owner_at, state_in, StandFor, TablesStandFor}
 use Rattle.page_tables.specs.Accesses.{IsReady}
 use Rattle.page_tables.specs.Making.{page_refusal, pages_with, Follows, FollowsTouch}
-use Rattle.page_tables.proofs.TouchRuns.{touched_alone, touch-runs}
-use Rattle.page_tables.proofs.TouchShapes.{IsTouchCourse, EndsTouch, touch-course, touch-size, touch-unjoined, touch-numbers, page-used, page-there}
-use Rattle.page_tables.proofs.LeafMap.{found-with_cell, length-with_cell, cell_at-here, cell_at-apart, found-used}
+use Rattle.page_tables.proofs.TouchRuns.{touch-runs}
+use Rattle.page_tables.proofs.TouchShapes.{IsTouchCourse, EndsTouch, touch-course, touch-size, touch-unjoined, touch-numbers, page-there}
+use Rattle.page_tables.proofs.LeafMap.{found-with_cell, length-with_cell, cell_at-here, cell_at-apart}
 use Rattle.page_tables.proofs.Missing.{missing-known}
 use Rattle.page_tables.proofs.PageMaps.{with_page-inside, with_page-outside}
 use Rattle.page_tables.proofs.SlotLemmas.{owner-same}
 use Rattle.page_tables.proofs.Again.{with_cell-same}
 use Rattle.page_tables.proofs.Readiness.{touched-ready, touched-still}
-use Rattle.page_tables.proofs.Acting.{sides_acted, slots_acted, tables-acted}
+use Rattle.page_tables.proofs.Acting.{tables-acted}
 
 -- a cell's touch was refused, and so was the page's
 abbrev pub refusal_at : ℕ → Option ℕ → Option FrameRefusal

@@ -1,6 +1,6 @@
 -- The map of the cells: what it has at a cell after an act there, and that it stays in order.
 use Rattle.std.proofs.Common.{◌≡◌, ◌≢◌, ℕ, ◌+◌, List, [], ◌∷◌, length, map, Option, Some, None, cond, eqb, refl, sym, ◌∙◌, ap, subst, arith, inl, inr}
-use Rattle.std.specs.Prelude.{Bool, true, false, not, ◌&&◌, ◌||◌, T, is_some, filter, unwrap_or, sum_by}
+use Rattle.std.specs.Prelude.{Bool, true, false, ◌&&◌, ◌||◌, T, is_some, filter, unwrap_or, sum_by}
 use Rattle.std.specs.Ordering.{nat_cmp, is_lt, is_eq, eq_by_cmp}
 use Rattle.std.proofs.Common.{Ordering, Less, Equal, Greater}
 use Rattle.std.proofs.lemmas.List.Sums.{sum_by-cons}

@@ -1,12 +1,11 @@
 -- The touch of a page in a cell that the directory lacks.
-use Rattle.std.proofs.Common.{◌≡◌, ◌≢◌, ℕ, ◌+◌, ◌*◌, ◌/◌, ◌%◌, ◌<◌, ◌≤◌, List, [], ◌∷◌, ◌++◌, length, Option, Some, None, Result, Ok, Err, cond, eqb, refl, sym, ◌∙◌, ap, subst, arith, inl, inr}
-use Rattle.std.specs.Prelude.{true, false, is_some, slice_set, map, ◌||◌, ◌==◌, not, unwrap_or}
+use Rattle.std.proofs.Common.{◌≡◌, ℕ, ◌+◌, ◌*◌, ◌%◌, ◌<◌, ◌≤◌, List, [], ◌∷◌, ◌++◌, length, Option, Some, None, eqb, refl, sym, ◌∙◌, ap, subst, arith, inl, inr}
+use Rattle.std.specs.Prelude.{true, is_some, slice_set, map, ◌||◌, ◌==◌, not, unwrap_or}
 use Rattle.std.specs.Option.{option_and_then}
 use Rattle.std.specs.List.{slice_get}
 use Rattle.std.specs.FinMap.{get, insert, remove, keys}
 use Rattle.std.proofs.lemmas.Bool.{cases_eq, cond-true, cond-false, eq-eqb, ne_eqb, false≢true}
 use Rattle.std.proofs.lemmas.Option.{slice_get_within}
-use Rattle.vm_base.specs.declared.refusals.Refused.{Refused}
 use Rattle.vm_base.specs.declared.frame_request.Want.{Want}
 use Rattle.vm_base.specs.Deals.{Deal}
 use Rattle.vm_base.specs.Places.{cell_of}
@@ -19,7 +18,6 @@ use Rattle.kernel_meaning.specs.CellAccount.{CellState, CellAccount, Touch, stat
 use Rattle.kernel_meaning.specs.EventRequests.{page_touched, missing_tables}
 use Rattle.leaf_cell.specs.CellView.{CellView, AreUnjoined}
 use Rattle.leaf_cell.specs.Standing.{StandsFor, TakesAccount}
-use Rattle.leaf_cell.specs.States.{refused_count}
 use Rattle.leaf_cell.specs.Touching.{IsTouched}
 use Rattle.table_levels.specs.Cells.{CellMap}
 use Rattle.table_levels.proofs.CellLemmas.{get_removed}
@@ -29,7 +27,7 @@ use Rattle.page_tables.specs.Sides.{Sides}
 use Rattle.page_tables.specs.Courses.{course_between, RunsAt, Runs}
 use Rattle.page_tables.specs.Standing.{owner_at, state_in, StandFor, TablesStandFor, IsSlotFor}
 use Rattle.page_tables.specs.Accesses.{IsReady}
-use Rattle.page_tables.specs.Making.{page_refusal, pages_with, Follows, FollowsTouch}
+use Rattle.page_tables.specs.Making.{pages_with, Follows, FollowsTouch}
 use Rattle.page_tables.proofs.TouchRuns.{touch-runs}
 use Rattle.page_tables.proofs.TouchShapes.{IsTouchCourse, EndsTouch, touch-course, touch-size, touch-unjoined, touch-numbers, page-there}
 use Rattle.page_tables.proofs.LeafMap.{found-with_cell, length-with_cell, cell_at-here, cell_at-apart}
@@ -39,7 +37,7 @@ use Rattle.page_tables.proofs.Acting.{tables-acted, owner-kept}
 use Rattle.page_tables.proofs.Again.{tables-later, with_cell-same}
 use Rattle.page_tables.proofs.Readiness.{touched-ready, touched-still}
 use Rattle.page_tables.proofs.Room.{directory-cells}
-use Rattle.page_tables.proofs.KnownTouch.{refusal_at, refusal-of}
+use Rattle.page_tables.proofs.KnownTouch.{refusal_at}
 use Rattle.page_tables.proofs.Rows.{deals_behind, deals_up_to, new-runs, lacking-runs}
 
 module _ (old : PageTables) (sides : Sides) (st : TablesStandFor old sides) (page s : ℕ) (slot : Slot)

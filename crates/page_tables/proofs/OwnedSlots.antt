@@ -1,13 +1,13 @@
 -- Slots that cells have, and the frames in them.
-use Rattle.std.proofs.Common.{◌≡◌, ◌≢◌, ℕ, ◌+◌, ◌<◌, ◌≤◌, List, [], ◌∷◌, length, Option, Some, None, refl, sym, ◌∙◌, ap, subst, arith}
-use Rattle.std.specs.Prelude.{Bool, true, false, is_some, slice_set, slice_index_or, sum_by, zero, suc, unwrap_or}
+use Rattle.std.proofs.Common.{◌≡◌, ℕ, ◌+◌, ◌<◌, ◌≤◌, List, [], ◌∷◌, length, Option, Some, None, refl, sym, ◌∙◌, ap, subst, arith}
+use Rattle.std.specs.Prelude.{is_some, slice_set, slice_index_or, zero, suc, unwrap_or}
 use Rattle.std.specs.Option.{option_and_then}
 use Rattle.std.specs.List.{slice_get}
 use Rattle.std.proofs.lemmas.Bool.{false≢true}
 use Rattle.std.proofs.lemmas.List.Sums.{sum_by-set, sum_by-cons}
 use Rattle.std.proofs.lemmas.Option.{slice_get_within, get_or_from_slice_get, slice_get_read}
 use Rattle.kernel_meaning.specs.Leaves.{Kept, is_joined}
-use Rattle.kernel_meaning.specs.CellAccount.{CellAccount, CellState}
+use Rattle.kernel_meaning.specs.CellAccount.{CellAccount}
 use Rattle.leaf_cell.specs.CellView.{CellView, AreUnjoined, held_of}
 use Rattle.leaf_cell.specs.Renaming.{AreKeptAlike}
 use Rattle.leaf_cell.specs.Standing.{StandsFor}

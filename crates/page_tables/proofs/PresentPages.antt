@@ -1,18 +1,17 @@
 -- Where no page of a range is present, the parent has none there.
-use Rattle.std.proofs.Common.{◌≡◌, ◌≢◌, ℕ, zero, suc, ◌+◌, ◌-◌, ◌*◌, ◌/◌, ◌%◌, ◌<◌, ◌≤◌, List, [], ◌∷◌, ◌++◌, length, take, drop, replicate, Option, Some, None, cond, refl, sym, ◌∙◌, ap, subst, arith, append_assoc, inl, inr, ◌⊎◌}
+use Rattle.std.proofs.Common.{◌≡◌, ℕ, zero, suc, ◌+◌, ◌-◌, ◌*◌, ◌/◌, ◌%◌, ◌<◌, ◌≤◌, [], ◌∷◌, ◌++◌, length, take, drop, replicate, Option, Some, None, cond, refl, sym, ◌∙◌, ap, subst, arith, append_assoc, inl, inr}
 use Rattle.std.specs.Prelude.{Bool, true, false, is_some}
 use Rattle.std.specs.Ordering.{nat_cmp}
 use Rattle.std.specs.List.{slice_get, list_any}
 use Rattle.std.specs.Option.{option_map}
 use Rattle.std.specs.FinMap.{get, find, retain_keys, get-empty}
 use Rattle.std.proofs.lemmas.Bool.{false≢true}
-use Rattle.vm_base.specs.FlatMemory.{PageMap}
 use Rattle.vm_base.specs.FlatStep.{is_beyond}
 use Rattle.vm_base.proofs.NumberedMaps.{same_numbered}
 use Rattle.kernel_meaning.specs.Leaves.{Versions, version_at, has_present, without_versions}
 use Rattle.kernel_meaning.specs.FrameLaw.{cell_at}
 use Rattle.kernel_meaning.specs.EventRequests.{first_in_cell, count_in_cell}
-use Rattle.leaf_cell.specs.CellView.{CellView, bytes_in, parent_page}
+use Rattle.leaf_cell.specs.CellView.{CellView, bytes_in}
 use Rattle.leaf_cell.specs.Standing.{StandsFor}
 use Rattle.leaf_cell.proofs.AbsentPages.{has_present-there}
 use Rattle.leaf_cell.proofs.Renamed.{version_at-renamed}

@@ -1,8 +1,7 @@
 -- To protect pages where no leaf is joined asks for nothing and changes no leaf.
-use Rattle.std.proofs.Common.{◌≡◌, ℕ, List, [], ◌∷◌, ◌++◌, None, cond, refl, sym, ◌∙◌, ap, append-nil}
+use Rattle.std.proofs.Common.{◌≡◌, ℕ, List, [], ◌∷◌, None, cond, refl, sym, ◌∙◌, ap, append-nil}
 use Rattle.std.specs.Prelude.{true, false}
 use Rattle.kernel_meaning.specs.Leaves.{has_present}
-use Rattle.kernel_meaning.specs.FrameLaw.{Leaves, cell_at}
 use Rattle.kernel_meaning.specs.CellActs.{Course, before_change, protected}
 use Rattle.kernel_meaning.specs.EventRequests.{Progress, changed_cells, course_at, with_course, protected_at, pages_protected, first_in_cell, count_in_cell}
 use Rattle.leaf_cell.specs.CellView.{AreUnjoined}

@@ -1,21 +1,20 @@
 -- The touch of a range is refused at a page, and what was added is taken out again.
-use Rattle.std.proofs.Common.{◌≡◌, ◌≢◌, ℕ, ◌+◌, ◌-◌, ◌*◌, ◌/◌, ◌%◌, ◌^◌, ◌<◌, ◌≤◌, List, [], ◌∷◌, ◌++◌, length, Option, Some, None, cond, eqb, refl, sym, ◌∙◌, ap, subst, arith, inl, inr, append_assoc, append-nil, nat_le, nat_lt}
-use Rattle.std.specs.Prelude.{Bool, true, false, not, ◌||◌, ◌&&◌, ◌==◌, is_some, IsSome, filter, zero, suc, All, replicate, slice_index_or}
-use Rattle.std.specs.Ordering.{nat_cmp}
+use Rattle.std.proofs.Common.{◌≡◌, ℕ, ◌+◌, ◌-◌, ◌*◌, ◌/◌, ◌%◌, ◌^◌, ◌<◌, ◌≤◌, List, [], ◌∷◌, ◌++◌, length, Option, Some, None, cond, eqb, refl, sym, ◌∙◌, ap, subst, arith, inl, inr, append_assoc, append-nil}
+use Rattle.std.specs.Prelude.{Bool, true, false, not, ◌||◌, ◌&&◌, is_some, IsSome, filter, zero, suc, All, slice_index_or}
 use Rattle.std.specs.List.{range_with_len, list_any}
-use Rattle.std.specs.FinMap.{get, retain_keys, get-retain_keys, nat_cmp-IsAntisymmetric}
-use Rattle.std.proofs.lemmas.Bool.{cases_eq, cases_Bool, cases_lt, cond-true, cond-false, eq-eqb, ne_eqb, false≢true}
+use Rattle.std.specs.FinMap.{get, get-retain_keys, nat_cmp-IsAntisymmetric}
+use Rattle.std.proofs.lemmas.Bool.{cases_eq, cases_Bool, cases_lt, eq-eqb, ne_eqb, false≢true}
 use Rattle.std.proofs.lemmas.Bool.Decides.{nat_tests}
 use Rattle.std.proofs.lemmas.List.FromFn.{length-range_with_len}
 use Rattle.vm_base.specs.Places.{cell_of}
-use Rattle.vm_base.specs.Deals.{Deal, Returned}
+use Rattle.vm_base.specs.Deals.{Deal}
 use Rattle.vm_base.specs.FlatMemory.{PageMap}
 use Rattle.vm_base.specs.FlatStep.{with_page, with_pages, is_beyond}
 use Rattle.vm_base.proofs.NumberedMaps.{same_numbered}
 use Rattle.vm_base.proofs.FlatPages.{get-with_pages_below}
-use Rattle.kernel_meaning.specs.Requests.{Answer, answers_of, given_back}
+use Rattle.kernel_meaning.specs.Requests.{Answer, answers_of}
 use Rattle.kernel_meaning.specs.FrameLaw.{Leaves, held_frames}
-use Rattle.kernel_meaning.specs.EventRequests.{Progress, FrameRefusal, page_touched, pages_touched, pages_touched_behind, touch_goes_on, progress_shrunk, added_by, without_pages, without_page, page_version}
+use Rattle.kernel_meaning.specs.EventRequests.{FrameRefusal, pages_touched, pages_touched_behind, touch_goes_on, added_by, without_pages, without_page, page_version}
 use Rattle.table_levels.specs.Requests.{returned}
 use Rattle.table_levels.specs.Cells.{tables_of}
 use Rattle.page_tables.specs.declared.tables.PageTables.{PageTables}
@@ -26,7 +25,7 @@ use Rattle.page_tables.specs.Held.{frames_in, shares_in, snapshot_frames, frames
 use Rattle.page_tables.specs.Accesses.{IsReady}
 use Rattle.page_tables.specs.Clearing.{sides_without}
 use Rattle.page_tables.specs.Making.{FollowsTouch}
-use Rattle.page_tables.specs.Ranges.{absent_pages, IsTouchedUpTo, FollowsRange, pages_with_range, sides_without_pages, AreThere}
+use Rattle.page_tables.specs.Ranges.{absent_pages, IsTouchedUpTo, FollowsRange, sides_without_pages, AreThere}
 use Rattle.page_tables.proofs.HeldFrames.{frames-law}
 use Rattle.page_tables.proofs.PageMaps.{present_or_zeros, with_page-apart, with_page-here}
 use Rattle.page_tables.proofs.RangeRoom.{among-range}

@@ -1,5 +1,5 @@
 -- The touch of a range goes on by one page, and ends.
-use Rattle.std.proofs.Common.{◌≡◌, ◌≢◌, ℕ, ◌+◌, ◌-◌, ◌/◌, ◌<◌, ◌≤◌, List, [], ◌∷◌, ◌++◌, length, map, Option, Some, None, cond, eqb, refl, sym, ◌∙◌, ap, subst, arith, inl, inr, append_assoc, append-nil}
+use Rattle.std.proofs.Common.{◌≡◌, ℕ, ◌+◌, ◌-◌, ◌<◌, ◌≤◌, List, [], ◌∷◌, ◌++◌, None, cond, eqb, refl, sym, ◌∙◌, ap, subst, arith, inl, inr, append_assoc, append-nil}
 use Rattle.std.specs.Prelude.{Bool, true, false, not, ◌||◌, is_some, filter, zero, suc}
 use Rattle.std.specs.List.{range_with_len, list_any}
 use Rattle.std.specs.FinMap.{get}
@@ -11,15 +11,14 @@ use Rattle.vm_base.specs.FlatMemory.{PageMap}
 use Rattle.vm_base.specs.FlatStep.{with_page, with_pages}
 use Rattle.vm_base.proofs.Ranges.{range-split}
 use Rattle.kernel_meaning.specs.Requests.{Answer, answers_of}
-use Rattle.kernel_meaning.specs.FrameLaw.{Leaves}
-use Rattle.kernel_meaning.specs.EventRequests.{Progress, FrameRefusal, page_touched, pages_touched, pages_touched_behind, touch_goes_on, added_by, page_version}
+use Rattle.kernel_meaning.specs.EventRequests.{page_touched, pages_touched, pages_touched_behind, touch_goes_on, added_by, page_version}
 use Rattle.page_tables.specs.declared.tables.PageTables.{PageTables}
 use Rattle.page_tables.specs.Sides.{Sides}
 use Rattle.page_tables.specs.Courses.{progress_between}
 use Rattle.page_tables.specs.Standing.{TablesStandFor}
 use Rattle.page_tables.specs.Accesses.{IsReady}
-use Rattle.page_tables.specs.Making.{Follows, FollowsTouch}
-use Rattle.page_tables.specs.Ranges.{HasRoom, cells_of_pages, absent_pages, IsTouchedUpTo, FollowsRange, pages_with_range}
+use Rattle.page_tables.specs.Making.{FollowsTouch}
+use Rattle.page_tables.specs.Ranges.{cells_of_pages, absent_pages, IsTouchedUpTo, FollowsRange}
 use Rattle.page_tables.proofs.TouchRuns.{answers-append}
 use Rattle.page_tables.proofs.PageMaps.{with_page-apart}
 use Rattle.page_tables.proofs.RangeRoom.{is_among, page-among, room-then}

@@ -1,15 +1,15 @@
 -- The directory has the parent's cells, and room for one more while a slot is free.
-use Rattle.std.proofs.Common.{◌≡◌, ◌≢◌, ℕ, ◌+◌, ◌<◌, ◌≤◌, List, [], ◌∷◌, length, map, Option, Some, None, cond, refl, sym, ◌∙◌, ap, subst, arith, inl, inr}
-use Rattle.std.specs.Prelude.{Bool, true, false, T, is_some, filter, count_by, unwrap_or, zero, suc}
+use Rattle.std.proofs.Common.{◌≡◌, ℕ, ◌+◌, ◌<◌, ◌≤◌, List, [], ◌∷◌, length, Option, Some, None, cond, refl, sym, ◌∙◌, ap, subst, arith, inl, inr}
+use Rattle.std.specs.Prelude.{Bool, true, false, is_some, filter, count_by, unwrap_or, zero, suc}
 use Rattle.std.specs.Ordering.{nat_cmp, eq_by_cmp}
 use Rattle.std.specs.Option.{option_and_then}
 use Rattle.std.specs.List.{slice_get}
-use Rattle.std.specs.FinMap.{get, len, keys, entries, find, is_sorted, entries_sorted, get-entries, len-entries}
+use Rattle.std.specs.FinMap.{get, len, keys, entries, find, entries_sorted, get-entries, len-entries}
 use Rattle.std.proofs.lemmas.Bool.{false≢true}
 use Rattle.std.proofs.lemmas.List.{length-map}
 use Rattle.std.proofs.lemmas.List.Sums.{count_by-le-length, sum_by-cons}
 use Rattle.kernel_meaning.specs.Leaves.{CellLeaves, unused_cell, has_pages}
-use Rattle.kernel_meaning.specs.FrameLaw.{Leaves, cell_at, parent_cells}
+use Rattle.kernel_meaning.specs.FrameLaw.{cell_at, parent_cells}
 use Rattle.table_levels.specs.Cells.{CellMap}
 use Rattle.page_tables.specs.declared.slot.Slot.{Slot}
 use Rattle.page_tables.specs.declared.tables.SnapshotTables.{SnapshotTables}

@@ -1,16 +1,16 @@
 -- Rows of requests, and the touch of a page that lacks directory tables.
-use Rattle.std.proofs.Common.{◌≡◌, ℕ, ◌+◌, ◌/◌, ◌%◌, List, [], ◌∷◌, ◌++◌, length, Option, Some, None, refl, sym, ◌∙◌, ap, subst, append_assoc, append-nil, arith}
-use Rattle.std.specs.Prelude.{replicate, suc}
+use Rattle.std.proofs.Common.{◌≡◌, ℕ, ◌+◌, ◌%◌, List, [], ◌∷◌, ◌++◌, length, Option, Some, None, refl, sym, ◌∙◌, ap, append_assoc, append-nil, arith}
+use Rattle.std.specs.Prelude.{suc}
 use Rattle.vm_base.specs.declared.frame_request.Want.{Want}
-use Rattle.vm_base.specs.Deals.{Deal, Granted, Denied, Returned}
+use Rattle.vm_base.specs.Deals.{Deal, Granted, Denied}
 use Rattle.vm_base.specs.Places.{cell_of}
 use Rattle.kernel_meaning.specs.Requests.{Answer, Yes, No, RowEnd, answers_of, asked_in_row, row_end}
 use Rattle.kernel_meaning.specs.Leaves.{CellLeaves}
 use Rattle.kernel_meaning.specs.FrameLaw.{Leaves, cell_at, with_cell, parent_cells}
-use Rattle.kernel_meaning.specs.CellActs.{Course, touched}
-use Rattle.kernel_meaning.specs.EventRequests.{Progress, FrameRefusal, page_touched, missing_tables, tables_answered, cell_touched, cell_touch_ended, with_course}
+use Rattle.kernel_meaning.specs.CellActs.{touched}
+use Rattle.kernel_meaning.specs.EventRequests.{Progress, page_touched, missing_tables, tables_answered, cell_touch_ended, with_course}
 use Rattle.table_levels.specs.Requests.{granted, returned}
-use Rattle.page_tables.specs.Courses.{requests_between, course_between, progress_between, RunsAt, Runs}
+use Rattle.page_tables.specs.Courses.{requests_between, progress_between, RunsAt, Runs}
 use Rattle.page_tables.proofs.TouchRuns.{answers-append, answers-returned}
 use Rattle.page_tables.proofs.KnownTouch.{refusal_at}
 

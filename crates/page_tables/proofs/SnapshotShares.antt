@@ -1,11 +1,11 @@
 -- The share of a cell that a snapshot joins, and of one that it leaves.
 use Rattle.std.proofs.Common.{◌≡◌, ℕ, ◌+◌, ◌≤◌, List, [], ◌∷◌, ◌++◌, length, cond, refl, sym, ◌∙◌, ap, subst, append_assoc, append-nil, arith, inl, inr}
-use Rattle.std.specs.Prelude.{Bool, true, false, not, ◌||◌, ◌==◌, flat_map, count_by, suc}
+use Rattle.std.specs.Prelude.{Bool, true, false, not, ◌||◌, ◌==◌, flat_map, count_by}
 use Rattle.std.specs.List.{list_any}
 use Rattle.std.proofs.lemmas.Bool.{false≢true}
 use Rattle.std.proofs.lemmas.List.Sums.{sum_by-cons}
 use Rattle.vm_base.specs.declared.fork_mode.Mode.TheVariants.{Eager}
-use Rattle.kernel_meaning.specs.Leaves.{CellLeaves, Kept, Own, Versions, has_pages, is_own, pairs_from, pairs_of, is_same_pair, distinct_pairs, named_pairs, without_kept, own_leaves, parent_leaves, share}
+use Rattle.kernel_meaning.specs.Leaves.{CellLeaves, Kept, Own, Versions, is_own, pairs_from, pairs_of, is_same_pair, distinct_pairs, named_pairs, without_kept, own_leaves, share}
 use Rattle.kernel_meaning.specs.CellActs.{with_fork}
 use Rattle.leaf_cell.specs.CellView.{without_snapshot}
 use Rattle.leaf_cell.proofs.PairCounts.{IsIn, same-pair, pair-same}

@@ -1,6 +1,6 @@
 -- What follows where tables stand for two sides.
-use Rattle.std.proofs.Common.{◌≡◌, ◌≢◌, ℕ, zero, suc, ◌+◌, ◌*◌, ◌<◌, ◌≤◌, List, [], ◌∷◌, length, map, Option, Some, None, cond, refl, sym, ◌∙◌, ap, subst, arith, inl, inr}
-use Rattle.std.specs.Prelude.{Bool, true, false, T, is_some, IsSome, count_by, sum_by, unwrap_or, filter}
+use Rattle.std.proofs.Common.{◌≡◌, ℕ, zero, suc, ◌+◌, ◌*◌, ◌<◌, ◌≤◌, List, [], ◌∷◌, length, map, Option, Some, None, cond, refl, sym, ◌∙◌, ap, subst, arith}
+use Rattle.std.specs.Prelude.{Bool, true, false, T, is_some, IsSome, count_by, sum_by, unwrap_or}
 use Rattle.std.specs.Ordering.{nat_cmp}
 use Rattle.std.specs.Option.{option_and_then}
 use Rattle.std.specs.List.{slice_get}
@@ -12,7 +12,7 @@ use Rattle.kernel_meaning.specs.Leaves.{CellLeaves, Kept, Versions, unused_cell,
 use Rattle.kernel_meaning.specs.FrameLaw.{Leaves, cell_at, is_used, parent_cells}
 use Rattle.kernel_meaning.specs.CellAccount.{CellState, empty_state}
 use Rattle.kernel_meaning.proofs.Shares.{parent_leaves-sum}
-use Rattle.leaf_cell.specs.CellView.{CellView, parent_page, bytes_in}
+use Rattle.leaf_cell.specs.CellView.{CellView, bytes_in}
 use Rattle.leaf_cell.specs.Standing.{StandsFor}
 use Rattle.table_levels.specs.Cells.{CellMap}
 use Rattle.page_tables.specs.declared.slot.Slot.{Slot}
@@ -25,7 +25,7 @@ use Rattle.page_tables.proofs.OwnedSlots.{owned-slot}
 use Rattle.page_tables.proofs.SlotLemmas.{stands-later}
 use Rattle.page_tables.proofs.HeldFrames.{all-found, sum-alike, owners-sum, slots-alike}
 use Rattle.page_tables.proofs.ForkSlots.{alone-viewed, pages-alike}
-use Rattle.page_tables.proofs.Changing.{sums-same, slice_get_there}
+use Rattle.page_tables.proofs.Changing.{slice_get_there}
 
 -- a cell is in the map where somebody has it
 pub found-is-used : (leaves : Leaves) → AreKept leaves → (c : ℕ) → is_some (find nat_cmp c leaves) ≡ is_used (cell_at leaves c)

@@ -1,9 +1,9 @@
 -- A touch at a cell without joined leaves runs the same whatever was dealt before it and whatever answers come behind its own.
-use Rattle.std.proofs.Common.{◌≡◌, ◌≢◌, ℕ, ◌+◌, List, [], ◌∷◌, ◌++◌, length, Option, Some, None, refl, sym, ◌∙◌, ap, subst, append_assoc, append-nil, length-append, arith}
+use Rattle.std.proofs.Common.{◌≡◌, ◌≢◌, ℕ, ◌+◌, List, [], ◌∷◌, ◌++◌, length, Option, Some, None, refl, sym, ◌∙◌, ap, append_assoc, append-nil, length-append, arith}
 use Rattle.std.specs.Prelude.{◌-◌, Bool, true, false, cond, replicate, zero, suc}
 use Rattle.vm_base.specs.Deals.{Deal, Granted, Denied, Returned}
 use Rattle.vm_base.specs.declared.frame_request.Want.TheVariants as want
-use Rattle.kernel_meaning.specs.Requests.{Answer, Yes, No, Requests, answers_of}
+use Rattle.kernel_meaning.specs.Requests.{Answer, Yes, No, answers_of}
 use Rattle.kernel_meaning.specs.Leaves.{CellLeaves, version_at, has_pages, is_named, share, Lost, names_version}
 use Rattle.kernel_meaning.specs.CellActs.{Course, touched, new_page_asked, parent_leaf_answered, present_touched, page_copy_answered, coming_answer, asking, with_leaf_where, before_change}
 use Rattle.leaf_cell.specs.CellView.{AreUnjoined}

@@ -1,12 +1,12 @@
 -- What a touch at a cell without joined leaves makes of it.
-use Rattle.std.proofs.Common.{◌≡◌, ◌≢◌, ℕ, ◌+◌, ◌<◌, ◌≤◌, List, [], ◌∷◌, ◌++◌, length, Option, Some, None, cond, refl, sym, ◌∙◌, ap, subst, arith, inl, inr, ◌⊎◌}
+use Rattle.std.proofs.Common.{◌≡◌, ℕ, ◌+◌, ◌<◌, ◌≤◌, List, [], ◌∷◌, length, Option, Some, None, cond, refl, sym, ap, subst, arith}
 use Rattle.std.specs.Prelude.{Bool, true, false, not, ◌||◌, ◌==◌, is_some, IsSome, zero, suc, map}
 use Rattle.std.proofs.lemmas.List.{get_or-set_same}
 use Rattle.std.proofs.lemmas.Bool.{false≢true}
 use Rattle.vm_base.specs.declared.frame_request.Want.TheVariants as want
 use Rattle.kernel_meaning.specs.Requests.{Answer, Yes, No}
 use Rattle.kernel_meaning.specs.Leaves.{CellLeaves, Kept, Versions, Lost, is_joined, version_at, with_version, with_leaf, has_pages, is_named, names_version}
-use Rattle.kernel_meaning.specs.CellActs.{Course, asking, coming_answer, before_change, touched, new_page_asked, new_page_answered, parent_leaf_answered, present_touched, page_copy_answered, with_parent_version, with_leaf_where}
+use Rattle.kernel_meaning.specs.CellActs.{Course, asking, coming_answer, touched, new_page_asked, new_page_answered, parent_leaf_answered, page_copy_answered, with_parent_version, with_leaf_where}
 use Rattle.kernel_meaning.specs.FrameLaw.{is_used}
 use Rattle.page_tables.proofs.SlotLemmas.{length-set}
 use Rattle.leaf_cell.specs.CellView.{AreUnjoined}

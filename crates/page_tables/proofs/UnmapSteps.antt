@@ -1,16 +1,16 @@
 -- The unmap of pages, one cell after another.
-use Rattle.std.proofs.Common.{◌≡◌, ◌≢◌, ℕ, ◌+◌, ◌-◌, ◌*◌, ◌/◌, ◌<◌, ◌≤◌, min, List, [], ◌∷◌, ◌++◌, length, Option, Some, None, cond, refl, sym, ◌∙◌, ap, subst, arith, append_assoc, append-nil, inl, inr, ◌⊎◌}
+use Rattle.std.proofs.Common.{◌≡◌, ℕ, ◌+◌, ◌*◌, ◌/◌, ◌<◌, ◌≤◌, List, [], ◌∷◌, ◌++◌, length, Some, None, cond, refl, sym, ◌∙◌, ap, subst, arith, append_assoc, append-nil, inl, inr, ◌⊎◌}
 use Rattle.std.specs.Prelude.{Bool, true, false, is_some}
 use Rattle.std.specs.FinMap.{get, retain_keys}
-use Rattle.std.proofs.lemmas.Bool.{cases_eq, cases_lt, false≢true}
+use Rattle.std.proofs.lemmas.Bool.{cases_eq, cases_lt}
 use Rattle.vm_base.specs.Deals.{Deal, LeadsAlong}
 use Rattle.vm_base.specs.FlatMemory.{PageMap}
 use Rattle.vm_base.specs.FlatStep.{is_beyond}
 use Rattle.vm_base.proofs.DealLemmas.{LeadsAlong-append}
 use Rattle.vm_base.proofs.NumberedMaps.{same_numbered}
 use Rattle.kernel_meaning.specs.Requests.{Answer, answers_of}
-use Rattle.kernel_meaning.specs.Leaves.{CellLeaves, unused_cell, has_pages, has_present}
-use Rattle.kernel_meaning.specs.FrameLaw.{cell_at, with_cell, is_used}
+use Rattle.kernel_meaning.specs.Leaves.{CellLeaves}
+use Rattle.kernel_meaning.specs.FrameLaw.{cell_at, is_used}
 use Rattle.kernel_meaning.specs.EventRequests.{changed_cells, unmapped_at, pages_unmapped, first_in_cell, count_in_cell}
 use Rattle.leaf_cell.proofs.AbsentPages.{has_present-never}
 use Rattle.leaf_cell.proofs.Without.{in-or-out}

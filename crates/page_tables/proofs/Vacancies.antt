@@ -1,23 +1,22 @@
 -- Slots that are free, and cells of a range that have none.
-use Rattle.std.proofs.Common.{◌≡◌, ◌≢◌, ℕ, ◌+◌, ◌-◌, ◌*◌, ◌/◌, ◌<◌, ◌≤◌, List, [], ◌∷◌, ◌++◌, length, length-append, map, take, Option, Some, None, cond, eqb, refl, sym, ◌∙◌, ap, subst, arith, inl, inr, nat_lt}
-use Rattle.std.specs.Prelude.{Bool, true, false, not, ◌||◌, ◌==◌, ◌&&◌, is_some, count_by, filter, zero, suc, IsTrue}
+use Rattle.std.proofs.Common.{◌≡◌, ℕ, ◌+◌, ◌-◌, ◌<◌, List, [], ◌∷◌, ◌++◌, length, length-append, Option, Some, None, cond, refl, sym, ◌∙◌, ap, arith, inl, inr, nat_lt}
+use Rattle.std.specs.Prelude.{Bool, true, false, not, ◌||◌, ◌==◌, ◌&&◌, is_some, count_by, filter}
 use Rattle.std.specs.Ordering.{nat_cmp}
 use Rattle.std.specs.List.{range_with_len}
 use Rattle.std.specs.FinMap.{get, find}
 use Rattle.std.specs.Option.{option_and_then}
-use Rattle.std.proofs.lemmas.Bool.{cases_Bool, ne_eqb, false≢true}
+use Rattle.std.proofs.lemmas.Bool.{cases_Bool, ne_eqb}
 use Rattle.std.proofs.lemmas.Bool.Decides.{nat_tests}
 use Rattle.std.proofs.lemmas.List.{length-map}
 use Rattle.std.proofs.lemmas.List.Elements.{filter-append}
-use Rattle.std.proofs.lemmas.List.Sums.{sum_by_push, sum_by-cons, count_by-le-length}
+use Rattle.std.proofs.lemmas.List.Sums.{sum_by_push}
 use Rattle.vm_base.specs.Places.{cell_of}
 use Rattle.vm_base.proofs.Ranges.{range-split}
-use Rattle.kernel_meaning.specs.Leaves.{has_pages}
 use Rattle.kernel_meaning.specs.FrameLaw.{Leaves, cell_at, lacks_slots, used_cells, cells_without_slot}
 use Rattle.page_tables.specs.declared.slot.Slot.{Slot}
 use Rattle.page_tables.specs.declared.tables.PageTables.{PageTables}
 use Rattle.page_tables.specs.Sides.{Sides}
-use Rattle.page_tables.specs.Standing.{TablesStandFor, IsSlotOf, owner_at, slot_count}
+use Rattle.page_tables.specs.Standing.{TablesStandFor, IsSlotOf, slot_count}
 use Rattle.page_tables.specs.Ranges.{missing_in, cells_of_pages}
 use Rattle.page_tables.proofs.LeafMap.{used-found}
 use Rattle.page_tables.proofs.SlotChoice.{unfound}

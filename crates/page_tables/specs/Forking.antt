@@ -1,7 +1,7 @@
 -- What a fork makes of the cells in slots, and what a drop does.
-use Rattle.std.specs.Prelude.{◌≡◌, ℕ, Bool, true, if◌then◌else◌, cond, List, [], length, count_by, Option, Some, None, Result, Ok, Err}
+use Rattle.std.specs.Prelude.{◌≡◌, ℕ, Bool, if◌then◌else◌, List, [], length, count_by, Option, Some, None, Result, Ok, Err}
 use Rattle.std.specs.Ordering.{nat_cmp}
-use Rattle.std.specs.FinMap.{FinMap, insert, remove, empty}
+use Rattle.std.specs.FinMap.{FinMap, insert, remove}
 use Rattle.std.specs.List.{slice_get}
 use Rattle.vm_base.specs.declared.fork_mode.Mode.TheVariants.{Eager}
 use Rattle.vm_base.specs.declared.refusals.Refused.{Refused}

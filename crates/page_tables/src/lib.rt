@@ -11,7 +11,6 @@ mod access;
 mod clear;
 mod fork;
 mod pieces;
-mod protect;
 mod range;
 mod slot;
 mod tables;

@@ -6,12 +6,10 @@
 //! README.md goes on.
 #![tactic(auto)]
 
-mod kernel;
 mod laws;
 mod supply;
 #[cfg(test)]
 mod tests;
 
-pub use kernel::Kernel;
 pub use laws::a_supply_answers_as_it_may;
 pub use supply::Supply;

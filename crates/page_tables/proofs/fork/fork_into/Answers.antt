@@ -1,4 +1,4 @@
-use Rattle.std.proofs.Common.{◌≡◌, ◌+◌, ℕ, length, replicate, sym, ◌∙◌, ap, arith}
+use Rattle.std.proofs.Common.{◌≡◌, replicate, sym, ◌∙◌, ap, arith}
 use Rattle.std.specs.FinMap.{keys}
 use Rattle.vm_base.specs.declared.frame_request.Want.TheVariants as want
 use Rattle.table_levels.specs.Cells.{tables_of}

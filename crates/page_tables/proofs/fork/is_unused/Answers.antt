@@ -1,7 +1,6 @@
-use Rattle.std.proofs.Common.{◌≡◌, sym, ◌∙◌, ap, eqb}
+use Rattle.std.proofs.Common.{◌≡◌, sym, ◌∙◌, ap}
 use Rattle.std.specs.Prelude.{not, is_some, Bool, true, false}
 use Rattle.std.proofs.lemmas.Bool.{ne_eqb}
-use Rattle.leaf_cell.specs.States.{nth_number}
 use Rattle.leaf_cell.proofs.Without.{pages-counted, some-counted}
 use Rattle.page_tables.proofs.ForkSlots.{used-by, used-there}
 use Rattle.page_tables.proofs.fork.is_unused.Goals as goal

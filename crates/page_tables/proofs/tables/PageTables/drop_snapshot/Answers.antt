@@ -1,4 +1,4 @@
-use Rattle.std.proofs.Common.{◌≡◌, ◌+◌, ℕ, Some, refl, sym, ◌∙◌, ap, arith}
+use Rattle.std.proofs.Common.{◌≡◌, refl, sym, ◌∙◌, ap, arith}
 use Rattle.leaf_cell.specs.CellView.{held_of}
 use Rattle.table_levels.specs.Cells.{tables_of}
 use Rattle.page_tables.specs.Held.{frames_in, snapshot_frames}

@@ -1,4 +1,4 @@
-use Rattle.std.proofs.Common.{◌≡◌, ◌+◌, None, Some, refl, sym, ◌∙◌, ap, subst, arith}
+use Rattle.std.proofs.Common.{◌≡◌, refl, ◌∙◌, ap, subst, arith}
 use Rattle.table_levels.specs.Cells.{tables_of}
 use Rattle.table_levels.proofs.Counting.{tables_of-empty}
 use Rattle.page_tables.specs.Standing.{StandFor}

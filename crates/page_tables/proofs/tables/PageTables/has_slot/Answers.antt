@@ -1,7 +1,6 @@
-use Rattle.std.proofs.Common.{Some, sym, ◌∙◌, ap, subst}
-use Rattle.std.specs.Prelude.{is_some}
+use Rattle.std.proofs.Common.{Some, ◌∙◌, subst}
 use Rattle.page_tables.specs.Standing.{IsSlotOf}
-use Rattle.page_tables.proofs.Vacancies.{known-found, slot-found}
+use Rattle.page_tables.proofs.Vacancies.{slot-found}
 use Rattle.page_tables.proofs.tables.PageTables.has_slot.Goals as goal
 
 -- src/vacancy.rt:48:5

@@ -1,11 +1,10 @@
-use Rattle.std.proofs.Common.{◌≡◌, ◌<◌, ◌%◌, ℕ, length, Some, None, sym, ◌∙◌, ap, subst}
+use Rattle.std.proofs.Common.{◌≡◌, ◌<◌, ◌%◌, length, Some, None, sym, ◌∙◌, ap, subst}
 use Rattle.std.specs.Prelude.{is_some}
 use Rattle.std.specs.List.{slice_get}
 use Rattle.std.specs.FinMap.{get}
 use Rattle.vm_base.specs.Places.{cell_of}
-use Rattle.kernel_meaning.specs.FrameLaw.{cell_at}
 use Rattle.page_tables.proofs.OwnedSlots.{owned-within, read-slot}
-use Rattle.page_tables.proofs.ParentPages.{page-absent, version-absent}
+use Rattle.page_tables.proofs.ParentPages.{page-absent}
 use Rattle.page_tables.proofs.Presence.{one-present, version-there, bytes-there}
 use Rattle.page_tables.proofs.tables.PageTables.is_present.Goals as goal
 

@@ -1,7 +1,7 @@
-use Rattle.std.proofs.Common.{◌≡◌, ◌+◌, ℕ, None, sym, ap, subst, ◌∙◌, replicate, arith}
+use Rattle.std.proofs.Common.{◌≡◌, None, sym, ap, subst, ◌∙◌, arith}
 use Rattle.std.specs.FinMap.{empty}
 use Rattle.page_tables.specs.Sides.{opening_sides}
-use Rattle.page_tables.specs.Standing.{StandFor, free_slot}
+use Rattle.page_tables.specs.Standing.{StandFor}
 use Rattle.page_tables.specs.Held.{frames_in}
 use Rattle.table_levels.specs.Cells.{tables_of}
 use Rattle.table_levels.proofs.Counting.{tables_of-empty}

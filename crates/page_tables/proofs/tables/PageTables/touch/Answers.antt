@@ -1,20 +1,17 @@
-use Rattle.std.proofs.Common.{◌≡◌, ◌+◌, ◌-◌, ◌≤◌, ◌<◌, ◌^◌, ℕ, length, List, [], ◌∷◌, ◌++◌, Some, None, sym, ◌∙◌, ap, subst, refl, arith}
-use Rattle.std.specs.Prelude.{Bool, cond, vec_capacity, true, false, slice_index_or}
-use Rattle.std.specs.List.{range_with_len}
-use Rattle.std.proofs.lemmas.List.FromFn.{length-range_with_len}
+use Rattle.std.proofs.Common.{◌≡◌, ◌+◌, ◌-◌, ◌≤◌, ◌<◌, ◌^◌, ℕ, length, List, [], ◌∷◌, ◌++◌, Some, sym, ◌∙◌, subst, refl, arith}
+use Rattle.std.specs.Prelude.{cond, vec_capacity, true, false, slice_index_or}
 use Rattle.vm_base.specs.Places.{cell_of}
-use Rattle.vm_base.specs.Deals.{Deal, LeadsAlong}
+use Rattle.vm_base.specs.Deals.{Deal}
 use Rattle.vm_base.proofs.DealLemmas.{LeadsAlong-append}
 use Rattle.kernel_meaning.specs.FrameLaw.{lacks_slots}
-use Rattle.kernel_meaning.specs.EventRequests.{FrameRefusal}
 use Rattle.table_levels.specs.Requests.{returned}
 use Rattle.page_tables.specs.declared.tables.PageTables.{PageTables}
 use Rattle.page_tables.specs.Sides.{Sides}
 use Rattle.page_tables.specs.Standing.{TablesStandFor, slot_count}
 use Rattle.page_tables.specs.Held.{frames_of}
-use Rattle.page_tables.specs.Ranges.{IsTouchedUpTo, FollowsRange, absent_pages, cells_of_pages, sides_without_pages, AreThere}
+use Rattle.page_tables.specs.Ranges.{IsTouchedUpTo, cells_of_pages, sides_without_pages, AreThere}
 use Rattle.page_tables.proofs.RangeRoom.{is_among, page-among, room-for}
-use Rattle.page_tables.proofs.RangeSteps.{sides_then, none-touched, one-page-more, range-granted}
+use Rattle.page_tables.proofs.RangeSteps.{none-touched, one-page-more, range-granted}
 use Rattle.page_tables.proofs.RangeEnds.{added-there, added-below, range-refused, few-absent}
 use Rattle.page_tables.proofs.tables.PageTables.touch.Goals as goal
 

@@ -1,10 +1,9 @@
-use Rattle.std.proofs.Common.{◌≡◌, ◌+◌, ◌≤◌, ◌<◌, ℕ, length, List, Some, sym, ◌∙◌, ap, subst, refl, arith}
+use Rattle.std.proofs.Common.{◌≡◌, ◌+◌, ◌≤◌, ◌<◌, ℕ, length, Some, sym, ◌∙◌, ap, subst, refl, arith}
 use Rattle.std.specs.Prelude.{slice_set}
 use Rattle.std.specs.List.{slice_get}
 use Rattle.std.specs.Option.{option_and_then}
-use Rattle.std.specs.Vec.{with_item}
 use Rattle.vm_base.specs.Places.{cell_of}
-use Rattle.leaf_cell.specs.CellView.{AreUnjoined, held_of}
+use Rattle.leaf_cell.specs.CellView.{held_of}
 use Rattle.page_tables.specs.declared.slot.Slot.{Slot}
 use Rattle.page_tables.specs.Sides.{Sides}
 use Rattle.leaf_cell.specs.Standing.{StandsFor}
@@ -15,7 +14,7 @@ use Rattle.page_tables.proofs.ClearedSlot.{even-slots, holds-own}
 use Rattle.page_tables.specs.Held.{frames_in, snapshot_frames}
 use Rattle.table_levels.specs.Cells.{tables_of}
 use Rattle.page_tables.proofs.KnownTouch.{known-touches}
-use Rattle.page_tables.proofs.OwnedSlots.{owned-slot, owned-within, held-within, frames-set, read-slot, slot-unjoined}
+use Rattle.page_tables.proofs.OwnedSlots.{owned-within, held-within, frames-set, read-slot, slot-unjoined}
 use Rattle.page_tables.proofs.tables.PageTables.touch_known.Goals as goal
 
 -- src/touch.rt:56:9

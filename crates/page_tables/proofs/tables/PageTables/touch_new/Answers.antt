@@ -1,22 +1,20 @@
-use Rattle.std.proofs.Common.{◌≡◌, ◌+◌, ◌-◌, ◌≤◌, ◌<◌, ℕ, length, List, [], ◌++◌, Option, Some, None, sym, ◌∙◌, ap, subst, refl, arith}
+use Rattle.std.proofs.Common.{◌≡◌, ◌+◌, ◌-◌, ◌≤◌, ◌<◌, ℕ, length, List, [], ◌++◌, Some, None, sym, ◌∙◌, ap, subst, refl, arith}
 use Rattle.std.specs.Prelude.{slice_set}
-use Rattle.std.specs.FinMap.{insert, remove, keys}
+use Rattle.std.specs.FinMap.{remove, keys}
 use Rattle.std.specs.List.{slice_get}
-use Rattle.std.specs.Vec.{with_item}
 use Rattle.std.proofs.lemmas.Option.{slice_get_within}
 use Rattle.vm_base.specs.Places.{cell_of}
-use Rattle.vm_base.specs.Deals.{Deal, Returned, LeadsAlong}
+use Rattle.vm_base.specs.Deals.{LeadsAlong}
 use Rattle.vm_base.specs.declared.frame_request.Want.{Want}
-use Rattle.vm_base.proofs.DealLemmas.{LeadsAlong-append, no_deal_leads}
+use Rattle.vm_base.proofs.DealLemmas.{LeadsAlong-append}
 use Rattle.leaf_cell.specs.CellView.{held_of}
-use Rattle.leaf_cell.specs.States.{refused_count}
-use Rattle.table_levels.specs.Cells.{CellMap, tables_of}
+use Rattle.table_levels.specs.Cells.{tables_of}
 use Rattle.table_levels.specs.Requests.{missing_tables, granted, returned}
 use Rattle.table_levels.proofs.Counting.{tables_of-insert}
 use Rattle.page_tables.specs.declared.slot.Slot.{Slot}
 use Rattle.page_tables.specs.declared.tables.PageTables.{PageTables}
 use Rattle.page_tables.specs.Sides.{Sides}
-use Rattle.page_tables.specs.Standing.{TablesStandFor, StandFor, IsSlotFor}
+use Rattle.page_tables.specs.Standing.{StandFor, IsSlotFor}
 use Rattle.page_tables.specs.Held.{frames_in, snapshot_frames}
 use Rattle.page_tables.specs.Making.{FollowsTouch}
 use Rattle.page_tables.proofs.ClearedSlot.{even-slots, holds-own}

@@ -1,4 +1,3 @@
-use Rattle.std.proofs.Common.{◌≡◌, ◌+◌, ℕ, Some, None, sym, ap, subst, inl, inr}
 use Rattle.vm_base.specs.Places.{cell_of}
 use Rattle.page_tables.proofs.SlotChoice.{slot-chosen, slot-left}
 use Rattle.page_tables.proofs.tables.PageTables.touch_page.Goals as goal

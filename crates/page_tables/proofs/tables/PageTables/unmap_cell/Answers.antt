@@ -1,5 +1,5 @@
-use Rattle.std.proofs.Common.{◌≡◌, ◌+◌, ◌-◌, ◌*◌, ◌≤◌, ◌<◌, ℕ, length, Some, subst, sym, ◌∙◌, ap, arith}
-use Rattle.std.specs.Prelude.{true, false, Bool}
+use Rattle.std.proofs.Common.{◌≡◌, ◌-◌, ◌<◌, ℕ, length, Some, subst, sym, ◌∙◌, ap, arith}
+use Rattle.std.specs.Prelude.{true, false}
 use Rattle.std.specs.List.{slice_get}
 use Rattle.kernel_meaning.specs.Leaves.{has_present}
 use Rattle.kernel_meaning.specs.FrameLaw.{cell_at}
@@ -12,8 +12,6 @@ use Rattle.page_tables.specs.Held.{frames_of}
 use Rattle.page_tables.proofs.OwnedSlots.{owned-within, read-slot}
 use Rattle.page_tables.proofs.ClearedTables.{account, stood}
 use Rattle.page_tables.proofs.OutOfCell.{are-out, none-out}
-use Rattle.page_tables.proofs.FirstCell.{first-none, first-some}
-use Rattle.page_tables.proofs.ChangedCells.{unchanged, one-less, cell-apart, none-before, none-behind, none-empty}
 use Rattle.page_tables.proofs.tables.PageTables.unmap_cell.Goals as goal
 
 pub index-requires : goal.index-requires
