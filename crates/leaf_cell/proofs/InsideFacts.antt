@@ -59,7 +59,7 @@ module _ (parent : Option Versions) (snapshot : Option Snapshot) (frames : List 
   pub page-filled : (page : ℕ) → is_some (parent_page (cell_value parent snapshot frames) page) ≡ is_some (version_at (table_places parent) page)
   page-filled page = elim (version_at (table_places parent) page) as (λ o. version_at (table_places parent) page ≡ o → is_some (bytes_in frames o) ≡ is_some o) [
     | None ↦ λ e. refl
-    | Some place ↦ λ e. elim (slice_index_or frames place None) as (λ f. IsSome f → is_some (option_map (λ frame. frame.bytes) f) ≡ true) [ | None ↦ λ h. h | Some frame ↦ λ h. refl ] (parent_filled page place e)
+    | Some place ↦ λ e. elim (slice_index_or frames place None) as (λ f. IsSome f → is_some (option_map (λ frame. frame.bytes) f) ≡ true) [ None ↦ λ h. h | Some frame ↦ λ h. refl ] (parent_filled page place e)
   ] refl
 
   pub own_filled : (page place : ℕ) → version_at (own_places snapshot) page ≡ Some place → IsSome (slice_index_or frames place None)

@@ -1,5 +1,5 @@
 -- Tables of which one cell acts stand for what the act leaves.
-use Rattle.std.proofs.Common.{◌≡◌, ◌≢◌, ℕ, ◌+◌, ◌*◌, ◌/◌, ◌<◌, ◌≤◌, List, length, Option, Some, None, cond, eqb, refl, sym, ◌∙◌, ap, subst, arith, inl, inr}
+use Rattle.std.proofs.Common.{◌≡◌, ◌≢◌, ℕ, ◌+◌, ◌*◌, ◌/◌, ◌<◌, ◌≤◌, List, length, Option, Some, sym, ◌∙◌, ap, subst, arith, inl, inr}
 use Rattle.std.specs.Prelude.{true, is_some, slice_set, map}
 use Rattle.std.proofs.lemmas.Option.{slice_get_within}
 use Rattle.std.specs.Option.{option_and_then}
@@ -57,7 +57,7 @@ module _ (directory : CellMap) (snapshot : Option SnapshotTables) (slots : List 
     | inl same ↦
         let owned : slot.owner ≡ Some q = sym (ap (option_and_then (λ it. it.owner)) here) ∙ ap (owner_at slots) (sym same) ∙ e in
         ap (owner_at slots_acted) same ∙ ap (option_and_then (λ it. it.owner)) (slice_get-set-here slots s (record { owner = Some c; cell = view }) (slice_get_within slots s slot here))
-        ∙ elim fits [ | inl mine ↦ sym mine ∙ owned | inr free ↦ absurd (false≢true (ap is_some (sym free.0 ∙ owned))) ]
+        ∙ elim fits [ inl mine ↦ sym mine ∙ owned | inr free ↦ absurd (false≢true (ap is_some (sym free.0 ∙ owned))) ]
     | inr apart ↦ ap (option_and_then (λ it. it.owner)) (slice_get-set-apart slots s t (record { owner = Some c; cell = view }) apart) ∙ e
   ]
 
@@ -77,7 +77,8 @@ module _ (directory : CellMap) (snapshot : Option SnapshotTables) (slots : List 
     named = named;
     snapshot_of = record {
       numbers = λ q. elim (cases_eq q c) [
-        | inl same ↦ ap (λ cell. map (λ it. it.number) cell.kept) (cell_at-here sides.leaves c state.leaves used q same) ∙ numbers ∙ ap (λ n. map (λ it. it.number) (cell_at sides.leaves n).kept) (sym same) ∙ st.snapshot_of.numbers q
+        | inl same ↦ ap (λ cell. map (λ it. it.number) cell.kept) (cell_at-here sides.leaves c state.leaves used q same) ∙ numbers
+            ∙ ap (λ n. map (λ it. it.number) (cell_at sides.leaves n).kept) (sym same) ∙ st.snapshot_of.numbers q
         | inr apart ↦ ap (λ cell. map (λ it. it.number) cell.kept) (cell_at-apart sides.leaves c state.leaves used q apart) ∙ st.snapshot_of.numbers q
       ];
       named = λ q t e. owner-kept q t (st.snapshot_of.named q t e);

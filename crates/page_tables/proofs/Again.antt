@@ -1,12 +1,11 @@
 -- Tables that nothing has changed stand for the same sides behind more requests.
-use Rattle.std.proofs.Common.{◌≡◌, ◌≢◌, ℕ, ◌≤◌, List, length, map, Option, Some, None, cond, eqb, refl, sym, ◌∙◌, ap, subst, arith, inl, inr}
-use Rattle.std.specs.Prelude.{Bool, true, false, T, is_some, not, filter, unwrap_or}
+use Rattle.std.proofs.Common.{◌≡◌, ℕ, ◌≤◌, List, Option, Some, None, cond, eqb, refl, sym, ◌∙◌, ap, inl, inr}
+use Rattle.std.specs.Prelude.{Bool, true, false, is_some, not, unwrap_or}
 use Rattle.std.specs.Ordering.{nat_cmp}
 use Rattle.std.specs.Cmp.{nat_cmp_total}
-use Rattle.std.specs.List.{AllByRecursion}
-use Rattle.std.specs.FinMap.{find, is_sorted, nat_cmp-IsAntisymmetric}
+use Rattle.std.specs.FinMap.{find, nat_cmp-IsAntisymmetric}
 use Rattle.std.specs.FinMap.Entries.{same_entries, where_key, is_sorted-where_key, find-where_key}
-use Rattle.std.proofs.lemmas.Bool.{cases_eq, cond-true, cond-false, eq-eqb, ne_eqb, false≢true}
+use Rattle.std.proofs.lemmas.Bool.{cases_eq, cond-false, eq-eqb, ne_eqb, false≢true}
 use Rattle.kernel_meaning.specs.Leaves.{CellLeaves, unused_cell}
 use Rattle.kernel_meaning.specs.FrameLaw.{Leaves, cell_at, with_cell, is_used}
 use Rattle.kernel_meaning.specs.CellAccount.{CellState}
@@ -27,7 +26,8 @@ slots-later leaves cells made later slots more of = record {
   counted = of.counted;
 }
 
-pub tables-later : (directory : CellMap) (snapshot : Option SnapshotTables) (slots : List Slot) (sides : Sides) (later : ℕ) → sides.made ≤ later → StandFor directory snapshot slots sides → StandFor directory snapshot slots (record sides { made = later })
+pub tables-later : (directory : CellMap) (snapshot : Option SnapshotTables) (slots : List Slot) (sides : Sides) (later : ℕ) → sides.made ≤ later
+    → StandFor directory snapshot slots sides → StandFor directory snapshot slots (record sides { made = later })
 tables-later directory snapshot slots sides later more st = record {
   cells = st.cells;
   kept = st.kept;
@@ -53,10 +53,11 @@ with_cell-same leaves c kept = by-use (is_used (cell_at leaves c)) refl
     gone (Some cell) e unused = absurd (false≢true (sym unused ∙ found-used leaves kept.in_use c (ap is_some e)))
 
     keeps : (x : ℕ) → not (eqb x c) ≡ false → x ≡ c
-    keeps x e = elim (cases_eq x c) [ | inl same ↦ same | inr apart ↦ absurd (false≢true (sym e ∙ ap not (ne_eqb x c apart))) ]
+    keeps x e = elim (cases_eq x c) [ inl same ↦ same | inr apart ↦ absurd (false≢true (sym e ∙ ap not (ne_eqb x c apart))) ]
 
     by-use : (b : Bool) → is_used (cell_at leaves c) ≡ b → with_cell leaves c (cell_at leaves c) ≡ leaves
-    by-use true used = same_entries nat_cmp nat_cmp_total nat_cmp-IsAntisymmetric (with_cell leaves c (cell_at leaves c)) leaves (sorted-with_cell leaves c (cell_at leaves c) used kept.sorted) kept.sorted
+    by-use true used = same_entries nat_cmp nat_cmp_total nat_cmp-IsAntisymmetric (with_cell leaves c (cell_at leaves c)) leaves
+        (sorted-with_cell leaves c (cell_at leaves c) used kept.sorted) kept.sorted
         (λ q. elim (cases_eq q c) [
           | inl same ↦ find-here leaves c (cell_at leaves c) used q same ∙ sym (ap (λ n. find nat_cmp n leaves) same ∙ there (find nat_cmp c leaves) refl used)
           | inr apart ↦ find-apart leaves c (cell_at leaves c) used q apart
@@ -65,8 +66,8 @@ with_cell-same leaves c kept = by-use (is_used (cell_at leaves c)) refl
         let test : ℕ → Bool = λ n. not (eqb n c) in
         cond-false (is_used (cell_at leaves c)) _ _ unused
         ∙ same_entries nat_cmp nat_cmp_total nat_cmp-IsAntisymmetric (where_key nat_cmp test leaves) leaves (is_sorted-where_key nat_cmp test leaves kept.sorted) kept.sorted
-            (λ q. find-where_key nat_cmp test q (λ x e. ap test (sym (nat_cmp-IsAntisymmetric q x e))) leaves
-              ∙ elim (cases_eq q c) [
-                  | inl same ↦ ap (λ b. cond (not b) (find nat_cmp q leaves) None) (eq-eqb q c same) ∙ sym (ap (λ n. find nat_cmp n leaves) same ∙ gone (find nat_cmp c leaves) refl unused)
-                  | inr apart ↦ ap (λ b. cond (not b) (find nat_cmp q leaves) None) (ne_eqb q c apart)
-                ])
+        (λ q. find-where_key nat_cmp test q (λ x e. ap test (sym (nat_cmp-IsAntisymmetric q x e))) leaves
+        ∙ elim (cases_eq q c) [
+          | inl same ↦ ap (λ b. cond (not b) (find nat_cmp q leaves) None) (eq-eqb q c same) ∙ sym (ap (λ n. find nat_cmp n leaves) same ∙ gone (find nat_cmp c leaves) refl unused)
+          | inr apart ↦ ap (λ b. cond (not b) (find nat_cmp q leaves) None) (ne_eqb q c apart)
+        ])

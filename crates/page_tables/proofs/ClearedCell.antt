@@ -51,7 +51,7 @@ unmapped-runs c first n leaves made present unjoined freed whole = record {
       let told : answers_of (returned freed) ++ rest ≡ rest = ap (λ answers. answers ++ rest) (answers-returned freed) in
       let start : Progress = progress_between leaves made rest before in
       let dealt : (before ++ replicate a Returned) ++ replicate b Returned ≡ before ++ returned freed =
-          append_assoc before (replicate a Returned) (replicate b Returned) ∙ ap (λ deals. before ++ deals) (replicate-both Returned a b ∙ ap returned (sym whole)) in
+      append_assoc before (replicate a Returned) (replicate b Returned) ∙ ap (λ deals. before ++ deals) (replicate-both Returned a b ∙ ap returned (sym whole)) in
       ap (λ coming. cell_unmapped c first n (progress_between leaves made coming before)) told
       ∙ ap (λ course. directory_shrunk leaves (with_course c course start)) (cleared-is first n (cell_at leaves c) start.requests present unjoined)
       ∙ ap (λ deals. progress_between after made rest deals) dealt;

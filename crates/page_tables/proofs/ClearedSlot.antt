@@ -111,7 +111,7 @@ module _ (old : PageTables) (c s first n : ℕ) (slot : Slot) (known : get old.d
     pub less-held : held_of view ≤ held_of slot.cell
     less-held =
         let less : share left ≤ share cell =
-            less-share cell first n (subst (λ m. first + n ≤ m) (sym (st.kept.sizes c)) fits) (had old.directory old.snapshot old.slots.items sides st c s slot known here) in
+        less-share cell first n (subst (λ m. first + n ≤ m) (sym (st.kept.sizes c)) fits) (had old.directory old.snapshot old.slots.items sides st c s slot known here) in
         subst (λ m. m ≤ held_of slot.cell) (sym held_after) (subst (λ m. share left ≤ m) (sym held_before) less)
 
     -- the deals of the clear
@@ -119,7 +119,7 @@ module _ (old : PageTables) (c s first n : ℕ) (slot : Slot) (known : get old.d
     deals-are =
         sym takes.asked
         ∙ ap (λ course. course.requests.deals) (cleared-is first n (st.cells c).leaves (opening_requests sides.made (answers_of deals))
-            (ap (λ it. has_present it.parent first n) (st.each.leaves c) ∙ present) (subst (λ it. AreUnjoined it.kept) (sym (st.each.leaves c)) (st.kept.unjoined c)))
+        (ap (λ it. has_present it.parent first n) (st.each.leaves c) ∙ present) (subst (λ it. AreUnjoined it.kept) (sym (st.each.leaves c)) (st.kept.unjoined c)))
         ∙ ap (λ it. returned (share_freed first n it)) (st.each.leaves c)
         ∙ (λ i. returned (sym held_before i - sym held_after i))
 
@@ -134,22 +134,22 @@ module _ (old : PageTables) (c s first n : ℕ) (slot : Slot) (known : get old.d
         → frames_before - frames_then directory new ≡ (held_of slot.cell - held_of view) + (tables_of old.directory - tables_of directory)
     freed-are directory new same fewer =
         freed-numbers (tables_of old.directory) (tables_of directory) (snapshot_frames old.snapshot) (frames_in old.slots.items) (frames_in (slice_set old.slots.items s new)) (held_of slot.cell) (held_of view)
-            (frames-set old.slots.items s slot new here ∙ ap (λ it. frames_in old.slots.items + held_of it) same) less-held fewer
+        (frames-set old.slots.items s slot new here ∙ ap (λ it. frames_in old.slots.items + held_of it) same) less-held fewer
 
     -- the unmap's deals, where the tables stand for what is left
     pub event-made : (directory : CellMap) (new : Slot) → new.cell ≡ view → tables_of directory ≤ tables_of old.directory → StandFor directory old.snapshot (slice_set old.slots.items s new) then
         → Runs (cell_unmapped c first n) sides.leaves sides.made (returned (frames_before - frames_then directory new)) then.leaves sides.made None
     event-made directory new same fewer now =
         event-runs old.directory old.snapshot old.slots.items sides st c s slot known here first n present fits (frames_before - frames_then directory new)
-            (held_of slot.cell - held_of view) (tables_of old.directory - tables_of directory) (freed-are directory new same fewer) (λ i. held_before i - held_after i)
-            (λ i. directory_frames (directory-cells old.directory old.snapshot old.slots.items sides st i) - directory_frames (directory-cells directory old.snapshot (slice_set old.slots.items s new) then now i))
+        (held_of slot.cell - held_of view) (tables_of old.directory - tables_of directory) (freed-are directory new same fewer) (λ i. held_before i - held_after i)
+        (λ i. directory_frames (directory-cells old.directory old.snapshot old.slots.items sides st i) - directory_frames (directory-cells directory old.snapshot (slice_set old.slots.items s new) then now i))
 
     -- the parent has a page left in the cell
     pub stays : has_pages view.leaves.parent ≡ true → StandFor old.directory old.snapshot (slice_set old.slots.items s (record { owner = slot.owner; cell = view })) then
     stays has =
         let has_too : has_pages left.parent ≡ true = pages_left ∙ has in
         subst (λ owner. StandFor old.directory old.snapshot (slice_set old.slots.items s (record { owner = owner; cell = view })) then) (sym (mine old.directory old.snapshot old.slots.items sides st c s slot known here))
-            (kept-stands old.directory old.snapshot old.slots.items sides st c s slot known here first n present fits view deals takes (ap (λ b. b || not (length left.kept == 0)) has_too) has_too)
+        (kept-stands old.directory old.snapshot old.slots.items sides st c s slot known here first n present fits view deals takes (ap (λ b. b || not (length left.kept == 0)) has_too) has_too)
 
     -- the parent has none left
     pub leaves-cell : has_pages view.leaves.parent ≡ false
@@ -167,5 +167,5 @@ module _ (old : PageTables) (c s first n : ℕ) (slot : Slot) (known : get old.d
         by (seen ∷ rest) [] is alike = absurd alike
         by (seen ∷ rest) (it ∷ others) is alike =
             subst (λ owner. StandFor (remove old.directory c) old.snapshot (slice_set old.slots.items s (record { owner = owner; cell = view })) then) (sym (mine old.directory old.snapshot old.slots.items sides st c s slot known here))
-                (left-stands old.directory old.snapshot old.slots.items sides st c s slot known here first n present fits view deals takes
-                    ((λ i. none_too i || not (length (is i) == 0)) ∙ ap not (ne_eqb (length (it ∷ others)) 0 (λ e. omega (arith, e)))) none_too)
+            (left-stands old.directory old.snapshot old.slots.items sides st c s slot known here first n present fits view deals takes
+            ((λ i. none_too i || not (length (is i) == 0)) ∙ ap not (ne_eqb (length (it ∷ others)) 0 (λ e. omega (arith, e)))) none_too)

@@ -62,11 +62,11 @@ module _ (directory : CellMap) (snapshot : Option SnapshotTables) (slots : List 
       pub stands_then : StandsFor view (record { state = state; made = sides.made })
       stands_then =
           subst (λ cell. StandsFor view (record { state = record { leaves = cell_without first n cell; pages = state.pages; snapshots = state.snapshots }; made = sides.made })) (st.each.leaves c)
-              (subst (λ course. StandsFor view (record { state = state_after (Clear first n) course (st.cells c); made = course.requests.made }))
-                  (cleared-is first n (st.cells c).leaves (opening_requests sides.made (answers_of deals))
-                      (ap (λ cell. has_present cell.parent first n) (st.each.leaves c) ∙ present)
-                      (subst (λ cell. AreUnjoined cell.kept) (sym (st.each.leaves c)) (st.kept.unjoined c)))
-                  takes.stands)
+          (subst (λ course. StandsFor view (record { state = state_after (Clear first n) course (st.cells c); made = course.requests.made }))
+          (cleared-is first n (st.cells c).leaves (opening_requests sides.made (answers_of deals))
+          (ap (λ cell. has_present cell.parent first n) (st.each.leaves c) ∙ present)
+          (subst (λ cell. AreUnjoined cell.kept) (sym (st.each.leaves c)) (st.kept.unjoined c)))
+          takes.stands)
 
       inside : (p : ℕ) → p < 512 → get state.pages p ≡ get then.pages (c * 512 + p)
       inside = retained-inside (st.cells c).pages sides.pages c first n (st.each.pages c)
@@ -82,8 +82,10 @@ module _ (directory : CellMap) (snapshot : Option SnapshotTables) (slots : List 
         kept-named : (q t : ℕ) → get directory q ≡ Some t → owner_at kept_slots t ≡ Some q
         kept-named q t e = owner-same slots s c slot view here mine t ∙ st.named q t e
 
-        acted : (found : CellMap) → ((q : ℕ) → is_some (get found q) ≡ has_pages (cell_at then.leaves q).parent) → ((q t : ℕ) → get found q ≡ Some t → owner_at kept_slots t ≡ Some q) → StandFor found snapshot kept_slots then
-        acted = tables-acted directory snapshot slots sides st c s slot here (inl mine) view state sides.made (omega arith) used size (st.kept.unjoined c) stands_then then.pages inside outside refl refl
+        acted : (found : CellMap) → ((q : ℕ) → is_some (get found q) ≡ has_pages (cell_at then.leaves q).parent)
+            → ((q t : ℕ) → get found q ≡ Some t → owner_at kept_slots t ≡ Some q) → StandFor found snapshot kept_slots then
+        acted = tables-acted directory snapshot slots sides st c s slot here (inl mine) view state sides.made (omega arith) used size
+            (st.kept.unjoined c) stands_then then.pages inside outside refl refl
 
         -- the parent has
         pub kept-stands : has_pages after.parent ≡ true → StandFor directory snapshot kept_slots then
@@ -191,7 +193,8 @@ module _ (directory : CellMap) (snapshot : Option SnapshotTables) (slots : List 
                 by false b e = refl
 
     -- the deals of the unmap, where the cell gives back so many frames, and the directory so many
-    pub event-runs : (freed share_less tables_less : ℕ) → freed ≡ share_less + tables_less → share_less ≡ share_freed first n (cell_at sides.leaves c) → tables_less ≡ tables_freed sides.leaves then.leaves
+    pub event-runs : (freed share_less tables_less : ℕ) → freed ≡ share_less + tables_less → share_less ≡ share_freed first n (cell_at sides.leaves c)
+        → tables_less ≡ tables_freed sides.leaves then.leaves
         → Runs (cell_unmapped c first n) sides.leaves sides.made (returned freed) then.leaves sides.made None
     event-runs freed share_less tables_less whole cell tables =
         unmapped-runs c first n sides.leaves sides.made present (st.kept.unjoined c) freed (omega (arith, whole, cell, tables))

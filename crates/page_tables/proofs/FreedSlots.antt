@@ -64,7 +64,8 @@ module _ (slots : List Slot) (s : ℕ) (slot : Slot) (here : slice_get slots s �
             by_owner it.owner it.cell (ap (option_and_then (λ it. it.owner)) there) (of.stands t it (sym (slice_get-set-apart slots s t freed_slot apart) ∙ there))
       ]
         where
-          by_owner : (owner : Option ℕ) (cell : CellView) → owner_at freed_slots t ≡ owner → StandsFor cell (record { state = state_in cells owner; made = made }) → StandsFor cell (record { state = state_in (cells_with cells c empty_state) owner; made = made })
+          by_owner : (owner : Option ℕ) (cell : CellView) → owner_at freed_slots t ≡ owner → StandsFor cell (record { state = state_in cells owner; made = made })
+              → StandsFor cell (record { state = state_in (cells_with cells c empty_state) owner; made = made })
           by_owner None cell e h = h
           by_owner (Some q) cell e h = subst (λ st. StandsFor cell (record { state = st; made = made })) (sym (cells_with-apart cells c empty_state q (other-left t q e))) h
 
@@ -81,7 +82,8 @@ module _ (slots : List Slot) (s : ℕ) (slot : Slot) (here : slice_get slots s �
         ];
         counted =
             let one : Slot → ℕ = λ it. cond (is_some it.owner) 1 0 in
-            let sums : count_by (λ it. is_some it.owner) freed_slots + one (slice_index_or slots s slot) ≡ count_by (λ it. is_some it.owner) slots + 0 = sum_by-set one slots s freed_slot slot within in
+            let sums : count_by (λ it. is_some it.owner) freed_slots + one (slice_index_or slots s slot) ≡ count_by (λ it. is_some it.owner) slots + 0 =
+            sum_by-set one slots s freed_slot slot within in
             let was : one (slice_index_or slots s slot) ≡ 1 = ap one (get_or_from_slice_get slots s slot slot here) ∙ ap (λ o. cond (is_some o) 1 0) mine in
             let fewer : length (with_cell leaves c new) + 1 ≡ length leaves = length-gone leaves c new unused sorted (of.used s c owned-here) in
             omega (arith, sums, was, fewer, of.counted);

@@ -30,7 +30,7 @@ turned a b = elim (cases_eq a b) [
 all-where : {X : Type 0} (P : X → Type 0) (test : ℕ → Bool) (es : List (ℕ × X)) → AllByRecursion (λ e. P e.1) es → AllByRecursion (λ e. P e.1) (where_key nat_cmp test es)
 all-where P test [] h = h
 all-where P test (e ∷ es) h =
-    elim (test e.0) as (λ b. AllByRecursion (λ e. P e.1) (cond b (e ∷ where_key nat_cmp test es) (where_key nat_cmp test es))) [ | true ↦ (h.0, all-where P test es h.1) | false ↦ all-where P test es h.1 ]
+    elim (test e.0) as (λ b. AllByRecursion (λ e. P e.1) (cond b (e ∷ where_key nat_cmp test es) (where_key nat_cmp test es))) [ true ↦ (h.0, all-where P test es h.1) | false ↦ all-where P test es h.1 ]
 
 module _ (leaves : Leaves) (c : ℕ) (new : CellLeaves) (unused : is_used new ≡ false) where
   abbrev other : ℕ → Bool
@@ -96,7 +96,7 @@ unused-cell cell size unused = λ i. record { parent = sym (table-none cell.pare
 pub no-page : (view : CellView) (state : CellState) (made : ℕ) → StandsFor view (record { state = state; made = made }) → state.leaves ≡ unused_cell → (p : ℕ) → parent_page view p ≡ None
 no-page view state made stands gone p =
     ap (bytes_in view.frames) (ap (λ versions. version_at versions p) (stands.leaves.parent ∙ ap (λ cell. renamed stands.name cell.parent) gone)
-      ∙ version_at-renamed stands.name no_versions p ∙ ap (option_map (stands.name p)) (version_at-none p))
+    ∙ version_at-renamed stands.name no_versions p ∙ ap (option_map (stands.name p)) (version_at-none p))
 
 -- and so it stands for what is in the slot of nobody
 pub stands-empty : (view : CellView) (state : CellState) (made : ℕ) → StandsFor view (record { state = state; made = made }) → state.leaves ≡ unused_cell → StandsFor view (record { state = empty_state; made = made })

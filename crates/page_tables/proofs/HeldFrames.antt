@@ -1,18 +1,18 @@
 -- The frames of the frame law lie in the two directories and in the cells of the slots.
-use Rattle.std.proofs.Common.{◌≡◌, ◌≢◌, ℕ, zero, suc, ◌+◌, ◌<◌, List, [], ◌∷◌, ◌++◌, length, map, Option, Some, None, cond, eqb, refl, sym, ◌∙◌, ap, subst, arith, inl, inr}
-use Rattle.std.specs.Prelude.{Bool, true, false, T, ◌||◌, ◌&&◌, ◌==◌, is_some, IsSome, filter, flat_map, count_by, sum_by, unwrap_or, slice_set, slice_index_or}
+use Rattle.std.proofs.Common.{◌≡◌, ◌≢◌, ℕ, suc, ◌+◌, ◌<◌, List, [], ◌∷◌, ◌++◌, length, map, Option, Some, None, cond, eqb, refl, sym, ◌∙◌, ap, subst, arith}
+use Rattle.std.specs.Prelude.{Bool, true, false, T, ◌||◌, ◌&&◌, ◌==◌, is_some, IsSome, filter, flat_map, sum_by, unwrap_or, slice_set, slice_index_or}
 use Rattle.std.specs.Ordering.{nat_cmp, eq_by_cmp}
 use Rattle.std.specs.Option.{option_and_then}
 use Rattle.std.specs.List.{slice_get, list_any, AllByRecursion}
 use Rattle.std.specs.FinMap.{get, keys, entries, find, is_sorted, entries_sorted, get-entries}
 use Rattle.std.specs.FinMap.Entries.{below_all}
-use Rattle.std.proofs.lemmas.Bool.{cases_eq, cond-true, cond-false, eq-eqb, ne_eqb, false≢true}
+use Rattle.std.proofs.lemmas.Bool.{eq-eqb, ne_eqb, false≢true}
 use Rattle.std.proofs.lemmas.Bool.Decides.{nat_tests}
 use Rattle.std.proofs.lemmas.List.Sums.{sum_by-cons, sum_by-set}
 use Rattle.std.proofs.lemmas.Option.{slice_get_within, get_or_from_slice_get}
 use Rattle.vm_base.specs.Places.{distinct, directory_frames}
 use Rattle.kernel_meaning.specs.Leaves.{CellLeaves, Kept, unused_cell, kept_by, share}
-use Rattle.kernel_meaning.specs.FrameLaw.{Leaves, cell_at, cells_where, parent_cells, snapshot_cells, numbers_of, snapshot_tables, held_frames}
+use Rattle.kernel_meaning.specs.FrameLaw.{Leaves, cell_at, cells_where, parent_cells, snapshot_cells, snapshot_tables, held_frames}
 use Rattle.kernel_meaning.proofs.Shares.{held_frames-shares}
 use Rattle.leaf_cell.specs.CellView.{held_of}
 use Rattle.leaf_cell.proofs.HeldShare.{share-stands}
@@ -45,9 +45,10 @@ module _ {X : Type 0} where
   -- each entry of a list in order is found there
   pub all-found : (P : ℕ → X → Type 0) (es : List (ℕ × X)) → T (is_sorted nat_cmp es) → ((q : ℕ) (x : X) → find nat_cmp q es ≡ Some x → P q x) → AllByRecursion (λ e. P e.0 e.1) es
   all-found P [] h each = tt
-  all-found P (f ∷ es) h each =
-      (each f.0 f.1 (ap (λ b. cond b (Some f.1) (find nat_cmp f.0 es)) (same_self f.0)),
-        all-found P es (right _ _ h) (λ q x found. each q x (later q x found)))
+  all-found P (f ∷ es) h each = (
+    each f.0 f.1 (ap (λ b. cond b (Some f.1) (find nat_cmp f.0 es)) (same_self f.0)),
+    all-found P es (right _ _ h) (λ q x found. each q x (later q x found)),
+  )
     where
       later : (q : ℕ) (x : X) → find nat_cmp q es ≡ Some x → find nat_cmp q (f ∷ es) ≡ Some x
       later q x found = elim (eq_by_cmp nat_cmp q f.0) as (λ b. eq_by_cmp nat_cmp q f.0 ≡ b → cond b (Some f.1) (find nat_cmp q es) ≡ Some x) [
@@ -55,7 +56,7 @@ module _ {X : Type 0} where
         | false ↦ λ apart. found
       ] refl
 
-  sum-alike : (f g : ℕ × X → ℕ) (es : List (ℕ × X)) → AllByRecursion (λ e. f e ≡ g e) es → sum_by f es ≡ sum_by g es
+  pub sum-alike : (f g : ℕ × X → ℕ) (es : List (ℕ × X)) → AllByRecursion (λ e. f e ≡ g e) es → sum_by f es ≡ sum_by g es
   sum-alike f g [] h = refl
   sum-alike f g (e ∷ es) h = let rest : sum_by f es ≡ sum_by g es = sum-alike f g es h.1 in
       sum_by-cons f e es ∙ (λ i. h.0 i + rest i) ∙ sym (sum_by-cons g e es)
@@ -67,7 +68,7 @@ cells-alike test leaves none h es k alike =
     keys-alike es (filter (λ e. test e.1) leaves) k (sorted-filter test leaves h) (λ q. alike q ∙ sym (is_some-filter test q leaves h ∙ passed q))
   where
     passed : (q : ℕ) → passes test (find nat_cmp q leaves) ≡ test (cell_at leaves q)
-    passed q = elim (find nat_cmp q leaves) as (λ o. passes test o ≡ test (unwrap_or o unused_cell)) [ | Some cell ↦ refl | None ↦ sym none ]
+    passed q = elim (find nat_cmp q leaves) as (λ o. passes test o ≡ test (unwrap_or o unused_cell)) [ Some cell ↦ refl | None ↦ sym none ]
 
 -- ---- the directory of the snapshot
 
@@ -131,7 +132,7 @@ pub snapshot-cells : (directory : CellMap) (tables : SnapshotTables) (slots : Li
     → keys tables.directory ≡ snapshot_cells sides.leaves tables.number
 snapshot-cells directory tables slots sides st =
     cells-alike (λ cell. is_some (kept_by cell.kept tables.number)) sides.leaves refl st.kept.sorted (entries tables.directory) (entries_sorted tables.directory)
-        (λ c. ap is_some (sym (get-entries tables.directory c)) ∙ sym (kept-number (cell_at sides.leaves c).kept tables.number ∙ ap (list_any (λ m. m == tables.number)) (st.snapshot_of.numbers c) ∙ there (is_some (get tables.directory c))))
+    (λ c. ap is_some (sym (get-entries tables.directory c)) ∙ sym (kept-number (cell_at sides.leaves c).kept tables.number ∙ ap (list_any (λ m. m == tables.number)) (st.snapshot_of.numbers c) ∙ there (is_some (get tables.directory c))))
   where
     there : (b : Bool) → list_any (λ m. m == tables.number) (cond b (tables.number ∷ []) []) ≡ b
     there true = ap (λ b. b || false) (eq-eqb tables.number tables.number refl)
@@ -161,7 +162,7 @@ no-sum w none [] free = refl
 no-sum w none (slot ∷ slots) free =
     let whole : sum_by (λ it. w it.owner) (slot ∷ slots) ≡ w slot.owner + sum_by (λ it. w it.owner) slots = sum_by-cons (λ it. w it.owner) slot slots in
     let rest : sum_by (λ it. w it.owner) slots ≡ 0 = no-sum w none slots (λ s c. free (suc s) c) in
-    let first : w slot.owner ≡ 0 = elim slot.owner as (λ o. slot.owner ≡ o → w o ≡ 0) [ | None ↦ λ is. none | Some c ↦ λ is. absurd (free 0 c is) ] refl in
+    let first : w slot.owner ≡ 0 = elim slot.owner as (λ o. slot.owner ≡ o → w o ≡ 0) [ None ↦ λ is. none | Some c ↦ λ is. absurd (free 0 c is) ] refl in
     omega arith
 
 same_some : (a b : ℕ) → Some a ≡ Some b → a ≡ b
@@ -201,18 +202,18 @@ owners-sum w none {X} (f ∷ es) h slots once used owned = by_slot (owners-sum w
         let here_free : owner_at freed s ≡ None = ap (option_and_then (λ it. it.owner)) (slice_get-set-here slots s free_slot within) in
         let apart_same : (t : ℕ) → t ≢ s → owner_at freed t ≡ owner_at slots t = λ t apart. ap (option_and_then (λ it. it.owner)) (slice_get-set-apart slots s t free_slot apart) in
         let other : (t c : ℕ) → owner_at freed t ≡ Some c → (t ≢ s) × (owner_at slots t ≡ Some c) = λ t c e.
-            let away : t ≢ s = λ same. false≢true (ap is_some (sym here_free ∙ ap (owner_at freed) (sym same) ∙ e)) in
-            (away, sym (apart_same t away) ∙ e) in
+        let away : t ≢ s = λ same. false≢true (ap is_some (sym here_free ∙ ap (owner_at freed) (sym same) ∙ e)) in
+        (away, sym (apart_same t away) ∙ e) in
         let rest : sum_by (λ it. w it.owner) freed ≡ sum_by (λ e. w (Some e.0)) es =
-            fewer freed
-                (λ t u c e g. once t u c (other t c e).1 (other u c g).1)
-                (λ t c e.
-                  let apart : c ≢ f.0 = λ same. (other t c e).0 (once t s c (other t c e).1 (mine ∙ ap Some (sym same))) in
-                  subst IsSome (ap (λ b. cond b (Some f.1) (find nat_cmp c es)) (same_number c f.0 ∙ ne_eqb c f.0 apart)) (used t c (other t c e).1))
-                (λ c there.
-                  let it : (t : ℕ) × (owner_at slots t ≡ Some c) = owned c (later c there).1 in
-                  let away : it.0 ≢ s = λ same. (later c there).0 (same_some c f.0 (sym it.1 ∙ ap (owner_at slots) same ∙ mine)) in
-                  (it.0, apart_same it.0 away ∙ it.1)) in
+        fewer freed
+        (λ t u c e g. once t u c (other t c e).1 (other u c g).1)
+        (λ t c e.
+        let apart : c ≢ f.0 = λ same. (other t c e).0 (once t s c (other t c e).1 (mine ∙ ap Some (sym same))) in
+        subst IsSome (ap (λ b. cond b (Some f.1) (find nat_cmp c es)) (same_number c f.0 ∙ ne_eqb c f.0 apart)) (used t c (other t c e).1))
+        (λ c there.
+        let it : (t : ℕ) × (owner_at slots t ≡ Some c) = owned c (later c there).1 in
+        let away : it.0 ≢ s = λ same. (later c there).0 (same_some c f.0 (sym it.1 ∙ ap (owner_at slots) same ∙ mine)) in
+        (it.0, apart_same it.0 away ∙ it.1)) in
         let sums : sum_by (λ it. w it.owner) freed + w (slice_index_or slots s slot).owner ≡ sum_by (λ it. w it.owner) slots + w None = sum_by-set (λ it. w it.owner) slots s free_slot slot within in
         let was : w (slice_index_or slots s slot).owner ≡ w (Some f.0) = ap (λ it. w it.owner) (get_or_from_slice_get slots s slot slot here) ∙ ap w owner in
         let whole : sum_by (λ e. w (Some e.0)) (f ∷ es) ≡ w (Some f.0) + sum_by (λ e. w (Some e.0)) es = sum_by-cons (λ e. w (Some e.0)) f es in
@@ -234,7 +235,7 @@ module _ (directory : CellMap) (snapshot : Option SnapshotTables) (slots : List 
   shares-law : sum_by (λ e. share e.1) sides.leaves ≡ shares_in slots
   shares-law =
       sum-alike (λ e. share e.1) (λ e. share_of (Some e.0)) sides.leaves
-          (all-found (λ q cell. share cell ≡ share_of (Some q)) sides.leaves st.kept.sorted (λ q cell found. ap (λ o. share (unwrap_or o unused_cell)) (sym found) ∙ ap share (sym (st.each.leaves q))))
+      (all-found (λ q cell. share cell ≡ share_of (Some q)) sides.leaves st.kept.sorted (λ q cell found. ap (λ o. share (unwrap_or o unused_cell)) (sym found) ∙ ap share (sym (st.each.leaves q))))
       ∙ sym (owners-sum share_of refl sides.leaves st.kept.sorted slots st.slots_of.once st.slots_of.used st.slots_of.owned)
       ∙ sym (slots-alike (λ slot. share slot.cell.leaves) (λ slot. share_of slot.owner) slots (λ s slot here. share-stands slot.cell (record { state = state_in st.cells slot.owner; made = sides.made }) (st.slots_of.stands s slot here)))
 

@@ -1,23 +1,22 @@
 -- The touch of a page in a cell that the directory has.
-use Rattle.std.proofs.Common.{◌≡◌, ◌≢◌, ℕ, ◌+◌, ◌*◌, ◌/◌, ◌%◌, ◌<◌, ◌≤◌, List, [], ◌∷◌, ◌++◌, length, Option, Some, None, Result, Ok, Err, cond, eqb, refl, sym, ◌∙◌, ap, subst, arith, inl, inr}
-use Rattle.std.specs.Prelude.{OnOk, true, false, is_some, slice_set, map, replicate, ◌||◌, ◌==◌, not}
-use Rattle.std.specs.Option.{option_and_then, option_map}
+use Rattle.std.proofs.Common.{◌≡◌, ◌≢◌, ℕ, ◌+◌, ◌*◌, ◌/◌, ◌%◌, ◌<◌, List, [], ◌++◌, length, Option, Some, None, Result, Ok, Err, refl, sym, ◌∙◌, ap, subst, arith, inl, inr}
+use Rattle.std.specs.Prelude.{OnOk, true, is_some, slice_set, map, ◌||◌, ◌==◌, not}
+use Rattle.std.specs.Option.{option_and_then}
 use Rattle.std.specs.List.{slice_get}
 use Rattle.std.specs.FinMap.{get}
 use Rattle.std.proofs.lemmas.Bool.{cases_eq, false≢true}
 use Rattle.std.proofs.lemmas.List.{append-nil}
-use Rattle.std.proofs.lemmas.Option.{slice_get_within}
 use Rattle.vm_base.specs.declared.refusals.Refused.{Refused}
-use Rattle.vm_base.specs.Deals.{Deal, LeadsAlong}
+use Rattle.vm_base.specs.Deals.{Deal}
 use Rattle.vm_base.specs.Places.{cell_of}
 use Rattle.kernel_meaning.specs.Requests.{answers_of, Answer, asked_in_row}
-use Rattle.kernel_meaning.specs.Leaves.{CellLeaves, version_at, has_pages}
+use Rattle.kernel_meaning.specs.Leaves.{CellLeaves, has_pages}
 use Rattle.kernel_meaning.specs.FrameLaw.{Leaves, cell_at, with_cell, is_used, parent_cells}
 use Rattle.kernel_meaning.specs.CellActs.{Course, touched}
 use Rattle.kernel_meaning.specs.CellAccount.{CellState, CellAccount, Touch, state_after, pages_after}
-use Rattle.kernel_meaning.specs.EventRequests.{Progress, FrameRefusal, page_touched, page_in_cell, missing_tables, tables_answered, cell_touched, cell_touch_ended, with_course, course_at}
+use Rattle.kernel_meaning.specs.EventRequests.{Progress, FrameRefusal, page_touched, missing_tables, tables_answered, cell_touch_ended, with_course}
 use Rattle.leaf_cell.specs.CellView.{CellView, AreUnjoined}
-use Rattle.leaf_cell.specs.Standing.{StandsFor, TakesAccount, MadeAct}
+use Rattle.leaf_cell.specs.Standing.{StandsFor, TakesAccount}
 use Rattle.leaf_cell.specs.States.{refused_count}
 use Rattle.leaf_cell.specs.Touching.{IsTouched}
 use Rattle.page_tables.specs.declared.slot.Slot.{Slot}
@@ -27,15 +26,15 @@ use Rattle.page_tables.specs.Courses.{requests_between, course_between, progress
 use Rattle.page_tables.specs.Standing.{owner_at, state_in, StandFor, TablesStandFor}
 use Rattle.page_tables.specs.Accesses.{IsReady}
 use Rattle.page_tables.specs.Making.{page_refusal, pages_with, Follows, FollowsTouch}
-use Rattle.page_tables.proofs.TouchRuns.{touched_alone, touch-runs}
-use Rattle.page_tables.proofs.TouchShapes.{IsTouchCourse, EndsTouch, touch-course, touch-size, touch-unjoined, touch-numbers, page-used, page-there}
-use Rattle.page_tables.proofs.LeafMap.{found-with_cell, length-with_cell, cell_at-here, cell_at-apart, found-used}
+use Rattle.page_tables.proofs.TouchRuns.{touch-runs}
+use Rattle.page_tables.proofs.TouchShapes.{IsTouchCourse, EndsTouch, touch-course, touch-size, touch-unjoined, touch-numbers, page-there}
+use Rattle.page_tables.proofs.LeafMap.{found-with_cell, length-with_cell, cell_at-here, cell_at-apart}
 use Rattle.page_tables.proofs.Missing.{missing-known}
 use Rattle.page_tables.proofs.PageMaps.{with_page-inside, with_page-outside}
 use Rattle.page_tables.proofs.SlotLemmas.{owner-same}
 use Rattle.page_tables.proofs.Again.{with_cell-same}
 use Rattle.page_tables.proofs.Readiness.{touched-ready, touched-still}
-use Rattle.page_tables.proofs.Acting.{sides_acted, slots_acted, tables-acted}
+use Rattle.page_tables.proofs.Acting.{tables-acted}
 
 -- a cell's touch was refused, and so was the page's
 abbrev pub refusal_at : ℕ → Option ℕ → Option FrameRefusal
@@ -60,7 +59,8 @@ module _ (page : ℕ) (leaves : Leaves) (made : ℕ) (deals : List Deal) (after 
     runs = λ before rest.
         let start : Progress = progress_between leaves made (answers_of deals ++ rest) before in
         let end : Course = record { cell = after; requests = requests_between later rest (before ++ deals); refused = refused } in
-        ap (λ wants. tables_answered (asked_in_row wants start.requests).refused page (asked_in_row wants start.requests).granted (record start { requests = (asked_in_row wants start.requests).requests })) known
+        ap (λ wants. tables_answered (asked_in_row wants start.requests).refused page (asked_in_row wants start.requests).granted
+        (record start { requests = (asked_in_row wants start.requests).requests })) known
         ∙ ap (λ course. cell_touch_ended course.refused page 0 (with_course (cell_of page) course start)) (runs.runs before rest)
         ∙ touch-ended page (with_cell leaves (cell_of page) end.cell) later rest (before ++ deals) refused;
   }
@@ -127,12 +127,14 @@ module _ (old : PageTables) (sides : Sides) (st : TablesStandFor old sides) (pag
   inside : (q : ℕ) → q < 512 → get state.pages q ≡ get (pages_with page refused sides.pages) (c * 512 + q)
   inside q small = ap (λ r. get (pages_after (Touch p) r (st.cells c).pages) q) takes.ended ∙ alike result
     where
-      alike : (result : Result (Unit {0}) Refused) → get (pages_after (Touch p) (refused_count result) (st.cells c).pages) q ≡ get (pages_with page (page_refusal page result) sides.pages) (c * 512 + q)
+      alike : (result : Result (Unit {0}) Refused) → get (pages_after (Touch p) (refused_count result) (st.cells c).pages) q
+          ≡ get (pages_with page (page_refusal page result) sides.pages) (c * 512 + q)
       alike (Ok done) = with_page-inside (st.cells c).pages sides.pages page (λ q small. st.each.pages c q small) q small
       alike (Err why) = st.each.pages c q small
 
   outside : (q : ℕ) → q / 512 ≢ c → get (pages_with page refused sides.pages) q ≡ get sides.pages q
-  outside q apart = elim result as (λ result. get (pages_with page (page_refusal page result) sides.pages) q ≡ get sides.pages q) [ | Ok done ↦ with_page-outside sides.pages page q apart | Err why ↦ refl ]
+  outside q apart = elim result as (λ result. get (pages_with page (page_refusal page result) sides.pages) q
+      ≡ get sides.pages q) [ Ok done ↦ with_page-outside sides.pages page q apart | Err why ↦ refl ]
 
   abbrev leaves : Leaves
   leaves = with_cell sides.leaves c end.cell
@@ -158,23 +160,26 @@ module _ (old : PageTables) (sides : Sides) (st : TablesStandFor old sides) (pag
   runs_then : Runs (page_touched page) sides.leaves sides.made deals leaves end.requests.made refused
   runs_then =
       let at_cell : RunsAt (touched p) (cell_at sides.leaves c) sides.made deals end.cell end.requests.made end.refused =
-          subst (λ cell. RunsAt (touched p) cell sides.made deals end.cell end.requests.made end.refused) (st.each.leaves c) (touch-runs p (st.cells c).leaves sides.made deals unjoined takes.asked) in
+      subst (λ cell. RunsAt (touched p) cell sides.made deals end.cell end.requests.made end.refused) (st.each.leaves c) (touch-runs p (st.cells c).leaves sides.made deals unjoined takes.asked) in
       subst (λ refused. Runs (page_touched page) sides.leaves sides.made deals leaves end.requests.made refused) (ap (refusal_at page) takes.ended ∙ refusal-of page result)
-          (known-runs page sides.leaves sides.made deals end.cell end.requests.made end.refused at_cell (missing-known sides.leaves c st.kept.sorted had))
+      (known-runs page sides.leaves sides.made deals end.cell end.requests.made end.refused at_cell (missing-known sides.leaves c st.kept.sorted had))
 
-  pub known-follows : (new : PageTables) → new.directory ≡ old.directory → new.snapshot ≡ old.snapshot → new.slots.items ≡ new_slots → Follows (page_touched page) (pages_with page) new deals refused sides
+  pub known-follows : (new : PageTables) → new.directory ≡ old.directory → new.snapshot ≡ old.snapshot → new.slots.items ≡ new_slots
+      → Follows (page_touched page) (pages_with page) new deals refused sides
   known-follows new same alike set = record {
     leaves = leaves;
     made = end.requests.made;
     runs = runs_then;
-    stands = subst (λ d. StandFor d new.snapshot new.slots.items then) (sym same) (subst (λ it. StandFor old.directory it new.slots.items then) (sym alike) (subst (λ items. StandFor old.directory old.snapshot items then) (sym set) stands_then));
+    stands = subst (λ d. StandFor d new.snapshot new.slots.items then) (sym same)
+        (subst (λ it. StandFor old.directory it new.slots.items then) (sym alike) (subst (λ items. StandFor old.directory old.snapshot items then) (sym set) stands_then));
   }
     where
       then : Sides
       then = record { leaves = leaves; pages = pages_with page refused sides.pages; snapshots = sides.snapshots; made = end.requests.made }
 
   -- each page that may be stored to, behind the touch
-  pub known-touches : (from to : ℕ) → OnOk result (IsTouched (page % 512) from to slot.cell view) → (new : PageTables) → new.directory ≡ old.directory → new.snapshot ≡ old.snapshot → new.slots.items ≡ new_slots
+  pub known-touches : (from to : ℕ) → OnOk result (IsTouched (page % 512) from to slot.cell view) → (new : PageTables)
+      → new.directory ≡ old.directory → new.snapshot ≡ old.snapshot → new.slots.items ≡ new_slots
       → FollowsTouch page new deals refused sides
   unfolding known-follows
   known-touches from to touched new same alike set = record {

@@ -1,6 +1,6 @@
 -- The map of the cells: what it has at a cell after an act there, and that it stays in order.
 use Rattle.std.proofs.Common.{◌≡◌, ◌≢◌, ℕ, ◌+◌, List, [], ◌∷◌, length, map, Option, Some, None, cond, eqb, refl, sym, ◌∙◌, ap, subst, arith, inl, inr}
-use Rattle.std.specs.Prelude.{Bool, true, false, not, ◌&&◌, ◌||◌, T, is_some, filter, unwrap_or, sum_by}
+use Rattle.std.specs.Prelude.{Bool, true, false, ◌&&◌, ◌||◌, T, is_some, filter, unwrap_or, sum_by}
 use Rattle.std.specs.Ordering.{nat_cmp, is_lt, is_eq, eq_by_cmp}
 use Rattle.std.proofs.Common.{Ordering, Less, Equal, Greater}
 use Rattle.std.proofs.lemmas.List.Sums.{sum_by-cons}
@@ -62,14 +62,16 @@ module _ {X : Type 0} where
   sum-put f none k v (e ∷ es) h =
       let g : ℕ × X → ℕ = λ e. f (Some e.1) in
       let whole : sum_by g (e ∷ es) ≡ g e + sum_by g es = sum_by-cons g e es in
-      elim (nat_cmp k e.0) as (λ r. nat_cmp k e.0 ≡ r → sum_by g (by_order r ((k, v) ∷ e ∷ es) ((e.0, v) ∷ es) (e ∷ put nat_cmp k v es)) + f (cond (is_eq r) (Some e.1) (find nat_cmp k es)) ≡ sum_by g (e ∷ es) + f (Some v)) [
+      elim (nat_cmp k e.0) as (λ r. nat_cmp k e.0 ≡ r → sum_by g (by_order r ((k, v) ∷ e ∷ es) ((e.0, v) ∷ es) (e ∷ put nat_cmp k v es)) + f
+      (cond (is_eq r) (Some e.1) (find nat_cmp k es)) ≡ sum_by g (e ∷ es) + f (Some v)) [
         | Less ↦ λ p.
             let gone : f (find nat_cmp k es) ≡ 0 = ap f (missed-below k es (below_less k e.0 es p (left _ _ h))) ∙ none in
             let more : sum_by g ((k, v) ∷ e ∷ es) ≡ f (Some v) + sum_by g (e ∷ es) = sum_by-cons g (k, v) (e ∷ es) in
             omega arith
         | Equal ↦ λ p. let other : sum_by g ((e.0, v) ∷ es) ≡ f (Some v) + sum_by g es = sum_by-cons g (e.0, v) es in omega arith
         | Greater ↦ λ p.
-            let rest : ◌≡◌ {A = ℕ} (sum_by g (put nat_cmp k v es) + f (find nat_cmp k es)) (sum_by g es + f (Some v)) = sum-put f none k v es (right (below_all nat_cmp e.0 es) (is_sorted nat_cmp es) h) in
+            let rest : ◌≡◌ {A = ℕ} (sum_by g (put nat_cmp k v es) + f (find nat_cmp k es)) (sum_by g es + f (Some v)) =
+            sum-put f none k v es (right (below_all nat_cmp e.0 es) (is_sorted nat_cmp es) h) in
             let more : sum_by g (e ∷ put nat_cmp k v es) ≡ g e + sum_by g (put nat_cmp k v es) = sum_by-cons g e (put nat_cmp k v es) in
             omega arith
       ] refl
@@ -103,7 +105,11 @@ module _ {X : Type 0} where
   sorted-filter test [] h = tt
   sorted-filter test (f ∷ es) h =
       let rest : T (is_sorted nat_cmp (filter (λ e. test e.1) es)) = sorted-filter test es (right _ _ h) in
-      elim (test f.1) as (λ b. T (is_sorted nat_cmp (cond b (f ∷ filter (λ e. test e.1) es) (filter (λ e. test e.1) es)))) [ true ↦ both _ _ (below-filter test f.0 es (left _ _ h)) rest | false ↦ rest ]
+      elim (test f.1) as (λ b. T (is_sorted nat_cmp (cond b (f ∷ filter (λ e. test e.1) es) (filter (λ e. test e.1) es)))) [
+        | true ↦ both _ _
+            (below-filter test f.0 es (left _ _ h)) rest
+        | false ↦ rest
+      ]
 
   -- an entry is found among those that pass a test where it is found among all and passes it
   pub is_some-filter : (test : X → Bool) (q : ℕ) (es : List (ℕ × X)) → T (is_sorted nat_cmp es) → is_some (find nat_cmp q (filter (λ e. test e.1) es)) ≡ passes test (find nat_cmp q es)
@@ -112,13 +118,13 @@ module _ {X : Type 0} where
       let rest : is_some (find nat_cmp q (filter (λ e. test e.1) es)) ≡ passes test (find nat_cmp q es) = is_some-filter test q es (right _ _ h) in
       elim (eq_by_cmp nat_cmp q f.0) as (λ b. eq_by_cmp nat_cmp q f.0 ≡ b → is_some (find nat_cmp q (filter (λ e. test e.1) (f ∷ es))) ≡ passes test (cond b (Some f.1) (find nat_cmp q es))) [
         | true ↦ λ same. elim (test f.1) as (λ t. is_some (find nat_cmp q (cond t (f ∷ filter (λ e. test e.1) es) (filter (λ e. test e.1) es))) ≡ t) [
-            | true ↦ ap (λ b. is_some (cond b (Some f.1) (find nat_cmp q (filter (λ e. test e.1) es)))) same
-            | false ↦ ap is_some (missed-below q (filter (λ e. test e.1) es) (below-filter test q es (below-tied q f es same (left _ _ h))))
-          ]
+          | true ↦ ap (λ b. is_some (cond b (Some f.1) (find nat_cmp q (filter (λ e. test e.1) es)))) same
+          | false ↦ ap is_some (missed-below q (filter (λ e. test e.1) es) (below-filter test q es (below-tied q f es same (left _ _ h))))
+        ]
         | false ↦ λ other. elim (test f.1) as (λ t. is_some (find nat_cmp q (cond t (f ∷ filter (λ e. test e.1) es) (filter (λ e. test e.1) es))) ≡ passes test (find nat_cmp q es)) [
-            | true ↦ ap (λ b. is_some (cond b (Some f.1) (find nat_cmp q (filter (λ e. test e.1) es)))) other ∙ rest
-            | false ↦ rest
-          ]
+          | true ↦ ap (λ b. is_some (cond b (Some f.1) (find nat_cmp q (filter (λ e. test e.1) es)))) other ∙ rest
+          | false ↦ rest
+        ]
       ] refl
 
 -- entries without their values
@@ -137,7 +143,8 @@ module _ {X : Type 0} where
   find-bare : (q : ℕ) (es : List (ℕ × X)) → find nat_cmp q (bare es) ≡ cond (is_some (find nat_cmp q es)) (Some true) None
   find-bare q [] = refl
   find-bare q (f ∷ es) =
-      elim (eq_by_cmp nat_cmp q f.0) as (λ b. cond b (Some true) (find nat_cmp q (bare es)) ≡ cond (is_some (cond b (Some f.1) (find nat_cmp q es))) (Some true) None) [ true ↦ refl | false ↦ find-bare q es ]
+      elim (eq_by_cmp nat_cmp q f.0) as (λ b. cond b (Some true) (find nat_cmp q (bare es))
+      ≡ cond (is_some (cond b (Some f.1) (find nat_cmp q es))) (Some true) None) [ true ↦ refl | false ↦ find-bare q es ]
 
   keys-bare : (es : List (ℕ × X)) → map (λ e. e.0) (bare es) ≡ map (λ e. e.0) es
   keys-bare [] = refl
@@ -149,7 +156,7 @@ pub keys-alike : {X Y : Type 0} (es : List (ℕ × X)) (fs : List (ℕ × Y)) �
 keys-alike es fs h k alike =
     sym (keys-bare es)
     ∙ ap (map (λ e. e.0)) (same_entries nat_cmp nat_cmp_total nat_cmp-IsAntisymmetric (bare es) (bare fs) (subst T (sym (sorted-bare es)) h) (subst T (sym (sorted-bare fs)) k)
-        (λ q. find-bare q es ∙ ap (λ b. cond b (Some true) None) (alike q) ∙ sym (find-bare q fs)))
+    (λ q. find-bare q es ∙ ap (λ b. cond b (Some true) None) (alike q) ∙ sym (find-bare q fs)))
     ∙ keys-bare fs
 
 module _ (leaves : Leaves) (c : ℕ) (new : CellLeaves) (used : is_used new ≡ true) where
@@ -166,7 +173,8 @@ module _ (leaves : Leaves) (c : ℕ) (new : CellLeaves) (used : is_used new ≡ 
   find-apart q apart = find-with_cell q ∙ cond-false (eqb q c) _ _ (ne_eqb q c apart)
 
   pub found-with_cell : (q : ℕ) → is_some (find nat_cmp q (with_cell leaves c new)) ≡ (eqb q c || is_some (find nat_cmp q leaves))
-  found-with_cell q = ap is_some (find-with_cell q) ∙ elim (eqb q c) as (λ b. is_some (cond b (Some new) (find nat_cmp q leaves)) ≡ (b || is_some (find nat_cmp q leaves))) [ true ↦ refl | false ↦ refl ]
+  found-with_cell q = ap is_some (find-with_cell q)
+      ∙ elim (eqb q c) as (λ b. is_some (cond b (Some new) (find nat_cmp q leaves)) ≡ (b || is_some (find nat_cmp q leaves))) [ true ↦ refl | false ↦ refl ]
 
   pub cell_at-here : (q : ℕ) → q ≡ c → cell_at (with_cell leaves c new) q ≡ new
   cell_at-here q here = ap (λ o. unwrap_or o unused_cell) (find-here q here)
@@ -205,7 +213,7 @@ module _ (leaves : Leaves) (c : ℕ) (new : CellLeaves) (used : is_used new ≡ 
 
 -- a cell with pages is in the map
 pub used-found : (leaves : Leaves) (c : ℕ) → is_used (cell_at leaves c) ≡ true → is_some (find nat_cmp c leaves) ≡ true
-used-found leaves c used = elim (find nat_cmp c leaves) as (λ o. is_used (unwrap_or o unused_cell) ≡ true → is_some o ≡ true) [ | Some cell ↦ λ h. refl | None ↦ λ h. h ] used
+used-found leaves c used = elim (find nat_cmp c leaves) as (λ o. is_used (unwrap_or o unused_cell) ≡ true → is_some o ≡ true) [ Some cell ↦ λ h. refl | None ↦ λ h. h ] used
 
 -- a cell that is in the map is used
 pub found-used : (leaves : Leaves) → AllByRecursion (λ e. is_used e.1 ≡ true) leaves → (c : ℕ) → is_some (find nat_cmp c leaves) ≡ true → is_used (cell_at leaves c) ≡ true
@@ -220,7 +228,7 @@ pub parent_cells-alike : (leaves : Leaves) → T (is_sorted nat_cmp leaves) → 
     → ((c : ℕ) → is_some (find nat_cmp c es) ≡ has_pages (cell_at leaves c).parent) → map (λ e. e.0) es ≡ parent_cells leaves
 parent_cells-alike leaves h es k alike =
     keys-alike es (filter (λ e. has_pages e.1.parent) leaves) k (sorted-filter (λ cell. has_pages cell.parent) leaves h)
-        (λ q. alike q ∙ sym (is_some-filter (λ cell. has_pages cell.parent) q leaves h ∙ passed q))
+    (λ q. alike q ∙ sym (is_some-filter (λ cell. has_pages cell.parent) q leaves h ∙ passed q))
   where
     passed : (q : ℕ) → passes (λ cell. has_pages cell.parent) (find nat_cmp q leaves) ≡ has_pages (cell_at leaves q).parent
-    passed q = elim (find nat_cmp q leaves) as (λ o. passes (λ cell. has_pages cell.parent) o ≡ has_pages (unwrap_or o unused_cell).parent) [ | Some cell ↦ refl | None ↦ refl ]
+    passed q = elim (find nat_cmp q leaves) as (λ o. passes (λ cell. has_pages cell.parent) o ≡ has_pages (unwrap_or o unused_cell).parent) [ Some cell ↦ refl | None ↦ refl ]

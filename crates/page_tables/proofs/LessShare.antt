@@ -15,10 +15,10 @@ Rest x ys = (zs : List (ℕ × ℕ)) × ((suc (length zs) ≡ length ys) × ((y 
 
 taken-out : (x : ℕ × ℕ) (ys : List (ℕ × ℕ)) → IsIn x ys → Rest x ys
 taken-out x [] h = absurd h
-taken-out x (z ∷ zs) (inl e) = (zs, (refl, λ y h. elim h [ | inl f ↦ inl (f ∙ sym e) | inr later ↦ inr later ]))
+taken-out x (z ∷ zs) (inl e) = (zs, (refl, λ y h. elim h [ inl f ↦ inl (f ∙ sym e) | inr later ↦ inr later ]))
 taken-out x (z ∷ zs) (inr h) =
     let rest : Rest x zs = taken-out x zs h in
-    (z ∷ rest.0, (ap suc rest.1.0, λ y h. elim h [ | inl f ↦ inr (inl f) | inr later ↦ elim (rest.1.1 y later) [ | inl same ↦ inl same | inr there ↦ inr (inr there) ] ]))
+    (z ∷ rest.0, (ap suc rest.1.0, λ y h. elim h [ inl f ↦ inr (inl f) | inr later ↦ elim (rest.1.1 y later) [ inl same ↦ inl same | inr there ↦ inr (inr there) ] ]))
 
 -- pairs that come once, all of another list, are no more than it has
 once-within : (xs ys : List (ℕ × ℕ)) → AreOnce xs → ((x : ℕ × ℕ) → IsIn x xs → IsIn x ys) → length xs ≤ length ys
@@ -47,6 +47,6 @@ module _ (cell : CellLeaves) (first n : ℕ) (fits : first + n ≤ length cell.p
   pub less-share : has_pages cell.parent ≡ true → share (cell_without first n cell) ≤ share cell
   less-share had =
       let one : parent_leaves cell ≡ 1 = ap (λ b. cond b 1 0) had in
-      let few : parent_leaves (cell_without first n cell) ≤ 1 = elim (has_pages (without_versions cell.parent first n)) as (λ b. cond b 1 0 ≤ 1) [ | true ↦ omega arith | false ↦ omega arith ] in
+      let few : parent_leaves (cell_without first n cell) ≤ 1 = elim (has_pages (without_versions cell.parent first n)) as (λ b. cond b 1 0 ≤ 1) [ true ↦ omega arith | false ↦ omega arith ] in
       let own : own_leaves (cell_without first n cell) ≡ own_leaves cell = refl in
       omega (arith, one, few, own, pairs-left)

@@ -34,7 +34,8 @@ losses_at c kept = flat_map (λ it. loss_list c it.number (loss_at it.leaf)) kep
 loss_of-append : (xs ys : List Loss) (n c : ℕ) → loss_of (xs ++ ys) n c ≡ option_or (loss_of xs n c) (loss_of ys n c)
 loss_of-append [] ys n c = refl
 loss_of-append (x ∷ xs) ys n c =
-    elim ((x.snapshot == n) && (x.cell == c)) as (λ b. cond b (Some x.at) (loss_of (xs ++ ys) n c) ≡ option_or (cond b (Some x.at) (loss_of xs n c)) (loss_of ys n c)) [ true ↦ refl | false ↦ loss_of-append xs ys n c ]
+    elim ((x.snapshot == n) && (x.cell == c)) as (λ b. cond b (Some x.at) (loss_of (xs ++ ys) n c)
+    ≡ option_or (cond b (Some x.at) (loss_of xs n c)) (loss_of ys n c)) [ true ↦ refl | false ↦ loss_of-append xs ys n c ]
 
 and-false : (a : Bool) → (a && false) ≡ false
 and-false true = refl

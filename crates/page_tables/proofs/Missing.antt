@@ -1,13 +1,12 @@
 -- The directory tables that a cell lacks.
-use Rattle.std.proofs.Common.{◌≡◌, ℕ, ◌/◌, ◌^◌, List, [], ◌∷◌, ◌++◌, length, map, Some, None, cond, eqb, refl, sym, ◌∙◌, ap, subst, arith}
-use Rattle.std.specs.Prelude.{Bool, true, false, not, ◌||◌, ◌==◌, is_some, suc, T, filter, unwrap_or}
+use Rattle.std.proofs.Common.{◌≡◌, ℕ, ◌/◌, ◌^◌, List, [], ◌∷◌, ◌++◌, length, Some, None, eqb, refl, sym, ◌∙◌, ap, arith}
+use Rattle.std.specs.Prelude.{Bool, true, false, not, ◌||◌, ◌==◌, suc, T, filter, unwrap_or}
 use Rattle.std.specs.Ordering.{nat_cmp, eq_by_cmp}
 use Rattle.std.specs.List.{list_any}
 use Rattle.std.specs.FinMap.{find, is_sorted}
 use Rattle.std.specs.FinMap.Entries.{is_some-find}
-use Rattle.std.proofs.lemmas.Bool.{cond-true, eq-eqb, ne_eqb, false≢true}
+use Rattle.std.proofs.lemmas.Bool.{eq-eqb, ne_eqb, false≢true}
 use Rattle.std.proofs.lemmas.Bool.Decides.{nat_tests}
-use Rattle.vm_base.specs.declared.frame_request.Want.{Want}
 use Rattle.vm_base.specs.declared.frame_request.Want.TheVariants as want
 use Rattle.kernel_meaning.specs.EventRequests.{shares_table, missing_tables, wanted_unless}
 use Rattle.kernel_meaning.specs.Leaves.{unused_cell, has_pages}
@@ -49,7 +48,7 @@ pub parent-there : (leaves : Leaves) (c : ℕ) → T (is_sorted nat_cmp leaves) 
 parent-there leaves c sorted there =
     sym (is_some-find nat_cmp c (filter (λ e. has_pages e.1.parent) leaves))
     ∙ is_some-filter (λ cell. has_pages cell.parent) c leaves sorted
-    ∙ elim (find nat_cmp c leaves) as (λ o. has_pages (unwrap_or o unused_cell).parent ≡ true → passes (λ cell. has_pages cell.parent) o ≡ true) [ | Some cell ↦ λ h. h | None ↦ λ h. h ] there
+    ∙ elim (find nat_cmp c leaves) as (λ o. has_pages (unwrap_or o unused_cell).parent ≡ true → passes (λ cell. has_pages cell.parent) o ≡ true) [ Some cell ↦ λ h. h | None ↦ λ h. h ] there
 
 -- a touch at a cell of the parent lacks no table
 pub missing-known : (leaves : Leaves) (c : ℕ) → T (is_sorted nat_cmp leaves) → has_pages (cell_at leaves c).parent ≡ true → missing_tables (parent_cells leaves) c ≡ []

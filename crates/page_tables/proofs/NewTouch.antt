@@ -1,12 +1,11 @@
 -- The touch of a page in a cell that the directory lacks.
-use Rattle.std.proofs.Common.{◌≡◌, ◌≢◌, ℕ, ◌+◌, ◌*◌, ◌/◌, ◌%◌, ◌<◌, ◌≤◌, List, [], ◌∷◌, ◌++◌, length, Option, Some, None, Result, Ok, Err, cond, eqb, refl, sym, ◌∙◌, ap, subst, arith, inl, inr}
-use Rattle.std.specs.Prelude.{true, false, is_some, slice_set, map, ◌||◌, ◌==◌, not, unwrap_or}
+use Rattle.std.proofs.Common.{◌≡◌, ℕ, ◌+◌, ◌*◌, ◌%◌, ◌<◌, ◌≤◌, List, [], ◌∷◌, ◌++◌, length, Option, Some, None, eqb, refl, sym, ◌∙◌, ap, subst, arith, inl, inr}
+use Rattle.std.specs.Prelude.{true, is_some, slice_set, map, ◌||◌, ◌==◌, not, unwrap_or}
 use Rattle.std.specs.Option.{option_and_then}
 use Rattle.std.specs.List.{slice_get}
 use Rattle.std.specs.FinMap.{get, insert, remove, keys}
 use Rattle.std.proofs.lemmas.Bool.{cases_eq, cond-true, cond-false, eq-eqb, ne_eqb, false≢true}
 use Rattle.std.proofs.lemmas.Option.{slice_get_within}
-use Rattle.vm_base.specs.declared.refusals.Refused.{Refused}
 use Rattle.vm_base.specs.declared.frame_request.Want.{Want}
 use Rattle.vm_base.specs.Deals.{Deal}
 use Rattle.vm_base.specs.Places.{cell_of}
@@ -19,7 +18,6 @@ use Rattle.kernel_meaning.specs.CellAccount.{CellState, CellAccount, Touch, stat
 use Rattle.kernel_meaning.specs.EventRequests.{page_touched, missing_tables}
 use Rattle.leaf_cell.specs.CellView.{CellView, AreUnjoined}
 use Rattle.leaf_cell.specs.Standing.{StandsFor, TakesAccount}
-use Rattle.leaf_cell.specs.States.{refused_count}
 use Rattle.leaf_cell.specs.Touching.{IsTouched}
 use Rattle.table_levels.specs.Cells.{CellMap}
 use Rattle.table_levels.proofs.CellLemmas.{get_removed}
@@ -29,7 +27,7 @@ use Rattle.page_tables.specs.Sides.{Sides}
 use Rattle.page_tables.specs.Courses.{course_between, RunsAt, Runs}
 use Rattle.page_tables.specs.Standing.{owner_at, state_in, StandFor, TablesStandFor, IsSlotFor}
 use Rattle.page_tables.specs.Accesses.{IsReady}
-use Rattle.page_tables.specs.Making.{page_refusal, pages_with, Follows, FollowsTouch}
+use Rattle.page_tables.specs.Making.{pages_with, Follows, FollowsTouch}
 use Rattle.page_tables.proofs.TouchRuns.{touch-runs}
 use Rattle.page_tables.proofs.TouchShapes.{IsTouchCourse, EndsTouch, touch-course, touch-size, touch-unjoined, touch-numbers, page-there}
 use Rattle.page_tables.proofs.LeafMap.{found-with_cell, length-with_cell, cell_at-here, cell_at-apart}
@@ -39,7 +37,7 @@ use Rattle.page_tables.proofs.Acting.{tables-acted, owner-kept}
 use Rattle.page_tables.proofs.Again.{tables-later, with_cell-same}
 use Rattle.page_tables.proofs.Readiness.{touched-ready, touched-still}
 use Rattle.page_tables.proofs.Room.{directory-cells}
-use Rattle.page_tables.proofs.KnownTouch.{refusal_at, refusal-of}
+use Rattle.page_tables.proofs.KnownTouch.{refusal_at}
 use Rattle.page_tables.proofs.Rows.{deals_behind, deals_up_to, new-runs, lacking-runs}
 
 module _ (old : PageTables) (sides : Sides) (st : TablesStandFor old sides) (page s : ℕ) (slot : Slot)
@@ -103,7 +101,7 @@ module _ (old : PageTables) (sides : Sides) (st : TablesStandFor old sides) (pag
     cell_runs : (refused : Option ℕ) → TakesAccount (Touch p) slot.cell view deals refused account → RunsAt (touched p) (cell_at sides.leaves c) asked_for deals end.cell end.requests.made refused
     cell_runs refused takes =
         subst (λ r. RunsAt (touched p) (cell_at sides.leaves c) asked_for deals end.cell end.requests.made r) takes.ended
-            (subst (λ cell. RunsAt (touched p) cell asked_for deals end.cell end.requests.made end.refused) (st.each.leaves c) (touch-runs p (st.cells c).leaves asked_for deals unjoined takes.asked))
+        (subst (λ cell. RunsAt (touched p) cell asked_for deals end.cell end.requests.made end.refused) (st.each.leaves c) (touch-runs p (st.cells c).leaves asked_for deals unjoined takes.asked))
 
     runs_with : (refused : Option ℕ) → TakesAccount (Touch p) slot.cell view deals refused account
         → Runs (page_touched page) sides.leaves sides.made (deals_behind wants deals refused) leaves end.requests.made (refusal_at page refused)
@@ -151,9 +149,9 @@ module _ (old : PageTables) (sides : Sides) (st : TablesStandFor old sides) (pag
             ap (owner_at new_slots) slot_is ∙ owner_here ∙ ap Some (sym same)
         | inr apart ↦
             owner-kept old.directory old.snapshot old.slots.items sides st c s slot here fits view state end.requests.made later used
-                (touch-size p start.cell end.cell shape.touch ∙ size) (touch-unjoined p start.cell end.cell shape.touch unjoined) takes.stands
-                (pages_with page None sides.pages) inside (λ q apart. with_page-outside sides.pages page q apart) refl numbers
-                q t (st.named q t (sym (get_inserted_apart old.directory c s q apart) ∙ e))
+            (touch-size p start.cell end.cell shape.touch ∙ size) (touch-unjoined p start.cell end.cell shape.touch unjoined) takes.stands
+            (pages_with page None sides.pages) inside (λ q apart. with_page-outside sides.pages page q apart) refl numbers
+            q t (st.named q t (sym (get_inserted_apart old.directory c s q apart) ∙ e))
       ]
 
       abbrev then : Sides
@@ -174,7 +172,8 @@ module _ (old : PageTables) (sides : Sides) (st : TablesStandFor old sides) (pag
             (subst (λ items. StandFor (insert old.directory c s) old.snapshot items then) (sym set) stands_then));
       }
 
-      pub granted-touches : (from to : ℕ) → IsTouched p from to slot.cell view → (new : PageTables) → new.directory ≡ insert old.directory c s → new.snapshot ≡ old.snapshot → new.slots.items ≡ new_slots
+      pub granted-touches : (from to : ℕ) → IsTouched p from to slot.cell view → (new : PageTables) → new.directory ≡ insert old.directory c s
+          → new.snapshot ≡ old.snapshot → new.slots.items ≡ new_slots
           → FollowsTouch page new (deals_behind wants deals None) None sides
       unfolding granted-follows
       granted-touches from to touched new directory alike set = record {
@@ -202,9 +201,10 @@ module _ (old : PageTables) (sides : Sides) (st : TablesStandFor old sides) (pag
         leaves = leaves;
         made = end.requests.made;
         runs = runs_with (Some at) takes;
-        stands = subst (λ now. StandFor new.directory new.snapshot new.slots.items (unchanged now)) same_leaves (subst (λ d. StandFor d new.snapshot new.slots.items (unchanged sides.leaves)) (sym directory)
+        stands = subst (λ now. StandFor new.directory new.snapshot new.slots.items (unchanged now)) same_leaves
+            (subst (λ d. StandFor d new.snapshot new.slots.items (unchanged sides.leaves)) (sym directory)
             (subst (λ it. StandFor old.directory it new.slots.items (unchanged sides.leaves)) (sym alike) (subst (λ items. StandFor old.directory old.snapshot items (unchanged sides.leaves)) (sym set)
-                (tables-later old.directory old.snapshot old.slots.items sides end.requests.made later st))));
+            (tables-later old.directory old.snapshot old.slots.items sides end.requests.made later st))));
       }
 
       pub refused-touches : (new : PageTables) → new.directory ≡ old.directory → new.snapshot ≡ old.snapshot → new.slots.items ≡ old.slots.items

@@ -1,6 +1,6 @@
 -- Tables as they are made stand for no page and no snapshot.
-use Rattle.std.proofs.Common.{◌≡◌, ◌≢◌, ℕ, ◌+◌, ◌*◌, ◌<◌, ◌≤◌, List, [], ◌∷◌, length, Option, Some, None, refl, sym, ◌∙◌, ap, subst, arith}
-use Rattle.std.specs.Prelude.{Bool, true, false, cond, is_some, replicate, count_by, unwrap_or, zero, suc}
+use Rattle.std.proofs.Common.{◌≡◌, ◌≢◌, ℕ, ◌+◌, ◌*◌, ◌≤◌, Option, Some, None, refl, sym, ◌∙◌, ap, subst, arith}
+use Rattle.std.specs.Prelude.{false, cond, is_some, replicate, count_by, unwrap_or, zero, suc}
 use Rattle.std.specs.Ordering.{nat_cmp}
 use Rattle.std.specs.Option.{option_and_then}
 use Rattle.std.specs.List.{slice_get}
@@ -8,14 +8,13 @@ use Rattle.std.specs.FinMap.{get, empty, get-empty}
 use Rattle.std.proofs.lemmas.Bool.{false≢true}
 use Rattle.std.proofs.lemmas.List.{length-replicate}
 use Rattle.std.proofs.lemmas.List.Folds.{sum_by-replicate}
-use Rattle.kernel_meaning.specs.Leaves.{Versions, no_versions, has_pages}
-use Rattle.kernel_meaning.specs.CellAccount.{CellState, empty_state, empty_account}
-use Rattle.leaf_cell.specs.CellView.{new_view, held_of}
+use Rattle.kernel_meaning.specs.Leaves.{has_pages}
+use Rattle.kernel_meaning.specs.CellAccount.{empty_state}
+use Rattle.leaf_cell.specs.CellView.{held_of}
 use Rattle.leaf_cell.specs.Standing.{StandsFor}
 use Rattle.leaf_cell.proofs.NewCell.{stands_new}
-use Rattle.table_levels.specs.Cells.{CellMap}
 use Rattle.page_tables.specs.declared.slot.Slot.{Slot}
-use Rattle.page_tables.specs.Sides.{Sides, opening_sides}
+use Rattle.page_tables.specs.Sides.{opening_sides}
 use Rattle.page_tables.specs.Standing.{owner_at, state_in, free_slot, StandFor}
 use Rattle.page_tables.specs.Held.{frames_in}
 

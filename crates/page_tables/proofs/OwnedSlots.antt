@@ -1,13 +1,13 @@
 -- Slots that cells have, and the frames in them.
-use Rattle.std.proofs.Common.{◌≡◌, ◌≢◌, ℕ, ◌+◌, ◌<◌, ◌≤◌, List, [], ◌∷◌, length, Option, Some, None, refl, sym, ◌∙◌, ap, subst, arith}
-use Rattle.std.specs.Prelude.{Bool, true, false, is_some, slice_set, slice_index_or, sum_by, zero, suc, unwrap_or}
+use Rattle.std.proofs.Common.{◌≡◌, ℕ, ◌+◌, ◌<◌, ◌≤◌, List, [], ◌∷◌, length, Option, Some, None, refl, sym, ◌∙◌, ap, subst, arith}
+use Rattle.std.specs.Prelude.{is_some, slice_set, slice_index_or, zero, suc, unwrap_or}
 use Rattle.std.specs.Option.{option_and_then}
 use Rattle.std.specs.List.{slice_get}
 use Rattle.std.proofs.lemmas.Bool.{false≢true}
 use Rattle.std.proofs.lemmas.List.Sums.{sum_by-set, sum_by-cons}
 use Rattle.std.proofs.lemmas.Option.{slice_get_within, get_or_from_slice_get, slice_get_read}
 use Rattle.kernel_meaning.specs.Leaves.{Kept, is_joined}
-use Rattle.kernel_meaning.specs.CellAccount.{CellAccount, CellState}
+use Rattle.kernel_meaning.specs.CellAccount.{CellAccount}
 use Rattle.leaf_cell.specs.CellView.{CellView, AreUnjoined, held_of}
 use Rattle.leaf_cell.specs.Renaming.{AreKeptAlike}
 use Rattle.leaf_cell.specs.Standing.{StandsFor}
@@ -44,7 +44,8 @@ held-within (it ∷ slots) (suc s) slot e =
 -- one slot gets another cell
 pub frames-set : (slots : List Slot) (s : ℕ) (slot new : Slot) → slice_get slots s ≡ Some slot → frames_in (slice_set slots s new) + held_of slot.cell ≡ frames_in slots + held_of new.cell
 frames-set slots s slot new here =
-    let sums : frames_in (slice_set slots s new) + held_of (slice_index_or slots s slot).cell ≡ frames_in slots + held_of new.cell = sum_by-set (λ it. held_of it.cell) slots s new slot (slice_get_within slots s slot here) in
+    let sums : frames_in (slice_set slots s new) + held_of (slice_index_or slots s slot).cell ≡ frames_in slots + held_of new.cell =
+    sum_by-set (λ it. held_of it.cell) slots s new slot (slice_get_within slots s slot here) in
     let was : held_of (slice_index_or slots s slot).cell ≡ held_of slot.cell = ap (λ it. held_of it.cell) (get_or_from_slice_get slots s slot slot here) in
     omega arith
 
@@ -62,7 +63,8 @@ view-unjoined view account stands h = unjoined-back stands.name view.leaves.kept
 pub read-slot : (slots : List Slot) (s : ℕ) (slot : Slot) → s < length slots → slot ≡ slice_index_or slots s slot → slice_get slots s ≡ Some slot
 read-slot slots s slot within read = slice_get_read slots (length slots) s slot refl within read
 
-module _ (directory : CellMap) (snapshot : Option SnapshotTables) (slots : List Slot) (sides : Sides) (st : StandFor directory snapshot slots sides) (s : ℕ) (slot : Slot) (here : slice_get slots s ≡ Some slot) where
+module _ (directory : CellMap) (snapshot : Option SnapshotTables) (slots : List Slot) (sides : Sides) (st : StandFor directory snapshot slots sides)
+    (s : ℕ) (slot : Slot) (here : slice_get slots s ≡ Some slot) where
   -- no leaf is joined in any slot
   pub slot-unjoined : AreUnjoined slot.cell.leaves.kept
   slot-unjoined = view-unjoined slot.cell (record { state = state_in st.cells slot.owner; made = sides.made }) (st.slots_of.stands s slot here) (meant slot.owner)

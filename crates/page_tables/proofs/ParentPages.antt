@@ -58,8 +58,8 @@ module _ (directory : CellMap) (snapshot : Option SnapshotTables) (slots : List 
         let there : (slot : Slot) × ((slice_get slots owned.0 ≡ Some slot) × (slot.owner ≡ Some c)) = owned-slot slots owned.0 c owned.1 in
         let stands : StandsFor there.0.cell (account_at c) = slot-stands c owned.0 there.0 there.1.0 owned.1 in
         sym (st.each.pages c p small) ∙ sym (stands.pages p small) ∙ ap (bytes_in there.0.cell.frames)
-            (ap (λ vs. version_at vs p) stands.leaves.parent ∙ version_at-renamed stands.name (st.cells c).leaves.parent p
-            ∙ ap (option_map (stands.name p)) (ap (λ cell. version_at cell.parent p) (st.each.leaves c) ∙ none))
+        (ap (λ vs. version_at vs p) stands.leaves.parent ∙ version_at-renamed stands.name (st.cells c).leaves.parent p
+        ∙ ap (option_map (stands.name p)) (ap (λ cell. version_at cell.parent p) (st.each.leaves c) ∙ none))
     | inr unused ↦ sym (st.each.pages c p small) ∙ ap (λ state. get state.pages p) (st.blank c unused) ∙ get-empty nat_cmp p
   ]
 
@@ -86,9 +86,14 @@ module _ (tables : PageTables) (sides : Sides) (st : TablesStandFor tables sides
   abbrev c : ℕ
   c = cell_of (page_of addr)
 
+  stood : StandsFor slot.cell (account_at tables.directory tables.snapshot tables.slots.items sides st c)
+  stood = slot-stands tables.directory tables.snapshot tables.slots.items sides st c s slot (owned-here tables.slots.items s c slot (st.named c s known) here) (st.named c s known)
+
   part : bytes ≡ part_of (get (st.cells c).pages (page_of addr % 512)) (offset_of addr) size
-  part = told (account_at tables.directory tables.snapshot tables.slots.items sides st c) (slot-stands tables.directory tables.snapshot tables.slots.items sides st c s slot (owned-here tables.slots.items s c slot (st.named c s known) here) (st.named c s known))
+  part = told (account_at tables.directory tables.snapshot tables.slots.items sides st c) stood
       ∙ ap (λ p. part_of (get (st.cells c).pages p) at size) page_is ∙ ap (λ i. part_of (get (st.cells c).pages (page_of addr % 512)) i size) at_is
 
   pub parent-read : bytes ≡ bytes_at sides.pages addr size
-  parent-read = part ∙ bytes_at-part sides.pages addr size (get (st.cells c).pages (page_of addr % 512)) (sym (page-known tables.directory tables.snapshot tables.slots.items sides st (page_of addr) s known)) room (sym (ap length part) ∙ as_many)
+  parent-read =
+      let there : get sides.pages (page_of addr) ≡ get (st.cells c).pages (page_of addr % 512) = sym (page-known tables.directory tables.snapshot tables.slots.items sides st (page_of addr) s known) in
+      part ∙ bytes_at-part sides.pages addr size (get (st.cells c).pages (page_of addr % 512)) there room (sym (ap length part) ∙ as_many)

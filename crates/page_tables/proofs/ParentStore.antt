@@ -1,19 +1,16 @@
 -- The store of bytes within a page of a cell that the directory has.
-use Rattle.std.proofs.Common.{◌≡◌, ◌≢◌, ℕ, ◌+◌, ◌*◌, ◌/◌, ◌%◌, ◌<◌, ◌≤◌, List, [], ◌∷◌, length, map, Some, None, cond, eqb, refl, sym, ◌∙◌, ap, subst, arith, inl, inr}
-use Rattle.std.specs.Prelude.{true, not, ◌||◌, ◌==◌, is_some, IsSome, slice_set, slice_index_or, unwrap_or}
-use Rattle.std.specs.Ordering.{nat_cmp}
-use Rattle.std.specs.Cmp.{nat_cmp_total}
+use Rattle.std.proofs.Common.{◌≡◌, ◌≢◌, ℕ, ◌+◌, ◌*◌, ◌/◌, ◌%◌, ◌<◌, ◌≤◌, List, [], ◌∷◌, length, map, Some, None, refl, sym, ◌∙◌, ap, subst, arith, inl, inr}
+use Rattle.std.specs.Prelude.{true, not, ◌||◌, ◌==◌, is_some, slice_set, slice_index_or, unwrap_or}
 use Rattle.std.specs.Option.{option_and_then}
 use Rattle.std.specs.List.{slice_get}
-use Rattle.std.specs.FinMap.{get, insert, find, put, nat_cmp-IsAntisymmetric}
-use Rattle.std.specs.FinMap.Entries.{find-put, is_sorted-put, same_entries}
-use Rattle.std.proofs.lemmas.Bool.{cases_eq, cond-true, cond-false, eq-eqb, ne_eqb, false≢true}
+use Rattle.std.specs.FinMap.{get, insert, put}
+use Rattle.std.proofs.lemmas.Bool.{cases_eq}
 use Rattle.vm_base.specs.Places.{page_of, offset_of, cell_of}
 use Rattle.vm_base.specs.FlatMemory.{PageMap, zero_page}
 use Rattle.vm_base.specs.FlatStep.{with_byte, with_bytes}
 use Rattle.vm_base.proofs.NumberedMaps.{get_inserted_here, get_inserted_apart}
-use Rattle.kernel_meaning.specs.Leaves.{has_pages, unused_cell}
-use Rattle.kernel_meaning.specs.FrameLaw.{Leaves, cell_at, with_cell, is_used}
+use Rattle.kernel_meaning.specs.Leaves.{has_pages}
+use Rattle.kernel_meaning.specs.FrameLaw.{cell_at, with_cell, is_used}
 use Rattle.kernel_meaning.specs.CellAccount.{CellState, CellAccount, Store}
 use Rattle.leaf_cell.specs.CellView.{CellView, AreUnjoined}
 use Rattle.leaf_cell.specs.Standing.{StandsFor, TakesAccount}
@@ -22,10 +19,10 @@ use Rattle.leaf_cell.proofs.SameReads.{alone-stands}
 use Rattle.page_tables.specs.declared.slot.Slot.{Slot}
 use Rattle.page_tables.specs.declared.tables.PageTables.{PageTables}
 use Rattle.page_tables.specs.Sides.{Sides}
-use Rattle.page_tables.specs.Standing.{StandFor, TablesStandFor, AreKept}
+use Rattle.page_tables.specs.Standing.{StandFor, TablesStandFor}
 use Rattle.page_tables.specs.Accesses.{IsReady}
-use Rattle.page_tables.proofs.LeafMap.{with_cell-put, same_number, used-found}
 use Rattle.page_tables.proofs.SlotLemmas.{owner-same}
+use Rattle.page_tables.proofs.Again.{with_cell-same}
 use Rattle.page_tables.proofs.Acting.{tables-acted}
 use Rattle.page_tables.proofs.ParentPages.{account_at, slot-stands, owned-here}
 
@@ -42,11 +39,11 @@ byte-inside part pages c page at byte small room alike p low =
     let far : page_of ((c * 512 + page) * 4096 + at) ≡ c * 512 + page = omega arith in
     let far_at : offset_of ((c * 512 + page) * 4096 + at) ≡ at = omega arith in
     let left : with_byte part (page * 4096 + at) byte ≡ insert part page (slice_set (unwrap_or (get part page) zero_page) at byte) =
-        ap (λ q. insert part q (slice_set (unwrap_or (get part q) zero_page) (offset_of (page * 4096 + at)) byte)) near
-        ∙ ap (λ i. insert part page (slice_set (unwrap_or (get part page) zero_page) i byte)) near_at in
+    ap (λ q. insert part q (slice_set (unwrap_or (get part q) zero_page) (offset_of (page * 4096 + at)) byte)) near
+    ∙ ap (λ i. insert part page (slice_set (unwrap_or (get part page) zero_page) i byte)) near_at in
     let right : with_byte pages ((c * 512 + page) * 4096 + at) byte ≡ insert pages (c * 512 + page) (slice_set (unwrap_or (get pages (c * 512 + page)) zero_page) at byte) =
-        ap (λ q. insert pages q (slice_set (unwrap_or (get pages q) zero_page) (offset_of ((c * 512 + page) * 4096 + at)) byte)) far
-        ∙ ap (λ i. insert pages (c * 512 + page) (slice_set (unwrap_or (get pages (c * 512 + page)) zero_page) i byte)) far_at in
+    ap (λ q. insert pages q (slice_set (unwrap_or (get pages q) zero_page) (offset_of ((c * 512 + page) * 4096 + at)) byte)) far
+    ∙ ap (λ i. insert pages (c * 512 + page) (slice_set (unwrap_or (get pages (c * 512 + page)) zero_page) i byte)) far_at in
     ap (λ m. get m p) left ∙ elim (cases_eq p page) [
       | inl here ↦ get_inserted_here part page _ p here ∙ ap (λ o. Some (slice_set (unwrap_or o zero_page) at byte)) (alike page small)
           ∙ sym (get_inserted_here pages (c * 512 + page) _ (c * 512 + p) (ap (λ q. c * 512 + q) here))
@@ -68,7 +65,7 @@ bytes-inside (byte ∷ bytes) part pages c page at small room alike = λ p low.
     let far : (c * 512 + page) * 4096 + at + 1 ≡ (c * 512 + page) * 4096 + (at + 1) = omega arith in
     ap (λ a. get (with_bytes (with_byte part (page * 4096 + at) byte) a bytes) p) near
     ∙ bytes-inside bytes (with_byte part (page * 4096 + at) byte) (with_byte pages ((c * 512 + page) * 4096 + at) byte) c page (at + 1) small (omega arith)
-        (byte-inside part pages c page at byte small (omega arith) alike) p low
+    (byte-inside part pages c page at byte small (omega arith) alike) p low
     ∙ sym (ap (λ a. get (with_bytes (with_byte pages ((c * 512 + page) * 4096 + at) byte) a bytes) (c * 512 + p)) far)
 
 pub bytes-outside : (bytes : List ℕ) (pages : PageMap) (c page at q : ℕ) → page < 512 → at + length bytes ≤ 4096 → q / 512 ≢ c
@@ -79,21 +76,6 @@ bytes-outside (byte ∷ bytes) pages c page at q small room apart =
     ap (λ a. get (with_bytes (with_byte pages ((c * 512 + page) * 4096 + at) byte) a bytes) q) far
     ∙ bytes-outside bytes (with_byte pages ((c * 512 + page) * 4096 + at) byte) c page (at + 1) q small (omega arith) apart
     ∙ byte-outside pages c page at byte q small (omega arith) apart
-
--- a cell that is there, put there again, changes nothing
-pub with_cell-same : (leaves : Leaves) (c : ℕ) → AreKept leaves → is_used (cell_at leaves c) ≡ true → with_cell leaves c (cell_at leaves c) ≡ leaves
-with_cell-same leaves c kept used =
-    with_cell-put leaves c (cell_at leaves c) used
-    ∙ same_entries nat_cmp nat_cmp_total nat_cmp-IsAntisymmetric (put nat_cmp c (cell_at leaves c) leaves) leaves (is_sorted-put nat_cmp nat_cmp_total c (cell_at leaves c) leaves kept.sorted) kept.sorted
-        (λ q. find-put nat_cmp nat_cmp_total q c (cell_at leaves c) leaves ∙ ap (λ b. cond b (Some (cell_at leaves c)) (find nat_cmp q leaves)) (same_number q c) ∙ again q)
-  where
-    there : Some (cell_at leaves c) ≡ find nat_cmp c leaves
-    there = elim (find nat_cmp c leaves) as (λ o. IsSome o → Some (unwrap_or o unused_cell) ≡ o) [ | Some cell ↦ λ h. refl | None ↦ λ h. absurd (false≢true h) ] (used-found leaves c used)
-    again : (q : ℕ) → cond (eqb q c) (Some (cell_at leaves c)) (find nat_cmp q leaves) ≡ find nat_cmp q leaves
-    again q = elim (cases_eq q c) [
-      | inl here ↦ cond-true (eqb q c) _ _ (eq-eqb q c here) ∙ there ∙ ap (λ i. find nat_cmp i leaves) (sym here)
-      | inr apart ↦ cond-false (eqb q c) _ _ (ne_eqb q c apart)
-    ]
 
 -- a page that is the parent's alone in the account is so in the cell
 pub alone-view : (view : CellView) (account : CellAccount) → StandsFor view account → (page : ℕ) → IsAlone account.state.leaves page → IsAlone view.leaves page
@@ -138,7 +120,7 @@ module _ (old : PageTables) (sides : Sides) (st : TablesStandFor old sides) (add
     used = ap (λ b. b || not (length (cell_at sides.leaves c).kept == 0)) has
 
     same_leaves : with_cell sides.leaves c (st.cells c).leaves ≡ sides.leaves
-    same_leaves = ap (with_cell sides.leaves c) (st.each.leaves c) ∙ with_cell-same sides.leaves c st.kept used
+    same_leaves = ap (with_cell sides.leaves c) (st.each.leaves c) ∙ with_cell-same sides.leaves c st.kept
 
     whole : (c * 512 + p) * 4096 + offset_of addr ≡ addr
     whole = omega arith

@@ -1,12 +1,11 @@
 -- Whether the parent has a page, by its versions and by its bytes.
-use Rattle.std.proofs.Common.{◌≡◌, ℕ, ◌+◌, ◌*◌, ◌/◌, ◌%◌, ◌<◌, List, [], ◌∷◌, Option, Some, None, refl, sym, ◌∙◌, ap, subst, arith}
-use Rattle.std.specs.Prelude.{Bool, true, false, is_some, zero, suc}
+use Rattle.std.proofs.Common.{◌≡◌, ℕ, ◌%◌, ◌<◌, List, [], ◌∷◌, Option, Some, None, refl, ◌∙◌, ap, arith}
+use Rattle.std.specs.Prelude.{is_some, zero, suc}
 use Rattle.std.specs.Option.{option_map}
 use Rattle.std.specs.List.{slice_get}
 use Rattle.std.specs.FinMap.{get}
 use Rattle.vm_base.specs.Places.{cell_of}
 use Rattle.kernel_meaning.specs.Leaves.{Versions, version_at, has_present}
-use Rattle.kernel_meaning.specs.FrameLaw.{cell_at}
 use Rattle.kernel_meaning.specs.EventRequests.{page_version}
 use Rattle.leaf_cell.specs.CellView.{parent_page}
 use Rattle.leaf_cell.specs.Standing.{StandsFor}
@@ -15,8 +14,8 @@ use Rattle.table_levels.specs.Cells.{CellMap}
 use Rattle.page_tables.specs.declared.slot.Slot.{Slot}
 use Rattle.page_tables.specs.declared.tables.SnapshotTables.{SnapshotTables}
 use Rattle.page_tables.specs.Sides.{Sides}
-use Rattle.page_tables.specs.Standing.{owner_at, StandFor}
-use Rattle.page_tables.proofs.ParentPages.{account_at, slot-stands, page-known, version-absent}
+use Rattle.page_tables.specs.Standing.{StandFor}
+use Rattle.page_tables.proofs.ParentPages.{account_at, slot-stands, page-known}
 
 -- one page of a range of one
 pub one-present : (versions : Versions) (page : ℕ) → has_present versions page 1 ≡ is_some (version_at versions page)

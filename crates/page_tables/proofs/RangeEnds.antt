@@ -1,21 +1,20 @@
 -- The touch of a range is refused at a page, and what was added is taken out again.
-use Rattle.std.proofs.Common.{◌≡◌, ◌≢◌, ℕ, ◌+◌, ◌-◌, ◌*◌, ◌/◌, ◌%◌, ◌^◌, ◌<◌, ◌≤◌, List, [], ◌∷◌, ◌++◌, length, Option, Some, None, cond, eqb, refl, sym, ◌∙◌, ap, subst, arith, inl, inr, append_assoc, append-nil, nat_le, nat_lt}
-use Rattle.std.specs.Prelude.{Bool, true, false, not, ◌||◌, ◌&&◌, ◌==◌, is_some, IsSome, filter, zero, suc, All, replicate, slice_index_or}
-use Rattle.std.specs.Ordering.{nat_cmp}
+use Rattle.std.proofs.Common.{◌≡◌, ℕ, ◌+◌, ◌-◌, ◌*◌, ◌/◌, ◌%◌, ◌^◌, ◌<◌, ◌≤◌, List, [], ◌∷◌, ◌++◌, length, Option, Some, None, cond, eqb, refl, sym, ◌∙◌, ap, subst, arith, inl, inr, append_assoc, append-nil}
+use Rattle.std.specs.Prelude.{Bool, true, false, not, ◌||◌, ◌&&◌, is_some, IsSome, filter, zero, suc, All, slice_index_or}
 use Rattle.std.specs.List.{range_with_len, list_any}
-use Rattle.std.specs.FinMap.{get, retain_keys, get-retain_keys, nat_cmp-IsAntisymmetric}
-use Rattle.std.proofs.lemmas.Bool.{cases_eq, cases_Bool, cases_lt, cond-true, cond-false, eq-eqb, ne_eqb, false≢true}
+use Rattle.std.specs.FinMap.{get, get-retain_keys, nat_cmp-IsAntisymmetric}
+use Rattle.std.proofs.lemmas.Bool.{cases_eq, cases_Bool, cases_lt, eq-eqb, ne_eqb, false≢true}
 use Rattle.std.proofs.lemmas.Bool.Decides.{nat_tests}
 use Rattle.std.proofs.lemmas.List.FromFn.{length-range_with_len}
 use Rattle.vm_base.specs.Places.{cell_of}
-use Rattle.vm_base.specs.Deals.{Deal, Returned}
+use Rattle.vm_base.specs.Deals.{Deal}
 use Rattle.vm_base.specs.FlatMemory.{PageMap}
 use Rattle.vm_base.specs.FlatStep.{with_page, with_pages, is_beyond}
 use Rattle.vm_base.proofs.NumberedMaps.{same_numbered}
 use Rattle.vm_base.proofs.FlatPages.{get-with_pages_below}
-use Rattle.kernel_meaning.specs.Requests.{Answer, answers_of, given_back}
+use Rattle.kernel_meaning.specs.Requests.{Answer, answers_of}
 use Rattle.kernel_meaning.specs.FrameLaw.{Leaves, held_frames}
-use Rattle.kernel_meaning.specs.EventRequests.{Progress, FrameRefusal, page_touched, pages_touched, pages_touched_behind, touch_goes_on, progress_shrunk, added_by, without_pages, without_page, page_version}
+use Rattle.kernel_meaning.specs.EventRequests.{FrameRefusal, pages_touched, pages_touched_behind, touch_goes_on, added_by, without_pages, without_page, page_version}
 use Rattle.table_levels.specs.Requests.{returned}
 use Rattle.table_levels.specs.Cells.{tables_of}
 use Rattle.page_tables.specs.declared.tables.PageTables.{PageTables}
@@ -26,7 +25,7 @@ use Rattle.page_tables.specs.Held.{frames_in, shares_in, snapshot_frames, frames
 use Rattle.page_tables.specs.Accesses.{IsReady}
 use Rattle.page_tables.specs.Clearing.{sides_without}
 use Rattle.page_tables.specs.Making.{FollowsTouch}
-use Rattle.page_tables.specs.Ranges.{absent_pages, IsTouchedUpTo, FollowsRange, pages_with_range, sides_without_pages, AreThere}
+use Rattle.page_tables.specs.Ranges.{absent_pages, IsTouchedUpTo, FollowsRange, sides_without_pages, AreThere}
 use Rattle.page_tables.proofs.HeldFrames.{frames-law}
 use Rattle.page_tables.proofs.PageMaps.{present_or_zeros, with_page-apart, with_page-here}
 use Rattle.page_tables.proofs.RangeRoom.{among-range}
@@ -55,11 +54,12 @@ pages-left : (pages : List ℕ) (sides : Sides) (q : ℕ) → get (sides_without
 pages-left [] sides q = refl
 pages-left (page ∷ pages) sides q =
     pages-left pages (sides_without (cell_of page) (page % 512) 1 sides) q
-    ∙ ap (cond (list_any (eqb q) pages) None) (get-retain_keys sides.pages (is_beyond (page / 512 * 512 + page % 512) 1) q (λ x e. ap (is_beyond (page / 512 * 512 + page % 512) 1) (sym (nat_cmp-IsAntisymmetric q x e))) ∙ ap (λ b. cond b (get sides.pages q) None) (beyond-one page q))
+    ∙ ap (cond (list_any (eqb q) pages) None) (get-retain_keys sides.pages (is_beyond (page / 512 * 512 + page % 512) 1) q
+    (λ x e. ap (is_beyond (page / 512 * 512 + page % 512) 1) (sym (nat_cmp-IsAntisymmetric q x e))) ∙ ap (λ b. cond b (get sides.pages q) None) (beyond-one page q))
     ∙ elim (eqb q page) as (λ b. cond (list_any (eqb q) pages) None (cond (not b) (get sides.pages q) None) ≡ cond (b || list_any (eqb q) pages) None (get sides.pages q)) [
-        | true ↦ elim (list_any (eqb q) pages) as (λ b. cond {A = Option (List ℕ)} b None None ≡ None) [ true ↦ refl | false ↦ refl ]
-        | false ↦ refl
-      ]
+      | true ↦ elim (list_any (eqb q) pages) as (λ b. cond {A = Option (List ℕ)} b None None ≡ None) [ true ↦ refl | false ↦ refl ]
+      | false ↦ refl
+    ]
 
 -- ---- the pages that a touch added
 
@@ -68,7 +68,8 @@ with_pages-keeps : (n : ℕ) (pages : PageMap) (first q : ℕ) → is_some (get 
 with_pages-keeps zero pages first q there = refl
 with_pages-keeps (suc n) pages first q there = elim (cases_eq q first) [
   | inl here ↦
-      let kept : get (with_page pages first) q ≡ get pages q = ap (get (with_page pages first)) here ∙ with_page-here pages first ∙ again (get pages first) (ap (λ p. is_some (get pages p)) (sym here) ∙ there) ∙ ap (get pages) (sym here) in
+      let kept : get (with_page pages first) q ≡ get pages q = ap (get (with_page pages first)) here ∙ with_page-here pages first
+      ∙ again (get pages first) (ap (λ p. is_some (get pages p)) (sym here) ∙ there) ∙ ap (get pages) (sym here) in
       with_pages-keeps n (with_page pages first) (first + 1) q (ap is_some kept ∙ there) ∙ kept
   | inr apart ↦ with_pages-keeps n (with_page pages first) (first + 1) q (ap is_some (with_page-apart pages first q apart) ∙ there) ∙ with_page-apart pages first q apart
 ]
@@ -90,7 +91,8 @@ any-filter test q (x ∷ xs) = elim (cases_eq q x) [
   | inr apart ↦
       let other : eqb q x ≡ false = ne_eqb q x apart in
       let rest : list_any (eqb q) (filter test xs) ≡ (test q && list_any (eqb q) xs) = any-filter test q xs in
-      elim (test x) as (λ b. list_any (eqb q) (cond b (x ∷ filter test xs) (filter test xs)) ≡ list_any (eqb q) (filter test xs)) [ true ↦ ap (λ b. b || list_any (eqb q) (filter test xs)) other | false ↦ refl ]
+      elim (test x) as (λ b. list_any (eqb q) (cond b (x ∷ filter test xs) (filter test xs))
+      ≡ list_any (eqb q) (filter test xs)) [ true ↦ ap (λ b. b || list_any (eqb q) (filter test xs)) other | false ↦ refl ]
       ∙ rest ∙ ap (λ b. test q && (b || list_any (eqb q) xs)) (sym other)
 ]
 
@@ -130,30 +132,32 @@ module _ (pages : PageMap) (first i : ℕ) (added : List ℕ) (new : added ≡ a
         ap (λ b. cond b None (get (with_pages pages first i) q)) yes_in
         ∙ sym (not-some (get pages q) (both-true (not (is_some (get pages q))) (list_any (eqb q) (range_with_len first i)) (sym (added-if q) ∙ yes_in)).0)
     | inr not_in ↦ ap (λ b. cond b None (get (with_pages pages first i) q)) not_in ∙ elim (cases_Bool (is_some (get pages q))) [
-        | inl there ↦ with_pages-keeps i pages first q there
-        | inr lost ↦ elim (cases_lt q first) [
-            | inl below ↦ get-with_pages_below i pages first q below
-            | inr above ↦ elim (cases_lt q (first + i)) [
-                | inl inside ↦ absurd (out-of-range q first i (sym (ap (λ b. not b && list_any (eqb q) (range_with_len first i)) lost) ∙ sym (added-if q) ∙ not_in) above inside)
-                | inr beyond ↦ get-with_pages_above i pages first q beyond
-              ]
-          ]
+      | inl there ↦ with_pages-keeps i pages first q there
+      | inr lost ↦ elim (cases_lt q first) [
+        | inl below ↦ get-with_pages_below i pages first q below
+        | inr above ↦ elim (cases_lt q (first + i)) [
+          | inl inside ↦ absurd (out-of-range q first i (sym (ap (λ b. not b && list_any (eqb q) (range_with_len first i)) lost) ∙ sym (added-if q) ∙ not_in) above inside)
+          | inr beyond ↦ get-with_pages_above i pages first q beyond
+        ]
       ]
+    ]
   ]
 
 -- ---- what was added is there as it is taken out
 
-there-range : (test : ℕ → Bool) (n a : ℕ) (leaves : Leaves) → ((q : ℕ) → list_any (eqb q) (filter test (range_with_len a n)) ≡ true → IsSome (page_version leaves q)) → AreThere leaves (filter test (range_with_len a n))
+there-range : (test : ℕ → Bool) (n a : ℕ) (leaves : Leaves) → ((q : ℕ) → list_any (eqb q) (filter test (range_with_len a n)) ≡ true → IsSome (page_version leaves q))
+    → AreThere leaves (filter test (range_with_len a n))
 there-range test zero a leaves there = tt
 there-range test (suc n) a leaves there =
     elim (test a) as (λ b. ((q : ℕ) → list_any (eqb q) (cond b (a ∷ filter test (range_with_len (a + 1) n)) (filter test (range_with_len (a + 1) n))) ≡ true → IsSome (page_version leaves q))
-        → AreThere leaves (cond b (a ∷ filter test (range_with_len (a + 1) n)) (filter test (range_with_len (a + 1) n)))) [
-      | true ↦ λ there.
-          (there a (ap (λ b. b || list_any (eqb a) (filter test (range_with_len (a + 1) n))) (eq-eqb a a refl)),
-           there-range test n (a + 1) (without_page a leaves) (λ q e.
-             let above : a + 1 ≤ q = (in-range q (a + 1) n (second (test q) (list_any (eqb q) (range_with_len (a + 1) n)) (sym (any-filter test q (range_with_len (a + 1) n)) ∙ e))).0 in
-             ap is_some (version-left leaves a q (λ same. omega (arith, above, same)))
-             ∙ there q (ap (λ b. eqb q a || b) e ∙ or-true (eqb q a))))
+    → AreThere leaves (cond b (a ∷ filter test (range_with_len (a + 1) n)) (filter test (range_with_len (a + 1) n)))) [
+      | true ↦ λ there. (
+        there a (ap (λ b. b || list_any (eqb a) (filter test (range_with_len (a + 1) n))) (eq-eqb a a refl)),
+        there-range test n (a + 1) (without_page a leaves) (λ q e.
+            let above : a + 1 ≤ q = (in-range q (a + 1) n (second (test q) (list_any (eqb q) (range_with_len (a + 1) n)) (sym (any-filter test q (range_with_len (a + 1) n)) ∙ e))).0 in
+            ap is_some (version-left leaves a q (λ same. omega (arith, above, same)))
+            ∙ there q (ap (λ b. eqb q a || b) e ∙ or-true (eqb q a))),
+      )
       | false ↦ λ there. there-range test n (a + 1) leaves there
     ] there
   where
@@ -166,10 +170,11 @@ there-range test (suc n) a leaves there =
     or-true false = refl
 
 -- each page that was added is there while all of the range are ready
-pub added-there : (pages : PageMap) (first i : ℕ) (added : List ℕ) → added ≡ absent_pages pages first i → (leaves : Leaves) → ((q : ℕ) → first ≤ q → q < first + i → IsReady leaves q) → AreThere leaves added
+pub added-there : (pages : PageMap) (first i : ℕ) (added : List ℕ) → added ≡ absent_pages pages first i → (leaves : Leaves)
+    → ((q : ℕ) → first ≤ q → q < first + i → IsReady leaves q) → AreThere leaves added
 added-there pages first i added new leaves ready =
     subst (AreThere leaves) (sym new) (there-range (λ page. not (is_some (get pages page))) i first leaves
-        (λ q e. let within : (first ≤ q) × (q < first + i) = added-within pages first i added new q (ap (list_any (eqb q)) new ∙ e) in (ready q within.0 within.1).present))
+    (λ q e. let within : (first ≤ q) × (q < first + i) = added-within pages first i added new q (ap (list_any (eqb q)) new ∙ e) in (ready q within.0 within.1).present))
 
 at-among : (xs : List ℕ) (k d : ℕ) → k < length xs → list_any (eqb (slice_index_or xs k d)) xs ≡ true
 at-among [] k d small = absurd (omega arith)
@@ -206,7 +211,8 @@ ready-left-all (page ∷ pages) leaves q apart ready = elim (cases_eq q page) [
   | inr other ↦ ready-left-all pages (without_page page leaves) q (sym (ap (λ b. b || list_any (eqb q) pages) (ne_eqb q page other)) ∙ apart) (ready-left leaves page q other ready)
 ]
 
-module _ (first n i : ℕ) (small : i < n) (added : List ℕ) (now mid final : PageTables) (deals more : List Deal) (sides : Sides) (slots : ℕ) (so_far : IsTouchedUpTo first n i added now deals sides slots)
+module _ (first n i : ℕ) (small : i < n) (added : List ℕ) (now mid final : PageTables) (deals more : List Deal) (sides : Sides)
+    (slots : ℕ) (so_far : IsTouchedUpTo first n i added now deals sides slots)
     (page : ℕ) (here : page ≡ first + i) (refusal : FrameRefusal) (touch : FollowsTouch page mid more (Some refusal) (sides_then first n i small added now mid deals more sides slots so_far page here))
     (taken : (s : Sides) → TablesStandFor mid s → TablesStandFor final (sides_without_pages added s)) (snapshot : final.snapshot ≡ mid.snapshot)
     (even : frames_in mid.slots.items + shares_in final.slots.items ≡ shares_in mid.slots.items + frames_in final.slots.items) where
@@ -226,13 +232,17 @@ module _ (first n i : ℕ) (small : i < n) (added : List ℕ) (now mid final : P
   same_pages = same_numbered _ _ (λ q. pages-left added mid_sides q ∙ restored sides.pages first i added so_far.new q)
 
   ends : TablesStandFor final final_sides
-  ends = subst (TablesStandFor final) (λ j. record { leaves = leaves-left added mid_sides j; pages = same_pages j; snapshots = snapshots-left added mid_sides j; made = made-left added mid_sides j }) (taken mid_sides touch.follows.stands)
+  ends = subst (TablesStandFor final)
+      (λ j. record { leaves = leaves-left added mid_sides j; pages = same_pages j; snapshots = snapshots-left added mid_sides j; made = made-left added mid_sides j })
+      (taken mid_sides touch.follows.stands)
 
   -- as many frames go back as the law counts
   counted : held_frames touch.follows.leaves - held_frames final_leaves ≡ back
   counted =
-      let before : held_frames touch.follows.leaves ≡ tables_of mid.directory + snapshot_frames mid.snapshot + shares_in mid.slots.items = frames-law mid.directory mid.snapshot mid.slots.items mid_sides touch.follows.stands in
-      let after : held_frames final_leaves ≡ tables_of final.directory + snapshot_frames final.snapshot + shares_in final.slots.items = frames-law final.directory final.snapshot final.slots.items final_sides ends in
+      let before : held_frames touch.follows.leaves ≡ tables_of mid.directory + snapshot_frames mid.snapshot + shares_in mid.slots.items =
+      frames-law mid.directory mid.snapshot mid.slots.items mid_sides touch.follows.stands in
+      let after : held_frames final_leaves ≡ tables_of final.directory + snapshot_frames final.snapshot + shares_in final.slots.items =
+      frames-law final.directory final.snapshot final.slots.items final_sides ends in
       let same : snapshot_frames final.snapshot ≡ snapshot_frames mid.snapshot = ap snapshot_frames snapshot in
       omega (arith, before, after, same, even)
 
@@ -240,7 +250,8 @@ module _ (first n i : ℕ) (small : i < n) (added : List ℕ) (now mid final : P
   all = deals ++ (more ++ returned back)
 
   all_answers : (rest : List Answer) → answers_of all ++ rest ≡ answers_of (deals ++ more) ++ rest
-  all_answers rest = ap (λ xs. xs ++ rest) (ap answers_of (sym (append_assoc deals more (returned back))) ∙ answers-append (deals ++ more) (returned back) ∙ ap (λ xs. answers_of (deals ++ more) ++ xs) (answers-returned back) ∙ append-nil (answers_of (deals ++ more)))
+  all_answers rest = ap (λ xs. xs ++ rest) (ap answers_of (sym (append_assoc deals more (returned back))) ∙ answers-append (deals ++ more) (returned back)
+      ∙ ap (λ xs. answers_of (deals ++ more) ++ xs) (answers-returned back) ∙ append-nil (answers_of (deals ++ more)))
 
   runs_all : (before : List Deal) (rest : List Answer) → pages_touched first n (progress_between sides.leaves sides.made (answers_of all ++ rest) before)
       ≡ record { leaves = final_leaves; requests = requests_between touch.follows.made rest (before ++ all); refused = Some refusal }
@@ -250,7 +261,7 @@ module _ (first n i : ℕ) (small : i < n) (added : List ℕ) (now mid final : P
       ∙ ap (λ next. touch_goes_on next.refused added next (pages_touched_behind (added ++ added_by so_far.leaves page) (page + 1) (n - (i + 1)) next)) (touch.follows.runs.runs (before ++ deals) rest)
       ∙ (λ j. record { leaves = final_leaves; requests = requests_between touch.follows.made rest (((before ++ deals) ++ more) ++ returned (counted j)); refused = Some refusal })
       ∙ ap (λ ds. record { leaves = final_leaves; requests = requests_between touch.follows.made rest ds; refused = Some refusal })
-          (append_assoc (before ++ deals) more (returned back) ∙ append_assoc before deals (more ++ returned back))
+      (append_assoc (before ++ deals) more (returned back) ∙ append_assoc before deals (more ++ returned back))
 
   pub range-refused : FollowsRange first n final all (Some refusal) sides
   range-refused = record {

@@ -28,7 +28,8 @@ module _ (losses : List Loss) (n : ℕ) where
   unlost-back : (count first : ℕ) → first_loss losses n (range_with_len first count) ≡ None → AreUnlost first (first + count)
   unlost-back zero first none = λ c above below. absurd (omega arith)
   unlost-back (suc count) first none = λ c above below.
-      let both : (loss_of losses n first ≡ None) × (first_loss losses n (range_with_len (first + 1) count) ≡ None) = neither (loss_of losses n first) (first_loss losses n (range_with_len (first + 1) count)) none in
+      let both : (loss_of losses n first ≡ None) × (first_loss losses n (range_with_len (first + 1) count) ≡ None) =
+      neither (loss_of losses n first) (first_loss losses n (range_with_len (first + 1) count)) none in
       elim (cases_eq c first) [
         | inl here ↦ ap (loss_of losses n) here ∙ both.0
         | inr apart ↦ unlost-back count (first + 1) both.1 c (omega arith) (omega arith)
@@ -53,7 +54,8 @@ module _ (losses : List Loss) (n : ℕ) where
             let low : first ≤ first = omega arith in
             let high : first < lowest.cell = omega arith in
             ap (λ o. option_or o (first_loss losses n (range_with_len (first + 1) count))) (lowest.before first low high)
-            ∙ lost-lowest count (first + 1) at (record { cell = lowest.cell; above = omega arith; below = omega arith; before = λ c over under. lowest.before c (omega arith) under; lost = lowest.lost })
+            ∙ lost-lowest count (first + 1) at
+            (record { cell = lowest.cell; above = omega arith; below = omega arith; before = λ c over under. lowest.before c (omega arith) under; lost = lowest.lost })
       ]
 
   lowest-back : (count first at : ℕ) → first_loss losses n (range_with_len first count) ≡ Some at → IsLowest first (first + count) at
@@ -66,8 +68,11 @@ module _ (losses : List Loss) (n : ℕ) where
             let above : first + 1 ≤ rest.cell = rest.above in
             let below : rest.cell < first + 1 + count = rest.below in
             record {
-              cell = rest.cell; above = omega arith; below = omega arith; lost = rest.lost;
-              before = λ c over under. elim (cases_eq c first) [ | inl here ↦ ap (loss_of losses n) here ∙ e | inr apart ↦ rest.before c (omega arith) under ];
+              cell = rest.cell;
+              above = omega arith;
+              below = omega arith;
+              lost = rest.lost;
+              before = λ c over under. elim (cases_eq c first) [ inl here ↦ ap (loss_of losses n) here ∙ e | inr apart ↦ rest.before c (omega arith) under ];
             }
       ] refl some
 
@@ -133,7 +138,10 @@ module _ (losses : List Loss) (n : ℕ) where
       let order : cell_from address ≤ cell_from (address + j) = omega arith in
       let ends : cell_from (address + j + k - 1) ≤ cell_from (address + size - 1) = omega arith in
       range-lowest address size at (omega arith) (record {
-        cell = lowest.cell; above = omega arith; below = omega arith; lost = lowest.lost;
+        cell = lowest.cell;
+        above = omega arith;
+        below = omega arith;
+        lost = lowest.lost;
         before = λ c over under. elim (cases_lt c (cell_from (address + j))) [
           | inl low ↦ before-second address j k front c over low
           | inr high ↦ lowest.before c high under

@@ -1,6 +1,6 @@
 -- The slots that are left while the pages of a range are touched.
-use Rattle.std.proofs.Common.{◌≡◌, ◌≢◌, ℕ, ◌+◌, ◌-◌, ◌/◌, ◌<◌, ◌≤◌, List, [], ◌∷◌, ◌++◌, length, map, Option, Some, None, cond, eqb, refl, sym, ◌∙◌, ap, subst, arith, inl, inr, nat_lt}
-use Rattle.std.specs.Prelude.{Bool, true, false, not, ◌||◌, ◌==◌, is_some, filter, zero, suc}
+use Rattle.std.proofs.Common.{◌≡◌, ℕ, ◌+◌, ◌-◌, ◌/◌, ◌<◌, ◌≤◌, List, [], ◌∷◌, length, cond, eqb, refl, sym, ◌∙◌, ap, subst, arith, inl, inr}
+use Rattle.std.specs.Prelude.{Bool, true, false, not, ◌||◌, is_some, filter, zero, suc}
 use Rattle.std.specs.Ordering.{nat_cmp}
 use Rattle.std.specs.List.{list_any, range_with_len}
 use Rattle.std.specs.FinMap.{find}
@@ -26,7 +26,8 @@ among-range c a (suc n) low high = elim (cases_eq c a) [
 pub page-among : (first n page : ℕ) → first ≤ page → page < first + n → is_among (cell_of page) (cells_of_pages first n) ≡ true
 page-among first n page low high =
     ap (λ b. is_among (cell_of page) (cond b [] (range_with_len (cell_of first) (cell_of (first + n - 1) + 1 - cell_of first)))) (ne_eqb n 0 (λ e. omega arith))
-    ∙ among-range (cell_of page) (cell_of first) (cell_of (first + n - 1) + 1 - cell_of first) (let l : first / 512 ≤ page / 512 = omega arith in l) (let h : page / 512 < first / 512 + ((first + n - 1) / 512 + 1 - first / 512) = omega arith in h)
+    ∙ among-range (cell_of page) (cell_of first) (cell_of (first + n - 1) + 1 - cell_of first) (let l : first / 512 ≤ page / 512 = omega arith in l)
+    (let h : page / 512 < first / 512 + ((first + n - 1) / 512 + 1 - first / 512) = omega arith in h)
 
 -- cells without a slot, by a test
 abbrev lacking : (ℕ → Bool) → List ℕ → List ℕ
@@ -36,20 +37,23 @@ same-lacking : (has has_too : ℕ → Bool) (cells : List ℕ) → ((c : ℕ) �
 same-lacking has has_too [] alike = refl
 same-lacking has has_too (d ∷ cells) alike =
     ap (λ b. length (cond (not b) (d ∷ lacking has_too cells) (lacking has_too cells))) (alike d)
-    ∙ elim (has d) as (λ b. length (cond (not b) (d ∷ lacking has_too cells) (lacking has_too cells)) ≡ length (cond (not b) (d ∷ lacking has cells) (lacking has cells))) [ true ↦ same-lacking has has_too cells alike | false ↦ ap suc (same-lacking has has_too cells alike) ]
+    ∙ elim (has d) as (λ b. length (cond (not b) (d ∷ lacking has_too cells) (lacking has_too cells))
+    ≡ length (cond (not b) (d ∷ lacking has cells) (lacking has cells))) [ true ↦ same-lacking has has_too cells alike | false ↦ ap suc (same-lacking has has_too cells alike) ]
 
 fewer-or-same : (has has_too : ℕ → Bool) (c : ℕ) (cells : List ℕ) → ((d : ℕ) → has_too d ≡ (eqb d c || has d)) → length (lacking has_too cells) ≤ length (lacking has cells)
 fewer-or-same has has_too c [] alike = omega arith
 fewer-or-same has has_too c (d ∷ cells) alike =
     let rest : length (lacking has_too cells) ≤ length (lacking has cells) = fewer-or-same has has_too c cells alike in
     subst (λ b. length (cond (not b) (d ∷ lacking has_too cells) (lacking has_too cells)) ≤ length (lacking has (d ∷ cells))) (sym (alike d))
-        (elim (eqb d c) as (λ e. length (cond (not (e || has d)) (d ∷ lacking has_too cells) (lacking has_too cells)) ≤ length (lacking has (d ∷ cells))) [
-          | true ↦ elim (has d) as (λ b. length (lacking has_too cells) ≤ length (cond (not b) (d ∷ lacking has cells) (lacking has cells))) [ true ↦ rest | false ↦ omega arith ]
-          | false ↦ elim (has d) as (λ b. length (cond (not b) (d ∷ lacking has_too cells) (lacking has_too cells)) ≤ length (cond (not b) (d ∷ lacking has cells) (lacking has cells))) [ true ↦ rest | false ↦ omega arith ]
-        ])
+    (elim (eqb d c) as (λ e. length (cond (not (e || has d)) (d ∷ lacking has_too cells) (lacking has_too cells)) ≤ length (lacking has (d ∷ cells))) [
+      | true ↦ elim (has d) as (λ b. length (lacking has_too cells) ≤ length (cond (not b) (d ∷ lacking has cells) (lacking has cells))) [ true ↦ rest | false ↦ omega arith ]
+      | false ↦ elim (has d) as (λ b. length (cond (not b) (d ∷ lacking has_too cells) (lacking has_too cells)) ≤ length
+          (cond (not b) (d ∷ lacking has cells) (lacking has cells))) [ true ↦ rest | false ↦ omega arith ]
+    ])
 
 -- one that is among the cells and had no slot has one then
-fewer-lacking : (has has_too : ℕ → Bool) (c : ℕ) (cells : List ℕ) → ((d : ℕ) → has_too d ≡ (eqb d c || has d)) → has c ≡ false → is_among c cells ≡ true → length (lacking has_too cells) < length (lacking has cells)
+fewer-lacking : (has has_too : ℕ → Bool) (c : ℕ) (cells : List ℕ) → ((d : ℕ) → has_too d ≡ (eqb d c || has d)) → has c ≡ false
+    → is_among c cells ≡ true → length (lacking has_too cells) < length (lacking has cells)
 fewer-lacking has has_too c [] alike none among = absurd (false≢true among)
 fewer-lacking has has_too c (d ∷ cells) alike none among = elim (cases_eq c d) [
   | inl here ↦
@@ -63,7 +67,8 @@ fewer-lacking has has_too c (d ∷ cells) alike none among = elim (cases_eq c d)
       let rest : length (lacking has_too cells) < length (lacking has cells) = fewer-lacking has has_too c cells alike none (sym (ap (λ b. b || is_among c cells) (ne_eqb c d apart)) ∙ among) in
       let same : has_too d ≡ has d = alike d ∙ ap (λ b. b || has d) (ne_eqb d c (λ e. apart (sym e))) in
       subst (λ b. length (cond (not b) (d ∷ lacking has_too cells) (lacking has_too cells)) < length (lacking has (d ∷ cells))) (sym same)
-          (elim (has d) as (λ b. length (cond (not b) (d ∷ lacking has_too cells) (lacking has_too cells)) < length (cond (not b) (d ∷ lacking has cells) (lacking has cells))) [ true ↦ rest | false ↦ omega arith ])
+      (elim (has d) as (λ b. length (cond (not b) (d ∷ lacking has_too cells) (lacking has_too cells)) < length
+      (cond (not b) (d ∷ lacking has cells) (lacking has cells))) [ true ↦ rest | false ↦ omega arith ])
 ]
 
 module _ (slots : ℕ) (leaves : Leaves) (cells : List ℕ) (c : ℕ) (room : HasRoom slots leaves cells) (among : is_among c cells ≡ true) where

@@ -1,5 +1,5 @@
 -- The touch of a range goes on by one page, and ends.
-use Rattle.std.proofs.Common.{◌≡◌, ◌≢◌, ℕ, ◌+◌, ◌-◌, ◌/◌, ◌<◌, ◌≤◌, List, [], ◌∷◌, ◌++◌, length, map, Option, Some, None, cond, eqb, refl, sym, ◌∙◌, ap, subst, arith, inl, inr, append_assoc, append-nil}
+use Rattle.std.proofs.Common.{◌≡◌, ℕ, ◌+◌, ◌-◌, ◌<◌, ◌≤◌, List, [], ◌∷◌, ◌++◌, None, cond, eqb, refl, sym, ◌∙◌, ap, subst, arith, inl, inr, append_assoc, append-nil}
 use Rattle.std.specs.Prelude.{Bool, true, false, not, ◌||◌, is_some, filter, zero, suc}
 use Rattle.std.specs.List.{range_with_len, list_any}
 use Rattle.std.specs.FinMap.{get}
@@ -11,15 +11,14 @@ use Rattle.vm_base.specs.FlatMemory.{PageMap}
 use Rattle.vm_base.specs.FlatStep.{with_page, with_pages}
 use Rattle.vm_base.proofs.Ranges.{range-split}
 use Rattle.kernel_meaning.specs.Requests.{Answer, answers_of}
-use Rattle.kernel_meaning.specs.FrameLaw.{Leaves}
-use Rattle.kernel_meaning.specs.EventRequests.{Progress, FrameRefusal, page_touched, pages_touched, pages_touched_behind, touch_goes_on, added_by, page_version}
+use Rattle.kernel_meaning.specs.EventRequests.{page_touched, pages_touched, pages_touched_behind, touch_goes_on, added_by, page_version}
 use Rattle.page_tables.specs.declared.tables.PageTables.{PageTables}
 use Rattle.page_tables.specs.Sides.{Sides}
 use Rattle.page_tables.specs.Courses.{progress_between}
 use Rattle.page_tables.specs.Standing.{TablesStandFor}
 use Rattle.page_tables.specs.Accesses.{IsReady}
-use Rattle.page_tables.specs.Making.{Follows, FollowsTouch}
-use Rattle.page_tables.specs.Ranges.{HasRoom, cells_of_pages, absent_pages, IsTouchedUpTo, FollowsRange, pages_with_range}
+use Rattle.page_tables.specs.Making.{FollowsTouch}
+use Rattle.page_tables.specs.Ranges.{cells_of_pages, absent_pages, IsTouchedUpTo, FollowsRange}
 use Rattle.page_tables.proofs.TouchRuns.{answers-append}
 use Rattle.page_tables.proofs.PageMaps.{with_page-apart}
 use Rattle.page_tables.proofs.RangeRoom.{is_among, page-among, room-then}
@@ -52,15 +51,19 @@ module _ (first n i : ℕ) (small : i < n) (added : List ℕ) (now next : PageTa
 
   -- the run as it stands before this page
   pub before-page : (before : List Deal) (rest : List Answer) → pages_touched first n (progress_between sides.leaves sides.made (answers_of (deals ++ more) ++ rest) before)
-      ≡ touch_goes_on (page_touched page (progress_between so_far.leaves so_far.made (answers_of more ++ rest) (before ++ deals))).refused added (page_touched page (progress_between so_far.leaves so_far.made (answers_of more ++ rest) (before ++ deals)))
-          (pages_touched_behind (added ++ added_by so_far.leaves page) (page + 1) (n - (i + 1)) (page_touched page (progress_between so_far.leaves so_far.made (answers_of more ++ rest) (before ++ deals))))
+      ≡ touch_goes_on (page_touched page (progress_between so_far.leaves so_far.made (answers_of more ++ rest) (before ++ deals))).refused added
+      (page_touched page (progress_between so_far.leaves so_far.made (answers_of more ++ rest) (before ++ deals)))
+      (pages_touched_behind (added ++ added_by so_far.leaves page) (page + 1) (n - (i + 1))
+      (page_touched page (progress_between so_far.leaves so_far.made (answers_of more ++ rest) (before ++ deals))))
   before-page before rest =
       let left : n - i ≡ suc (n - (i + 1)) = omega arith in
       ap (λ xs. pages_touched first n (progress_between sides.leaves sides.made xs before)) (ap (λ xs. xs ++ rest) (answers-append deals more) ∙ append_assoc (answers_of deals) (answers_of more) rest)
       ∙ so_far.runs before (answers_of more ++ rest)
       ∙ ap (λ k. pages_touched_behind added (first + i) k (progress_between so_far.leaves so_far.made (answers_of more ++ rest) (before ++ deals))) left
-      ∙ ap (λ p. touch_goes_on (page_touched p (progress_between so_far.leaves so_far.made (answers_of more ++ rest) (before ++ deals))).refused added (page_touched p (progress_between so_far.leaves so_far.made (answers_of more ++ rest) (before ++ deals)))
-          (pages_touched_behind (added ++ added_by so_far.leaves p) (p + 1) (n - (i + 1)) (page_touched p (progress_between so_far.leaves so_far.made (answers_of more ++ rest) (before ++ deals))))) (sym here)
+      ∙ ap (λ p. touch_goes_on (page_touched p (progress_between so_far.leaves so_far.made (answers_of more ++ rest) (before ++ deals))).refused added
+      (page_touched p (progress_between so_far.leaves so_far.made (answers_of more ++ rest) (before ++ deals)))
+      (pages_touched_behind (added ++ added_by so_far.leaves p) (p + 1) (n - (i + 1))
+      (page_touched p (progress_between so_far.leaves so_far.made (answers_of more ++ rest) (before ++ deals))))) (sym here)
 
   -- the page was granted
   module _ (was : Bool) (version : was ≡ is_some (page_version so_far.leaves page)) (bytes : was ≡ is_some (get (with_pages sides.pages first i) page))
@@ -73,8 +76,10 @@ module _ (first n i : ℕ) (small : i < n) (added : List ℕ) (now next : PageTa
     runs_on before rest =
         let count : page + 1 ≡ first + (i + 1) = omega (arith, here) in
         before-page before rest
-        ∙ ap (λ next. touch_goes_on next.refused added next (pages_touched_behind (added ++ added_by so_far.leaves page) (page + 1) (n - (i + 1)) next)) (touch.follows.runs.runs (before ++ deals) rest)
-        ∙ λ j. pages_touched_behind (added ++ cond (sym version j) [] (page ∷ [])) (count j) (n - (i + 1)) (progress_between touch.follows.leaves touch.follows.made rest (append_assoc before deals more j))
+        ∙ ap (λ next. touch_goes_on next.refused added next (pages_touched_behind (added ++ added_by so_far.leaves page) (page + 1) (n - (i + 1)) next))
+        (touch.follows.runs.runs (before ++ deals) rest)
+        ∙ λ j. pages_touched_behind (added ++ cond (sym version j) [] (page ∷ [])) (count j) (n - (i + 1))
+        (progress_between touch.follows.leaves touch.follows.made rest (append_assoc before deals more j))
 
     pages_on : with_page (with_pages sides.pages first i) page ≡ with_pages sides.pages first (i + 1)
     pages_on = ap (with_page (with_pages sides.pages first i)) here ∙ with_pages-push i sides.pages first
@@ -91,7 +96,8 @@ module _ (first n i : ℕ) (small : i < n) (added : List ℕ) (now next : PageTa
       ];
       still = λ q ready. touch.still q (so_far.still q ready);
       new =
-          let same : is_some (get (with_pages sides.pages first i) page) ≡ is_some (get sides.pages (first + i)) = ap is_some (get-with_pages_above i sides.pages first page (omega (arith, here)) ∙ ap (get sides.pages) here) in
+          let same : is_some (get (with_pages sides.pages first i) page) ≡ is_some (get sides.pages (first + i)) =
+          ap is_some (get-with_pages_above i sides.pages first page (omega (arith, here)) ∙ ap (get sides.pages) here) in
           (λ j. so_far.new j ++ cond ((bytes ∙ same) j) [] (here j ∷ [])) ∙ sym (absent-push sides.pages first i);
       apart = λ q ready.
           any-append (eqb q) added (cond was [] (page ∷ [])) (so_far.apart q ready) (elim (cases_eq q page) [
@@ -104,12 +110,16 @@ module _ (first n i : ℕ) (small : i < n) (added : List ℕ) (now next : PageTa
     }
 
 -- all pages were granted
-pub range-granted : (first n : ℕ) (added : List ℕ) (now : PageTables) (deals : List Deal) (sides : Sides) (slots : ℕ) → IsTouchedUpTo first n n added now deals sides slots → FollowsRange first n now deals None sides
+pub range-granted : (first n : ℕ) (added : List ℕ) (now : PageTables) (deals : List Deal) (sides : Sides) (slots : ℕ)
+    → IsTouchedUpTo first n n added now deals sides slots → FollowsRange first n now deals None sides
 range-granted first n added now deals sides slots so_far = record {
   follows = record {
     leaves = so_far.leaves;
     made = so_far.made;
-    runs = record { runs = λ before rest. so_far.runs before rest ∙ ap (λ k. pages_touched_behind added (first + n) k (progress_between so_far.leaves so_far.made rest (before ++ deals))) (let e : n - n ≡ 0 = omega arith in e) };
+    runs = record {
+      runs = λ before rest. so_far.runs before rest
+          ∙ ap (λ k. pages_touched_behind added (first + n) k (progress_between so_far.leaves so_far.made rest (before ++ deals))) (let e : n - n ≡ 0 = omega arith in e);
+    };
     stands = so_far.stands;
   };
   ready = λ granted. so_far.ready;
@@ -121,7 +131,8 @@ pub none-touched : (first n : ℕ) (now : PageTables) (sides : Sides) (slots : �
 none-touched first n now sides slots st = record {
   leaves = sides.leaves;
   made = sides.made;
-  runs = λ before rest. λ j. pages_touched_behind [] ((let e : first ≡ first + 0 = omega arith in e) j) ((let e : n ≡ n - 0 = omega arith in e) j) (progress_between sides.leaves sides.made rest (sym (append-nil before) j));
+  runs = λ before rest. λ j. pages_touched_behind [] ((let e : first ≡ first + 0 = omega arith in e) j) ((let e : n ≡ n - 0 = omega arith in e) j)
+      (progress_between sides.leaves sides.made rest (sym (append-nil before) j));
   stands = st;
   ready = λ q low high. absurd (omega arith);
   still = λ q ready. ready;

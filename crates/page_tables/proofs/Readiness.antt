@@ -1,6 +1,6 @@
 -- Pages that may be stored to, behind a touch.
-use Rattle.std.proofs.Common.{◌≡◌, ◌≢◌, ℕ, ◌+◌, ◌/◌, ◌%◌, ◌<◌, ◌≤◌, List, [], ◌∷◌, Option, Some, None, refl, sym, ◌∙◌, ap, subst, arith, inl, inr}
-use Rattle.std.specs.Prelude.{true, is_some, IsSome}
+use Rattle.std.proofs.Common.{◌≡◌, ℕ, ◌%◌, List, [], ◌∷◌, Option, Some, None, refl, sym, ◌∙◌, ap, subst, inl, inr}
+use Rattle.std.specs.Prelude.{true, IsSome}
 use Rattle.std.specs.Option.{option_map}
 use Rattle.std.proofs.lemmas.Bool.{cases_eq}
 use Rattle.vm_base.specs.Places.{cell_of}
@@ -8,7 +8,7 @@ use Rattle.kernel_meaning.specs.Leaves.{Kept, is_lost, version_at}
 use Rattle.kernel_meaning.specs.CellAccount.{CellAccount}
 use Rattle.kernel_meaning.specs.FrameLaw.{Leaves, cell_at, with_cell, is_used}
 use Rattle.leaf_cell.specs.CellView.{CellView}
-use Rattle.leaf_cell.specs.Renaming.{renamed, AreKeptAlike, IsNamedBy}
+use Rattle.leaf_cell.specs.Renaming.{AreKeptAlike, IsNamedBy}
 use Rattle.leaf_cell.specs.Standing.{StandsFor}
 use Rattle.leaf_cell.specs.Touching.{IsAlone, IsTouched}
 use Rattle.leaf_cell.proofs.Renamed.{version_at-renamed}

@@ -1,15 +1,15 @@
 -- The directory has the parent's cells, and room for one more while a slot is free.
-use Rattle.std.proofs.Common.{◌≡◌, ◌≢◌, ℕ, ◌+◌, ◌<◌, ◌≤◌, List, [], ◌∷◌, length, map, Option, Some, None, cond, refl, sym, ◌∙◌, ap, subst, arith, inl, inr}
-use Rattle.std.specs.Prelude.{Bool, true, false, T, is_some, filter, count_by, unwrap_or, zero, suc}
+use Rattle.std.proofs.Common.{◌≡◌, ℕ, ◌+◌, ◌<◌, ◌≤◌, List, [], ◌∷◌, length, Option, Some, None, cond, refl, sym, ◌∙◌, ap, subst, arith, inl, inr}
+use Rattle.std.specs.Prelude.{Bool, true, false, is_some, filter, count_by, unwrap_or, zero, suc}
 use Rattle.std.specs.Ordering.{nat_cmp, eq_by_cmp}
 use Rattle.std.specs.Option.{option_and_then}
 use Rattle.std.specs.List.{slice_get}
-use Rattle.std.specs.FinMap.{get, len, keys, entries, find, is_sorted, entries_sorted, get-entries, len-entries}
+use Rattle.std.specs.FinMap.{get, len, keys, entries, find, entries_sorted, get-entries, len-entries}
 use Rattle.std.proofs.lemmas.Bool.{false≢true}
 use Rattle.std.proofs.lemmas.List.{length-map}
 use Rattle.std.proofs.lemmas.List.Sums.{count_by-le-length, sum_by-cons}
 use Rattle.kernel_meaning.specs.Leaves.{CellLeaves, unused_cell, has_pages}
-use Rattle.kernel_meaning.specs.FrameLaw.{Leaves, cell_at, parent_cells}
+use Rattle.kernel_meaning.specs.FrameLaw.{cell_at, parent_cells}
 use Rattle.table_levels.specs.Cells.{CellMap}
 use Rattle.page_tables.specs.declared.slot.Slot.{Slot}
 use Rattle.page_tables.specs.declared.tables.SnapshotTables.{SnapshotTables}
@@ -79,7 +79,7 @@ module _ (directory : CellMap) (snapshot : Option SnapshotTables) (slots : List 
         | inl mine ↦
             let within : length sides.leaves ≤ length slots = within-slots in
             let fewer : length (filter (λ e. has_pages e.1.parent) sides.leaves) < length sides.leaves =
-                found-fails (find nat_cmp c sides.leaves) refl (st.slots_of.used s c (ap (option_and_then (λ it. it.owner)) here ∙ mine)) none in
+            found-fails (find nat_cmp c sides.leaves) refl (st.slots_of.used s c (ap (option_and_then (λ it. it.owner)) here ∙ mine)) none in
             omega arith
         | inr free ↦
             let counted : count_by (λ slot. is_some slot.owner) slots ≡ length sides.leaves = st.slots_of.counted in
@@ -88,12 +88,14 @@ module _ (directory : CellMap) (snapshot : Option SnapshotTables) (slots : List 
             omega arith
       ]
     where
-      found-fails : (o : Option CellLeaves) → find nat_cmp c sides.leaves ≡ o → is_some o ≡ true → has_pages (unwrap_or o unused_cell).parent ≡ false → length (filter (λ e. has_pages e.1.parent) sides.leaves) < length sides.leaves
+      found-fails : (o : Option CellLeaves) → find nat_cmp c sides.leaves ≡ o → is_some o ≡ true → has_pages (unwrap_or o unused_cell).parent ≡ false
+          → length (filter (λ e. has_pages e.1.parent) sides.leaves) < length sides.leaves
       found-fails None e there nope = absurd (false≢true there)
       found-fails (Some cell) e there nope = filter-shorter (λ cell. has_pages cell.parent) c cell sides.leaves e nope
 
 -- a slot that serves a cell serves it whatever sides the tables stand for
-pub fits-again : (directory : CellMap) (snapshot : Option SnapshotTables) (slots : List Slot) (first second : Sides) → StandFor directory snapshot slots first → StandFor directory snapshot slots second
+pub fits-again : (directory : CellMap) (snapshot : Option SnapshotTables) (slots : List Slot) (first second : Sides)
+    → StandFor directory snapshot slots first → StandFor directory snapshot slots second
     → (c : ℕ) (owner : Option ℕ) → IsSlotFor first.leaves c owner → IsSlotFor second.leaves c owner
 fits-again directory snapshot slots first second st st_too c owner fits = elim fits [
   | inl mine ↦ inl mine

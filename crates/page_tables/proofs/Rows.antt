@@ -1,16 +1,16 @@
 -- Rows of requests, and the touch of a page that lacks directory tables.
-use Rattle.std.proofs.Common.{◌≡◌, ℕ, ◌+◌, ◌/◌, ◌%◌, List, [], ◌∷◌, ◌++◌, length, Option, Some, None, refl, sym, ◌∙◌, ap, subst, append_assoc, append-nil, arith}
-use Rattle.std.specs.Prelude.{replicate, suc}
+use Rattle.std.proofs.Common.{◌≡◌, ℕ, ◌+◌, ◌%◌, List, [], ◌∷◌, ◌++◌, length, Option, Some, None, refl, sym, ◌∙◌, ap, append_assoc, append-nil, arith}
+use Rattle.std.specs.Prelude.{suc}
 use Rattle.vm_base.specs.declared.frame_request.Want.{Want}
-use Rattle.vm_base.specs.Deals.{Deal, Granted, Denied, Returned}
+use Rattle.vm_base.specs.Deals.{Deal, Granted, Denied}
 use Rattle.vm_base.specs.Places.{cell_of}
 use Rattle.kernel_meaning.specs.Requests.{Answer, Yes, No, RowEnd, answers_of, asked_in_row, row_end}
 use Rattle.kernel_meaning.specs.Leaves.{CellLeaves}
 use Rattle.kernel_meaning.specs.FrameLaw.{Leaves, cell_at, with_cell, parent_cells}
-use Rattle.kernel_meaning.specs.CellActs.{Course, touched}
-use Rattle.kernel_meaning.specs.EventRequests.{Progress, FrameRefusal, page_touched, missing_tables, tables_answered, cell_touched, cell_touch_ended, with_course}
+use Rattle.kernel_meaning.specs.CellActs.{touched}
+use Rattle.kernel_meaning.specs.EventRequests.{Progress, page_touched, missing_tables, tables_answered, cell_touch_ended, with_course}
 use Rattle.table_levels.specs.Requests.{granted, returned}
-use Rattle.page_tables.specs.Courses.{requests_between, course_between, progress_between, RunsAt, Runs}
+use Rattle.page_tables.specs.Courses.{requests_between, progress_between, RunsAt, Runs}
 use Rattle.page_tables.proofs.TouchRuns.{answers-append, answers-returned}
 use Rattle.page_tables.proofs.KnownTouch.{refusal_at}
 
@@ -37,7 +37,8 @@ row-refused [] want more at made tail before =
 row-refused (first ∷ front) want more at made tail before =
     let count : made + 1 + length front + 1 ≡ made + suc (length front) + 1 = omega arith in
     let one : length front + 1 ≡ suc (length front) = omega arith in
-    ap (row_end Yes (requests_between (made + 1) (answers_of (granted front) ++ No at ∷ tail) (before ++ Granted first ∷ []))) (row-refused front want more at (made + 1) tail (before ++ Granted first ∷ []))
+    ap (row_end Yes (requests_between (made + 1) (answers_of (granted front) ++ No at ∷ tail) (before ++ Granted first ∷ [])))
+    (row-refused front want more at (made + 1) tail (before ++ Granted first ∷ []))
     ∙ λ i. record { requests = requests_between (count i) tail (append_assoc before (Granted first ∷ []) (granted front) i ++ Denied want at ∷ []); granted = one i; refused = Some at }
 
 -- what is given back where a touch was refused behind so many directory tables
@@ -59,20 +60,22 @@ answers-back (Some at) n = answers-returned n
 
 -- the touch of a page behind so many directory tables
 touch-ended-behind : (page n : ℕ) (leaves : Leaves) (made : ℕ) (rest : List Answer) (dealt : List Deal) (refused : Option ℕ)
-    → cell_touch_ended refused page n (progress_between leaves made rest dealt) ≡ record { leaves = leaves; requests = requests_between made rest (dealt ++ tables_back refused n); refused = refusal_at page refused }
+    → cell_touch_ended refused page n (progress_between leaves made rest dealt)
+    ≡ record { leaves = leaves; requests = requests_between made rest (dealt ++ tables_back refused n); refused = refusal_at page refused }
 touch-ended-behind page n leaves made rest dealt None = λ i. record { leaves = leaves; requests = requests_between made rest (sym (append-nil dealt) i); refused = None }
 touch-ended-behind page n leaves made rest dealt (Some at) = refl
 
 module _ (page : ℕ) (leaves : Leaves) (made : ℕ) (wants : List Want) (missing : missing_tables (parent_cells leaves) (cell_of page) ≡ wants) where
   -- all tables were granted
-  module _ (deals : List Deal) (after : CellLeaves) (later : ℕ) (refused : Option ℕ) (at_cell : RunsAt (touched (page % 512)) (cell_at leaves (cell_of page)) (made + length wants) deals after later refused) where
+  module _ (deals : List Deal) (after : CellLeaves) (later : ℕ) (refused : Option ℕ)
+      (at_cell : RunsAt (touched (page % 512)) (cell_at leaves (cell_of page)) (made + length wants) deals after later refused) where
     abbrev all_deals : List Deal
     all_deals = deals_behind wants deals refused
 
     all_answers : (rest : List Answer) → answers_of all_deals ++ rest ≡ answers_of (granted wants) ++ (answers_of deals ++ rest)
     all_answers rest =
         ap (λ xs. xs ++ rest) (answers-append (granted wants) (deals ++ tables_back refused (length wants)) ∙ ap (λ xs. answers_of (granted wants) ++ xs)
-            (answers-append deals (tables_back refused (length wants)) ∙ ap (λ xs. answers_of deals ++ xs) (answers-back refused (length wants)) ∙ append-nil (answers_of deals)))
+        (answers-append deals (tables_back refused (length wants)) ∙ ap (λ xs. answers_of deals ++ xs) (answers-back refused (length wants)) ∙ append-nil (answers_of deals)))
         ∙ append_assoc (answers_of (granted wants)) (answers_of deals) rest
 
     pub new-runs : Runs (page_touched page) leaves made (deals_behind wants deals refused) (with_cell leaves (cell_of page) after) later (refusal_at page refused)
@@ -87,7 +90,7 @@ module _ (page : ℕ) (leaves : Leaves) (made : ℕ) (wants : List Want) (missin
           ∙ ap (λ course. cell_touch_ended course.refused page (length wants) (with_course (cell_of page) course behind)) (at_cell.runs (before ++ granted wants) rest)
           ∙ touch-ended-behind page (length wants) (with_cell leaves (cell_of page) after) later rest ((before ++ granted wants) ++ deals) refused
           ∙ ap (λ ds. record { leaves = with_cell leaves (cell_of page) after; requests = requests_between later rest ds; refused = refusal_at page refused })
-              (append_assoc (before ++ granted wants) deals (tables_back refused (length wants)) ∙ append_assoc before (granted wants) (deals ++ tables_back refused (length wants)));
+          (append_assoc (before ++ granted wants) deals (tables_back refused (length wants)) ∙ append_assoc before (granted wants) (deals ++ tables_back refused (length wants)));
     }
 
   -- a table was refused
@@ -109,5 +112,5 @@ module _ (page : ℕ) (leaves : Leaves) (made : ℕ) (wants : List Want) (missin
           ∙ ap (λ coming. going (asked_in_row (front ++ want ∷ more) (requests_between made coming before))) (lacking_answers rest)
           ∙ ap going (row-refused front want more at made rest before)
           ∙ ap (λ ds. record { leaves = leaves; requests = requests_between (made + length front + 1) rest ds; refused = refusal_at page (Some at) })
-              (append_assoc (before ++ granted front) (Denied want at ∷ []) (returned (length front)) ∙ append_assoc before (granted front) (Denied want at ∷ returned (length front)));
+          (append_assoc (before ++ granted front) (Denied want at ∷ []) (returned (length front)) ∙ append_assoc before (granted front) (Denied want at ∷ returned (length front)));
     }

@@ -1,6 +1,6 @@
 -- Slots of which one gets another cell.
-use Rattle.std.proofs.Common.{◌≡◌, ◌≢◌, ℕ, ◌+◌, ◌<◌, ◌≤◌, List, [], ◌∷◌, length, Option, Some, None, cond, eqb, refl, sym, ◌∙◌, ap, subst, arith, inl, inr, ◌⊎◌}
-use Rattle.std.specs.Prelude.{Bool, true, false, T, is_some, slice_set, slice_index_or, IsSome, count_by, zero, suc, unwrap_or, ◌==◌, if◌then◌else◌}
+use Rattle.std.proofs.Common.{◌≡◌, ◌≢◌, ℕ, ◌+◌, ◌<◌, ◌≤◌, List, [], ◌∷◌, length, Option, Some, None, cond, eqb, refl, sym, ◌∙◌, ap, subst, arith, inl, inr}
+use Rattle.std.specs.Prelude.{true, T, is_some, slice_set, slice_index_or, IsSome, count_by, zero, suc, unwrap_or}
 use Rattle.std.specs.Ordering.{nat_cmp}
 use Rattle.std.specs.Option.{option_and_then}
 use Rattle.std.specs.List.{slice_get}
@@ -8,7 +8,6 @@ use Rattle.std.specs.FinMap.{find, is_sorted}
 use Rattle.std.proofs.lemmas.Bool.{cases_eq, cond-true, cond-false, eq-eqb, ne_eqb, false≢true}
 use Rattle.std.proofs.lemmas.Option.{slice_get_within, get_or_from_slice_get}
 use Rattle.std.proofs.lemmas.List.Sums.{sum_by-set}
-use Rattle.kernel_meaning.specs.Leaves.{CellLeaves}
 use Rattle.kernel_meaning.specs.FrameLaw.{Leaves, with_cell, is_used}
 use Rattle.kernel_meaning.specs.CellAccount.{CellState}
 use Rattle.leaf_cell.specs.CellView.{CellView}
@@ -18,7 +17,8 @@ use Rattle.page_tables.specs.Standing.{owner_at, state_in, AreSlotsOf, IsSlotFor
 use Rattle.page_tables.proofs.LeafMap.{find-here, find-apart, length-with_cell}
 
 -- a cell stands for the same account behind more requests
-pub stands-later : (view : CellView) (state : CellState) (made later : ℕ) → made ≤ later → StandsFor view (record { state = state; made = made }) → StandsFor view (record { state = state; made = later })
+pub stands-later : (view : CellView) (state : CellState) (made later : ℕ) → made ≤ later → StandsFor view (record { state = state; made = made })
+    → StandsFor view (record { state = state; made = later })
 stands-later view state made later more stands = record {
   name = stands.name;
   leaves = stands.leaves;
@@ -107,7 +107,7 @@ module _ (leaves : Leaves) (cells : ℕ → CellState) (made : ℕ) (slots : Lis
     | inl same ↦
         let is : new_slot ≡ it = ap (λ o. unwrap_or o it) (sym (slice_get-set-here slots s new_slot within) ∙ ap (slice_get new_slots) (sym same) ∙ there) in
         subst (λ it. StandsFor it.cell (record { state = state_in (cells_with cells c state) it.owner; made = later })) is
-            (subst (λ st. StandsFor view (record { state = st; made = later })) (sym (cells_with-here cells c state c refl)) stands)
+        (subst (λ st. StandsFor view (record { state = st; made = later })) (sym (cells_with-here cells c state c refl)) stands)
     | inr apart ↦
         let old : slice_get slots t ≡ Some it = sym (slice_get-set-apart slots s t new_slot apart) ∙ there in
         stands-owner t it.owner it.cell apart (ap (option_and_then (λ slot. slot.owner)) old) (stands-later it.cell (state_in cells it.owner) made later more (of.stands t it old))
@@ -121,13 +121,13 @@ module _ (leaves : Leaves) (cells : ℕ → CellState) (made : ℕ) (slots : Lis
   once-there : (t u q : ℕ) → owner_at new_slots t ≡ Some q → owner_at new_slots u ≡ Some q → t ≡ u
   once-there t u q e f = elim (cases_eq t s) [
     | inl t_here ↦ elim (cases_eq u s) [
-        | inl u_here ↦ t_here ∙ sym u_here
-        | inr u_apart ↦ absurd (alone u u_apart (sym (owner-apart u u_apart) ∙ f ∙ sym (sym owner-here ∙ ap (owner_at new_slots) (sym t_here) ∙ e)))
-      ]
+      | inl u_here ↦ t_here ∙ sym u_here
+      | inr u_apart ↦ absurd (alone u u_apart (sym (owner-apart u u_apart) ∙ f ∙ sym (sym owner-here ∙ ap (owner_at new_slots) (sym t_here) ∙ e)))
+    ]
     | inr t_apart ↦ elim (cases_eq u s) [
-        | inl u_here ↦ absurd (alone t t_apart (sym (owner-apart t t_apart) ∙ e ∙ sym (sym owner-here ∙ ap (owner_at new_slots) (sym u_here) ∙ f)))
-        | inr u_apart ↦ of.once t u q (sym (owner-apart t t_apart) ∙ e) (sym (owner-apart u u_apart) ∙ f)
-      ]
+      | inl u_here ↦ absurd (alone t t_apart (sym (owner-apart t t_apart) ∙ e ∙ sym (sym owner-here ∙ ap (owner_at new_slots) (sym u_here) ∙ f)))
+      | inr u_apart ↦ of.once t u q (sym (owner-apart t t_apart) ∙ e) (sym (owner-apart u u_apart) ∙ f)
+    ]
   ]
 
   used-there : (t q : ℕ) → owner_at new_slots t ≡ Some q → IsSome (find nat_cmp q new_leaves)

@@ -83,7 +83,8 @@ numbers-lacking : (snapshot : Option SnapshotTables) (c : ℕ) → slot_in snaps
 numbers-lacking None c none = refl
 numbers-lacking (Some tables) c none = ap (λ o. cond (is_some o) (tables.number ∷ []) []) none
 
-numbers-there : (snapshot : Option SnapshotTables) (c s n : ℕ) → slot_in snapshot c ≡ Some s → holds_number (number_of snapshot) n ≡ true → (number : ℕ) × ((numbers_at snapshot c ≡ number ∷ []) × ((number == n) ≡ true))
+numbers-there : (snapshot : Option SnapshotTables) (c s n : ℕ) → slot_in snapshot c ≡ Some s → holds_number (number_of snapshot) n ≡ true
+    → (number : ℕ) × ((numbers_at snapshot c ≡ number ∷ []) × ((number == n) ≡ true))
 numbers-there None c s n there live = absurd (false≢true (ap is_some there))
 numbers-there (Some tables) c s n there live = (tables.number, (ap (λ o. cond (is_some o) (tables.number ∷ []) []) there, live))
 
@@ -102,7 +103,8 @@ module _ (tables : PageTables) (sides : Sides) (st : TablesStandFor tables sides
   pub loss-there : (c n : ℕ) → loss_of (losses_of sides.leaves) n c ≡ loss_in (cell_at sides.leaves c).kept n
   loss-there c n = loss-in-leaves n c sides.leaves st.kept.sorted
       (let few : length (numbers_at tables.snapshot c) ≤ 1 = numbers-few tables.snapshot c in
-      let same : length (cell_at sides.leaves c).kept ≡ length (numbers_at tables.snapshot c) = sym (length-map (cell_at sides.leaves c).kept (λ (it : Kept). it.number)) ∙ ap length (st.snapshot_of.numbers c) in
+      let same : length (cell_at sides.leaves c).kept ≡ length (numbers_at tables.snapshot c) =
+      sym (length-map (cell_at sides.leaves c).kept (λ (it : Kept). it.number)) ∙ ap length (st.snapshot_of.numbers c) in
       omega arith)
 
   -- a snapshot that lives has the cells of its directory
@@ -145,7 +147,8 @@ module _ (tables : PageTables) (sides : Sides) (st : TablesStandFor tables sides
   account = account_at tables.directory tables.snapshot tables.slots.items sides st c
 
   stood : StandsFor slot.cell (account_at tables.directory tables.snapshot tables.slots.items sides st c)
-  stood = slot-stands tables.directory tables.snapshot tables.slots.items sides st c s slot (owned-here tables.slots.items s c slot (st.snapshot_of.named c s there) here) (st.snapshot_of.named c s there)
+  stood = slot-stands tables.directory tables.snapshot tables.slots.items sides st c s slot
+      (owned-here tables.slots.items s c slot (st.snapshot_of.named c s there) here) (st.snapshot_of.named c s there)
 
   -- what the list of losses has of the range
   range_loss : lost_in_range sides.leaves n addr size ≡ loss_in (st.cells c).leaves.kept n
@@ -154,7 +157,7 @@ module _ (tables : PageTables) (sides : Sides) (st : TablesStandFor tables sides
   pages_there : (pages : PageMap) → get sides.snapshots n ≡ Some pages → bytes ≡ part_of (snapshot_page account n page) at size → bytes ≡ bytes_at pages addr size
   pages_there pages lives told =
       let part : bytes ≡ part_of (snapshot_page account n (page_of addr % 512)) (offset_of addr) size =
-          told ∙ ap (λ p. part_of (snapshot_page account n p) at size) page_is ∙ ap (λ i. part_of (snapshot_page account n (page_of addr % 512)) i size) at_is in
+      told ∙ ap (λ p. part_of (snapshot_page account n p) at size) page_is ∙ ap (λ i. part_of (snapshot_page account n (page_of addr % 512)) i size) at_is in
       part ∙ bytes_at-part pages addr size (snapshot_page account n (page_of addr % 512)) (sym (snapshot-known tables sides st n (page_of addr) pages lives)) room (sym (ap length part) ∙ as_many)
 
   pub snapshot-read : (result : Result (Unit {0}) Loss) → OnOk result (snapshot_part slot.cell n page at size ≡ Ok bytes)

@@ -33,10 +33,12 @@ module _ (sides : Sides) (n addr done piece : ℕ) (buf new : List ℕ) (some : 
   snap-lost whole lost end whole_size read = record {
     unlost = tt;
     read = tt;
-    lost = lost-behind (losses_of sides.leaves) n addr done piece end lost.at some (omega (arith, fits, whole_size)) before.unlost (ap (lost_in_range sides.leaves n (addr + done)) (sym size) ∙ read.lost);
+    lost = lost-behind (losses_of sides.leaves) n addr done piece end lost.at some (omega (arith, fits, whole_size)) before.unlost
+        (ap (lost_in_range sides.leaves n (addr + done)) (sym size) ∙ read.lost);
   }
 
 -- all bytes were read
-pub snap-whole : (sides : Sides) (n addr done size : ℕ) (buf : List ℕ) → done ≡ size → length buf ≡ size → IsSnapshotRead sides n addr done (Ok tt) (take done buf) → IsSnapshotRead sides n addr size (Ok tt) buf
+pub snap-whole : (sides : Sides) (n addr done size : ℕ) (buf : List ℕ) → done ≡ size → length buf ≡ size
+    → IsSnapshotRead sides n addr done (Ok tt) (take done buf) → IsSnapshotRead sides n addr size (Ok tt) buf
 snap-whole sides n addr done size buf all whole read =
     subst (λ k. IsSnapshotRead sides n addr k (Ok tt) buf) all (subst (λ bytes. IsSnapshotRead sides n addr done (Ok tt) bytes) (take_all done buf (omega (arith, all, whole))) read)

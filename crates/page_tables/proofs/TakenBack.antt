@@ -1,13 +1,13 @@
 -- Pages that were added are taken out again, one after another.
-use Rattle.std.proofs.Common.{◌≡◌, ℕ, ◌+◌, ◌-◌, ◌*◌, ◌/◌, ◌%◌, ◌≤◌, ◌<◌, List, [], ◌∷◌, ◌++◌, length, take, drop, drop-cons, Option, Some, None, refl, sym, ◌∙◌, ap, subst, arith}
-use Rattle.std.specs.Prelude.{is_some, IsSome, replicate, slice_index_or, zero, suc, true}
+use Rattle.std.proofs.Common.{◌≡◌, ℕ, ◌+◌, ◌-◌, ◌%◌, ◌≤◌, ◌<◌, List, [], ◌∷◌, ◌++◌, length, take, drop, drop-cons, refl, sym, ◌∙◌, ap, subst, arith}
+use Rattle.std.specs.Prelude.{IsSome, slice_index_or, zero, suc, true}
 use Rattle.vm_base.specs.Deals.{LeadsAlong, Deal, Returned}
 use Rattle.vm_base.specs.Places.{cell_of}
 use Rattle.vm_base.proofs.DealLemmas.{LeadsAlong-append}
 use Rattle.table_levels.specs.Requests.{returned}
 use Rattle.kernel_meaning.specs.Leaves.{has_present}
 use Rattle.kernel_meaning.specs.FrameLaw.{Leaves, cell_at}
-use Rattle.kernel_meaning.specs.EventRequests.{page_version, without_page}
+use Rattle.kernel_meaning.specs.EventRequests.{page_version}
 use Rattle.page_tables.specs.declared.tables.PageTables.{PageTables}
 use Rattle.page_tables.specs.Sides.{Sides}
 use Rattle.page_tables.specs.Standing.{TablesStandFor, slot_count}
@@ -67,7 +67,8 @@ module _ {State : Type 0} (goes : State → Deal → State → Type 0) (refused 
       }
 
 -- nothing was taken out yet
-pub none-taken : {State : Type 0} (goes : State → Deal → State → Type 0) (refused : State → ℕ) (out : State → ℕ) (from : State) (left : List ℕ) (old : PageTables) (sides : Sides) → TablesStandFor old sides → AreThere sides.leaves left
+pub none-taken : {State : Type 0} (goes : State → Deal → State → Type 0) (refused : State → ℕ) (out : State → ℕ) (from : State) (left : List ℕ) (old : PageTables) (sides : Sides)
+    → TablesStandFor old sides → AreThere sides.leaves left
     → IsTakenBack goes refused out from from [] left old old
 none-taken goes refused out from left old sides st there = record {
   led = subst (λ n. LeadsAlong goes from (returned n) from) (let e : 0 ≡ frames_of old - frames_of old = omega arith in e) refl;

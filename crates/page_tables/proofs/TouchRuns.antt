@@ -1,9 +1,9 @@
 -- A touch at a cell without joined leaves runs the same whatever was dealt before it and whatever answers come behind its own.
-use Rattle.std.proofs.Common.{◌≡◌, ◌≢◌, ℕ, ◌+◌, List, [], ◌∷◌, ◌++◌, length, Option, Some, None, refl, sym, ◌∙◌, ap, subst, append_assoc, append-nil, length-append, arith}
+use Rattle.std.proofs.Common.{◌≡◌, ◌≢◌, ℕ, ◌+◌, List, [], ◌∷◌, ◌++◌, length, Option, Some, None, refl, sym, ◌∙◌, ap, append_assoc, append-nil, length-append, arith}
 use Rattle.std.specs.Prelude.{◌-◌, Bool, true, false, cond, replicate, zero, suc}
 use Rattle.vm_base.specs.Deals.{Deal, Granted, Denied, Returned}
 use Rattle.vm_base.specs.declared.frame_request.Want.TheVariants as want
-use Rattle.kernel_meaning.specs.Requests.{Answer, Yes, No, Requests, answers_of}
+use Rattle.kernel_meaning.specs.Requests.{Answer, Yes, No, answers_of}
 use Rattle.kernel_meaning.specs.Leaves.{CellLeaves, version_at, has_pages, is_named, share, Lost, names_version}
 use Rattle.kernel_meaning.specs.CellActs.{Course, touched, new_page_asked, parent_leaf_answered, present_touched, page_copy_answered, coming_answer, asking, with_leaf_where, before_change}
 use Rattle.leaf_cell.specs.CellView.{AreUnjoined}
@@ -35,13 +35,13 @@ not_nil {x} {xs} e = let l : length (x ∷ xs) ≡ 0 = ap length e in omega arit
 used_up : (front tail : List Deal) (x : Answer) (ys : List Answer) → length (answers_of tail) ≡ 1 → answers_of (front ++ tail) ≡ answers_of front ++ x ∷ ys → ys ≡ []
 used_up front tail x ys one e =
     let l : length (answers_of front) + length (answers_of tail) ≡ length (answers_of front) + length (x ∷ ys) =
-        sym (length-append (answers_of front) (answers_of tail)) ∙ ap length (sym (answers-append front tail) ∙ e) ∙ length-append (answers_of front) (x ∷ ys) in
+    sym (length-append (answers_of front) (answers_of tail)) ∙ ap length (sym (answers-append front tail) ∙ e) ∙ length-append (answers_of front) (x ∷ ys) in
     no_length ys (omega arith)
 
 none_used : (front tail : List Deal) → length (answers_of tail) ≡ 1 → answers_of (front ++ tail) ≢ answers_of front ++ []
 none_used front tail one e =
     let l : length (answers_of front) + length (answers_of tail) ≡ length (answers_of front) + 0 =
-        sym (length-append (answers_of front) (answers_of tail)) ∙ ap length (sym (answers-append front tail) ∙ e) ∙ length-append (answers_of front) [] in
+    sym (length-append (answers_of front) (answers_of tail)) ∙ ap length (sym (answers-append front tail) ∙ e) ∙ length-append (answers_of front) [] in
     omega arith
 
 one_refused : (at n : ℕ) → length (answers_of (Denied want.Page at ∷ replicate n Returned)) ≡ 1
@@ -56,10 +56,11 @@ module _ (page leaves : ℕ) (cell : CellLeaves) (made : ℕ) (front before : Li
       let joined : (before ++ front) ++ Granted want.Page ∷ [] ≡ before ++ (front ++ Granted want.Page ∷ []) = append_assoc before front (Granted want.Page ∷ []) in
       λ i. record (new_page_asked page leaves (course_between cell made (Yes ∷ ys) front)) { requests = requests_between (made + 1) (done i ++ rest) (joined i) }
   new_page-behind (No at ∷ ys) e =
-      let tail : (front ++ Denied want.Page at ∷ []) ++ replicate leaves Returned ≡ front ++ Denied want.Page at ∷ replicate leaves Returned = append_assoc front (Denied want.Page at ∷ []) (replicate leaves Returned) in
+      let tail : (front ++ Denied want.Page at ∷ []) ++ replicate leaves Returned ≡ front ++ Denied want.Page at ∷ replicate leaves Returned =
+      append_assoc front (Denied want.Page at ∷ []) (replicate leaves Returned) in
       let done : ys ≡ [] = used_up front (Denied want.Page at ∷ replicate leaves Returned) (No at) ys (one_refused at leaves) (ap answers_of (sym tail) ∙ e) in
       let joined : ((before ++ front) ++ Denied want.Page at ∷ []) ++ replicate leaves Returned ≡ before ++ ((front ++ Denied want.Page at ∷ []) ++ replicate leaves Returned) =
-          ap (λ ds. ds ++ replicate leaves Returned) (append_assoc before front (Denied want.Page at ∷ [])) ∙ append_assoc before (front ++ Denied want.Page at ∷ []) (replicate leaves Returned) in
+      ap (λ ds. ds ++ replicate leaves Returned) (append_assoc before front (Denied want.Page at ∷ [])) ∙ append_assoc before (front ++ Denied want.Page at ∷ []) (replicate leaves Returned) in
       λ i. record (new_page_asked page leaves (course_between cell made (No at ∷ ys) front)) { requests = requests_between (made + 1) (done i ++ rest) (joined i) }
 
 module _ (page : ℕ) (cell : CellLeaves) (made : ℕ) (before : List Deal) (rest : List Answer) where
@@ -80,7 +81,8 @@ module _ (page : ℕ) (cell : CellLeaves) (made : ℕ) (before : List Deal) (res
         absurd (not_nil two)
     first-behind (Yes ∷ ys) e =
         ap (new_page_asked page 1) (with_leaf (ys ++ rest) (before ++ Granted want.Leaf ∷ []))
-        ∙ new_page-behind page 1 cell (made + 1) (Granted want.Leaf ∷ []) before rest ys (ap (λ c. answers_of (new_page_asked page 1 c).requests.deals) (sym (with_leaf ys (Granted want.Leaf ∷ []))) ∙ e)
+        ∙ new_page-behind page 1 cell (made + 1) (Granted want.Leaf ∷ []) before rest ys
+        (ap (λ c. answers_of (new_page_asked page 1 c).requests.deals) (sym (with_leaf ys (Granted want.Leaf ∷ []))) ∙ e)
         ∙ ap (λ c. behind before rest (new_page_asked page 1 c)) (sym (with_leaf ys (Granted want.Leaf ∷ [])))
     first-behind (No at ∷ ys) e =
         let done : ys ≡ [] = used_up [] (Denied want.Leaf at ∷ []) (No at) ys refl e in
@@ -88,18 +90,23 @@ module _ (page : ℕ) (cell : CellLeaves) (made : ℕ) (before : List Deal) (res
         λ i. record { cell = cell; requests = requests_between (made + 1) (done i ++ rest) (joined i); refused = Some at }
 
   -- the touch of a present page, where some snapshot's own leaf names it or none does
-  copy-behind : (version : ℕ) (b : Bool) (xs : List Answer) → answers_of (cond b (page_copy_answered page version (coming_answer (between xs [])) (asking want.Page (between xs []))) (between xs [])).requests.deals ≡ xs
+  copy-behind : (version : ℕ) (b : Bool) (xs : List Answer)
+      → answers_of (cond b (page_copy_answered page version (coming_answer (between xs [])) (asking want.Page (between xs []))) (between xs [])).requests.deals ≡ xs
       → cond b (page_copy_answered page version (coming_answer (between (xs ++ rest) before)) (asking want.Page (between (xs ++ rest) before))) (between (xs ++ rest) before)
       ≡ behind before rest (cond b (page_copy_answered page version (coming_answer (between xs [])) (asking want.Page (between xs []))) (between xs []))
   copy-behind version true [] e = absurd (not_nil e)
   copy-behind version true (Yes ∷ ys) e =
       let done : ys ≡ [] = used_up [] (Granted want.Page ∷ []) Yes ys refl e in
-      λ i. record (page_copy_answered page version Yes (course_between cell (made + 1) ys (Granted want.Page ∷ []))) { requests = requests_between (made + 1) (done i ++ rest) (before ++ Granted want.Page ∷ []) }
+      λ i. record (page_copy_answered page version Yes (course_between cell (made + 1) ys (Granted want.Page ∷ []))) {
+        requests =
+            requests_between (made + 1) (done i ++ rest) (before ++ Granted want.Page ∷ []);
+      }
   copy-behind version true (No at ∷ ys) e =
       let lost : CellLeaves = with_leaf_where (names_version page version) (Lost at) cell in
       let n : ℕ = share cell - share lost in
       let done : ys ≡ [] = used_up [] (Denied want.Page at ∷ replicate n Returned) (No at) ys (one_refused at n) e in
-      let joined : (before ++ Denied want.Page at ∷ []) ++ replicate n Returned ≡ before ++ Denied want.Page at ∷ replicate n Returned = append_assoc before (Denied want.Page at ∷ []) (replicate n Returned) in
+      let joined : (before ++ Denied want.Page at ∷ []) ++ replicate n Returned ≡ before ++ Denied want.Page at ∷ replicate n Returned =
+      append_assoc before (Denied want.Page at ∷ []) (replicate n Returned) in
       λ i. record { cell = lost; requests = requests_between (made + 1) (done i ++ rest) (joined i); refused = None }
   copy-behind version false xs e = λ i. course_between cell made (sym e i ++ rest) (sym (append-nil before) i)
 
@@ -117,7 +124,8 @@ touched-behind page cell made unjoined None absent true there xs e before rest =
     ∙ new_page-behind page 0 cell made [] before rest xs (ap (λ c. answers_of c.requests.deals) (sym alone) ∙ e)
     ∙ ap (behind before rest) (sym alone)
 touched-behind page cell made unjoined None absent false none xs e before rest =
-    let alone : touched_alone page cell made xs ≡ parent_leaf_answered page (coming_answer (course_between cell made xs [])) (asking want.Leaf (course_between cell made xs [])) = touched-first page (course_between cell made xs []) unjoined absent none in
+    let alone : touched_alone page cell made xs ≡ parent_leaf_answered page (coming_answer (course_between cell made xs [])) (asking want.Leaf (course_between cell made xs [])) =
+    touched-first page (course_between cell made xs []) unjoined absent none in
     touched-first page (course_between cell made (xs ++ rest) before) unjoined absent none
     ∙ first-behind page cell made before rest unjoined xs (ap (λ c. answers_of c.requests.deals) (sym alone) ∙ e)
     ∙ ap (behind before rest) (sym alone)
@@ -129,7 +137,8 @@ touched-behind page cell made unjoined (Some version) there leaf any xs e before
 
 -- a touch that makes just these deals
 pub touch-runs : (page : ℕ) (cell : CellLeaves) (made : ℕ) (deals : List Deal) → AreUnjoined cell.kept → (touched_alone page cell made (answers_of deals)).requests.deals ≡ deals
-    → RunsAt (touched page) cell made deals (touched_alone page cell made (answers_of deals)).cell (touched_alone page cell made (answers_of deals)).requests.made (touched_alone page cell made (answers_of deals)).refused
+    → RunsAt (touched page) cell made deals (touched_alone page cell made (answers_of deals)).cell (touched_alone page cell made (answers_of deals)).requests.made
+    (touched_alone page cell made (answers_of deals)).refused
 touch-runs page cell made deals unjoined just = record {
   runs = λ before rest.
       touched-behind page cell made unjoined (version_at cell.parent page) refl (has_pages cell.parent) refl (answers_of deals) (ap answers_of just) before rest

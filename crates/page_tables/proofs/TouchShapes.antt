@@ -1,12 +1,12 @@
 -- What a touch at a cell without joined leaves makes of it.
-use Rattle.std.proofs.Common.{◌≡◌, ◌≢◌, ℕ, ◌+◌, ◌<◌, ◌≤◌, List, [], ◌∷◌, ◌++◌, length, Option, Some, None, cond, refl, sym, ◌∙◌, ap, subst, arith, inl, inr, ◌⊎◌}
+use Rattle.std.proofs.Common.{◌≡◌, ℕ, ◌+◌, ◌<◌, ◌≤◌, List, [], ◌∷◌, length, Option, Some, None, cond, refl, sym, ap, subst, arith}
 use Rattle.std.specs.Prelude.{Bool, true, false, not, ◌||◌, ◌==◌, is_some, IsSome, zero, suc, map}
 use Rattle.std.proofs.lemmas.List.{get_or-set_same}
 use Rattle.std.proofs.lemmas.Bool.{false≢true}
 use Rattle.vm_base.specs.declared.frame_request.Want.TheVariants as want
 use Rattle.kernel_meaning.specs.Requests.{Answer, Yes, No}
 use Rattle.kernel_meaning.specs.Leaves.{CellLeaves, Kept, Versions, Lost, is_joined, version_at, with_version, with_leaf, has_pages, is_named, names_version}
-use Rattle.kernel_meaning.specs.CellActs.{Course, asking, coming_answer, before_change, touched, new_page_asked, new_page_answered, parent_leaf_answered, present_touched, page_copy_answered, with_parent_version, with_leaf_where}
+use Rattle.kernel_meaning.specs.CellActs.{Course, asking, coming_answer, touched, new_page_asked, new_page_answered, parent_leaf_answered, page_copy_answered, with_parent_version, with_leaf_where}
 use Rattle.kernel_meaning.specs.FrameLaw.{is_used}
 use Rattle.page_tables.proofs.SlotLemmas.{length-set}
 use Rattle.leaf_cell.specs.CellView.{AreUnjoined}
@@ -34,15 +34,31 @@ there-set versions page version small = ap is_some (get_or-set_same versions pag
 
 module _ (page : ℕ) (start : Course) (fresh : start.refused ≡ None) (size : page < length start.cell.parent) where
   answered-new : (leaves : ℕ) (answer : Answer) → IsTouchCourse page start (new_page_answered page leaves answer (asking want.Page start))
-  answered-new leaves Yes = record { touch = Another (start.requests.made + 1); later = omega arith; ends = subst (EndsTouch page start.cell (with_parent_version page (start.requests.made + 1) start.cell)) (sym fresh) (there-set start.cell.parent page (start.requests.made + 1) size) }
+  answered-new leaves Yes = record {
+    touch = Another (start.requests.made + 1);
+    later = omega arith;
+    ends =
+        subst (EndsTouch page start.cell (with_parent_version page (start.requests.made + 1) start.cell)) (sym fresh) (there-set start.cell.parent page (start.requests.made + 1) size);
+  }
   answered-new leaves (No at) = record { touch = Same; later = omega arith; ends = refl }
 
   answered-copy : (version : ℕ) → version_at start.cell.parent page ≡ Some version → (answer : Answer) → IsTouchCourse page start (page_copy_answered page version answer (asking want.Page start))
-  answered-copy version there Yes = record { touch = Another (start.requests.made + 1); later = omega arith; ends = subst (EndsTouch page start.cell (with_parent_version page (start.requests.made + 1) start.cell)) (sym fresh) (there-set start.cell.parent page (start.requests.made + 1) size) }
-  answered-copy version there (No at) = record { touch = Losing (names_version page version) at; later = omega arith; ends = subst (EndsTouch page start.cell (with_leaf_where (names_version page version) (Lost at) start.cell)) (sym fresh) (ap is_some there) }
+  answered-copy version there Yes = record {
+    touch = Another (start.requests.made + 1);
+    later = omega arith;
+    ends =
+        subst (EndsTouch page start.cell (with_parent_version page (start.requests.made + 1) start.cell)) (sym fresh) (there-set start.cell.parent page (start.requests.made + 1) size);
+  }
+  answered-copy version there (No at) = record {
+    touch = Losing (names_version page version) at;
+    later = omega arith;
+    ends =
+        subst (EndsTouch page start.cell (with_leaf_where (names_version page version) (Lost at) start.cell)) (sym fresh) (ap is_some there);
+  }
 
   -- a present page, where a snapshot's own leaf names it or none does
-  present-course : (version : ℕ) → version_at start.cell.parent page ≡ Some version → (named : Bool) → IsTouchCourse page start (cond named (page_copy_answered page version (coming_answer start) (asking want.Page start)) start)
+  present-course : (version : ℕ) → version_at start.cell.parent page ≡ Some version → (named : Bool)
+      → IsTouchCourse page start (cond named (page_copy_answered page version (coming_answer start) (asking want.Page start)) start)
   present-course version there true = answered-copy version there (coming_answer start)
   present-course version there false = record { touch = Same; later = omega arith; ends = subst (EndsTouch page start.cell start.cell) (sym fresh) (ap is_some there) }
 
@@ -55,13 +71,14 @@ module _ (page : ℕ) (start : Course) (fresh : start.refused ≡ None) (size : 
   first-course : (answer : Answer) → IsTouchCourse page start (parent_leaf_answered page answer (asking want.Leaf start))
   first-course Yes =
       subst (λ c. IsTouchCourse page start (new_page_asked page 1 c)) (sym (before_change-none (asking want.Leaf start) unjoined))
-          (behind-one page start _ (answered-new page (asking want.Leaf start) fresh size 1 (coming_answer (asking want.Leaf start))))
+      (behind-one page start _ (answered-new page (asking want.Leaf start) fresh size 1 (coming_answer (asking want.Leaf start))))
   first-course (No at) = record { touch = Same; later = omega arith; ends = refl }
 
   course-as : (version : Option ℕ) → version_at start.cell.parent page ≡ version → (leaf : Bool) → has_pages start.cell.parent ≡ leaf → IsTouchCourse page start (touched page start)
   course-as None absent true there = subst (IsTouchCourse page start) (sym (touched-absent page start unjoined absent there)) (answered-new page start fresh size 0 (coming_answer start))
   course-as None absent false none = subst (IsTouchCourse page start) (sym (touched-first page start unjoined absent none)) (first-course (coming_answer start))
-  course-as (Some version) there leaf any = subst (IsTouchCourse page start) (sym (touched-present page start unjoined version there)) (present-course page start fresh size version there (is_named start.cell page version))
+  course-as (Some version) there leaf any = subst (IsTouchCourse page start) (sym (touched-present page start unjoined version there))
+      (present-course page start fresh size version there (is_named start.cell page version))
 
   pub touch-course : IsTouchCourse page start (touched page start)
   touch-course = course-as (version_at start.cell.parent page) refl (has_pages start.cell.parent) refl

@@ -1,23 +1,22 @@
 -- Slots that are free, and cells of a range that have none.
-use Rattle.std.proofs.Common.{◌≡◌, ◌≢◌, ℕ, ◌+◌, ◌-◌, ◌*◌, ◌/◌, ◌<◌, ◌≤◌, List, [], ◌∷◌, ◌++◌, length, length-append, map, take, Option, Some, None, cond, eqb, refl, sym, ◌∙◌, ap, subst, arith, inl, inr, nat_lt}
-use Rattle.std.specs.Prelude.{Bool, true, false, not, ◌||◌, ◌==◌, ◌&&◌, is_some, count_by, filter, zero, suc, IsTrue}
+use Rattle.std.proofs.Common.{◌≡◌, ℕ, ◌+◌, ◌-◌, ◌<◌, List, [], ◌∷◌, ◌++◌, length, length-append, Option, Some, None, cond, refl, sym, ◌∙◌, ap, arith, inl, inr, nat_lt}
+use Rattle.std.specs.Prelude.{Bool, true, false, not, ◌||◌, ◌==◌, ◌&&◌, is_some, count_by, filter}
 use Rattle.std.specs.Ordering.{nat_cmp}
 use Rattle.std.specs.List.{range_with_len}
 use Rattle.std.specs.FinMap.{get, find}
 use Rattle.std.specs.Option.{option_and_then}
-use Rattle.std.proofs.lemmas.Bool.{cases_Bool, ne_eqb, false≢true}
+use Rattle.std.proofs.lemmas.Bool.{cases_Bool, ne_eqb}
 use Rattle.std.proofs.lemmas.Bool.Decides.{nat_tests}
 use Rattle.std.proofs.lemmas.List.{length-map}
 use Rattle.std.proofs.lemmas.List.Elements.{filter-append}
-use Rattle.std.proofs.lemmas.List.Sums.{sum_by_push, sum_by-cons, count_by-le-length}
+use Rattle.std.proofs.lemmas.List.Sums.{sum_by_push}
 use Rattle.vm_base.specs.Places.{cell_of}
 use Rattle.vm_base.proofs.Ranges.{range-split}
-use Rattle.kernel_meaning.specs.Leaves.{has_pages}
 use Rattle.kernel_meaning.specs.FrameLaw.{Leaves, cell_at, lacks_slots, used_cells, cells_without_slot}
 use Rattle.page_tables.specs.declared.slot.Slot.{Slot}
 use Rattle.page_tables.specs.declared.tables.PageTables.{PageTables}
 use Rattle.page_tables.specs.Sides.{Sides}
-use Rattle.page_tables.specs.Standing.{TablesStandFor, IsSlotOf, owner_at, slot_count}
+use Rattle.page_tables.specs.Standing.{TablesStandFor, IsSlotOf, slot_count}
 use Rattle.page_tables.specs.Ranges.{missing_in, cells_of_pages}
 use Rattle.page_tables.proofs.LeafMap.{used-found}
 use Rattle.page_tables.proofs.SlotChoice.{unfound}
@@ -37,18 +36,20 @@ pub missing-push : (leaves : Leaves) (first n : ℕ) → missing_in leaves first
 missing-push leaves first n =
     let test : ℕ → Bool = λ cell. not (is_some (find nat_cmp cell leaves)) in
     let one : length (filter test ((first + n) ∷ [])) ≡ cond (is_some (find nat_cmp (first + n) leaves)) 0 1 =
-        elim (is_some (find nat_cmp (first + n) leaves)) as (λ b. length (cond (not b) ((first + n) ∷ []) []) ≡ cond b 0 1) [ true ↦ refl | false ↦ refl ] in
+    elim (is_some (find nat_cmp (first + n) leaves)) as (λ b. length (cond (not b) ((first + n) ∷ []) []) ≡ cond b 0 1) [ true ↦ refl | false ↦ refl ] in
     ap (λ xs. length (filter test xs)) (range-split first n 1) ∙ ap length (filter-append test (range_with_len first n) ((first + n) ∷ []))
     ∙ length-append (filter test (range_with_len first n)) (filter test ((first + n) ∷ [])) ∙ ap (λ k. missing_in leaves first n + k) one
 
-module _ (tables : PageTables) (sides : Sides) (st : TablesStandFor tables sides) (first n free : ℕ) (some : 0 < n) (counted : free + count_by (λ slot. is_some slot.owner) tables.slots.items ≡ length tables.slots.items) where
+module _ (tables : PageTables) (sides : Sides) (st : TablesStandFor tables sides) (first n free : ℕ) (some : 0 < n)
+    (counted : free + count_by (λ slot. is_some slot.owner) tables.slots.items ≡ length tables.slots.items) where
   abbrev missing : ℕ
   missing = missing_in sides.leaves (cell_of first) (cell_of (first + n - 1) + 1 - cell_of first)
 
   -- the cells that lack a slot are more than the free slots
   pub lacking-told : (nat_lt 0 missing && nat_lt free missing) ≡ lacks_slots (slot_count tables) sides.leaves (cells_of_pages first n)
   lacking-told =
-      let cells : cells_of_pages first n ≡ range_with_len (cell_of first) (cell_of (first + n - 1) + 1 - cell_of first) = ap (λ b. cond b [] (range_with_len (cell_of first) (cell_of (first + n - 1) + 1 - cell_of first))) (ne_eqb n 0 (λ e. omega arith)) in
+      let cells : cells_of_pages first n ≡ range_with_len (cell_of first) (cell_of (first + n - 1) + 1 - cell_of first) =
+      ap (λ b. cond b [] (range_with_len (cell_of first) (cell_of (first + n - 1) + 1 - cell_of first))) (ne_eqb n 0 (λ e. omega arith)) in
       let owned : count_by (λ slot. is_some slot.owner) tables.slots.items ≡ length sides.leaves = st.slots_of.counted in
       let used : length (used_cells sides.leaves) ≡ length sides.leaves = length-map sides.leaves (λ e. e.0) in
       let left : slot_count tables - length (used_cells sides.leaves) ≡ free = omega arith in

@@ -1,14 +1,14 @@
 -- Pages that are taken out of the parent leave all others as they are.
-use Rattle.std.proofs.Common.{◌≡◌, ◌≢◌, ℕ, ◌+◌, ◌*◌, ◌/◌, ◌%◌, ◌<◌, ◌≤◌, List, [], ◌∷◌, ◌++◌, length, take, drop, Option, Some, None, cond, eqb, refl, sym, ◌∙◌, ap, subst, arith, inl, inr}
-use Rattle.std.specs.Prelude.{Bool, true, false, not, ◌||◌, ◌==◌, is_some, IsSome, replicate, filter, unwrap_or, zero, suc}
+use Rattle.std.proofs.Common.{◌≡◌, ◌≢◌, ℕ, ◌+◌, ◌/◌, ◌%◌, [], ◌∷◌, ◌++◌, length, take, drop, None, cond, eqb, refl, sym, ◌∙◌, ap, subst, arith, inl, inr}
+use Rattle.std.specs.Prelude.{true, false, not, ◌||◌, ◌==◌, is_some, replicate, unwrap_or, zero, suc}
 use Rattle.std.specs.Ordering.{nat_cmp}
 use Rattle.std.specs.FinMap.{find, nat_cmp-IsAntisymmetric}
-use Rattle.std.specs.FinMap.Entries.{find-where_key, where_key}
-use Rattle.std.proofs.lemmas.Bool.{cases_eq, cases_Bool, cond-true, cond-false, eq-eqb, ne_eqb, false≢true}
+use Rattle.std.specs.FinMap.Entries.{find-where_key}
+use Rattle.std.proofs.lemmas.Bool.{cases_eq, cases_Bool, cond-false, eq-eqb, ne_eqb}
 use Rattle.vm_base.specs.Places.{cell_of}
 use Rattle.kernel_meaning.specs.Leaves.{Versions, CellLeaves, unused_cell, version_at, without_versions, has_pages}
 use Rattle.kernel_meaning.specs.FrameLaw.{Leaves, cell_at, with_cell, is_used}
-use Rattle.kernel_meaning.specs.EventRequests.{page_version, without_page, page_in_cell}
+use Rattle.kernel_meaning.specs.EventRequests.{page_version, without_page}
 use Rattle.leaf_cell.specs.Touching.{IsAlone}
 use Rattle.page_tables.specs.Accesses.{IsReady}
 use Rattle.page_tables.proofs.LeafMap.{cell_at-here, cell_at-apart}
@@ -25,7 +25,8 @@ version-cleared (version ∷ versions) zero zero apart = absurd (apart refl)
 version-cleared (version ∷ versions) zero (suc q) apart = refl
 version-cleared (version ∷ versions) (suc p) zero apart = refl
 version-cleared (version ∷ versions) (suc p) (suc q) apart =
-    ap (λ n. version_at ((take p versions ++ replicate 1 None) ++ drop n (version ∷ versions)) q) (let e : suc p + 1 ≡ suc (p + 1) = omega arith in e) ∙ version-cleared versions p q (λ e. apart (ap suc e))
+    ap (λ n. version_at ((take p versions ++ replicate 1 None) ++ drop n (version ∷ versions)) q) (let e : suc p + 1 ≡ suc (p + 1) = omega arith in e)
+    ∙ version-cleared versions p q (λ e. apart (ap suc e))
 
 module _ (leaves : Leaves) (c : ℕ) (new : CellLeaves) where
   -- a cell that nobody has goes from the map
@@ -71,7 +72,8 @@ version-left leaves p q apart = elim (cases_eq (cell_of q) (cell_of p)) [
       ∙ same-versions leaves (cell_of p) (record (cell_at leaves (cell_of p)) { parent = without_versions (cell_at leaves (cell_of p)).parent (p % 512) 1 }) (q % 512)
       ∙ version-cleared (cell_at leaves (cell_of p)).parent (p % 512) (q % 512) (other-place p q apart same)
       ∙ ap (λ n. version_at (cell_at leaves n).parent (q % 512)) (sym same)
-  | inr other ↦ ap (λ cell. version_at cell.parent (q % 512)) (other-cell leaves (cell_of p) (record (cell_at leaves (cell_of p)) { parent = without_versions (cell_at leaves (cell_of p)).parent (p % 512) 1 }) (cell_of q) other)
+  | inr other ↦ ap (λ cell. version_at cell.parent (q % 512))
+      (other-cell leaves (cell_of p) (record (cell_at leaves (cell_of p)) { parent = without_versions (cell_at leaves (cell_of p)).parent (p % 512) 1 }) (cell_of q) other)
 ]
 
 -- and where that may be stored to, it still may
@@ -80,9 +82,11 @@ ready-left leaves p q apart ready = elim (cases_eq (cell_of q) (cell_of p)) [
   | inl same ↦
       let new : CellLeaves = record (cell_at leaves (cell_of p)) { parent = without_versions (cell_at leaves (cell_of p)).parent (p % 512) 1 } in
       let was : IsAlone (cell_at leaves (cell_of p)) (q % 512) = subst (λ n. IsAlone (cell_at leaves n) (q % 512)) same ready in
-      let kept : version_at new.parent (q % 512) ≡ version_at (cell_at leaves (cell_of p)).parent (q % 512) = version-cleared (cell_at leaves (cell_of p)).parent (p % 512) (q % 512) (other-place p q apart same) in
+      let kept : version_at new.parent (q % 512) ≡ version_at (cell_at leaves (cell_of p)).parent (q % 512) =
+      version-cleared (cell_at leaves (cell_of p)).parent (p % 512) (q % 512) (other-place p q apart same) in
       let alone : IsAlone new (q % 512) = record { present = ap is_some kept ∙ was.present; unnamed = λ version e. was.unnamed version (sym kept ∙ e) } in
       subst (λ n. IsAlone (cell_at (without_page p leaves) n) (q % 512)) (sym same)
-          (subst (λ cell. IsAlone cell (q % 512)) (sym (same-cell leaves (cell_of p) new (page-there new (q % 512) alone.present))) alone)
-  | inr other ↦ subst (λ cell. IsAlone cell (q % 512)) (sym (other-cell leaves (cell_of p) (record (cell_at leaves (cell_of p)) { parent = without_versions (cell_at leaves (cell_of p)).parent (p % 512) 1 }) (cell_of q) other)) ready
+      (subst (λ cell. IsAlone cell (q % 512)) (sym (same-cell leaves (cell_of p) new (page-there new (q % 512) alone.present))) alone)
+  | inr other ↦ subst (λ cell. IsAlone cell (q % 512))
+      (sym (other-cell leaves (cell_of p) (record (cell_at leaves (cell_of p)) { parent = without_versions (cell_at leaves (cell_of p)).parent (p % 512) 1 }) (cell_of q) other)) ready
 ]

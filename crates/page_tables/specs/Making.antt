@@ -33,7 +33,8 @@ pub record Follows (event : Progress → Progress) (pages : Option FrameRefusal 
   pub stands : TablesStandFor new (record { leaves = leaves; pages = pages refused sides.pages; snapshots = sides.snapshots; made = made })
 
 -- a call ran an event: its deals led from one state of the allot to the other, and whatever sides the tables stood for, the event made just these deals
-pub record MadeEvent {State : Type 0} (goes : State → Deal → State → Type 0) (from to : State) (event : Progress → Progress) (pages : Option FrameRefusal → PageMap → PageMap) (old new : PageTables) (refused : Option FrameRefusal) : Type 0 where
+pub record MadeEvent {State : Type 0} (goes : State → Deal → State → Type 0) (from to : State) (event : Progress → Progress)
+    (pages : Option FrameRefusal → PageMap → PageMap) (old new : PageTables) (refused : Option FrameRefusal) : Type 0 where
   pub deals : List Deal
   pub led : LeadsAlong goes from deals to
   pub follows : (sides : Sides) → TablesStandFor old sides → Follows event pages new deals refused sides

@@ -1,15 +1,14 @@
 -- The touch of a range of pages, page after page, and what is taken back where one is refused.
-use Rattle.std.specs.Prelude.{◌≡◌, ℕ, ◌+◌, ◌-◌, ◌*◌, ◌/◌, ◌%◌, ◌≤◌, ◌<◌, ◌==◌, if◌then◌else◌, Bool, not, false, List, [], ◌∷◌, ◌++◌, filter, length, Option, Some, None, IsSome, is_some, Result, Ok, Err}
-use Rattle.std.specs.FinMap.{get, retain_keys}
+use Rattle.std.specs.Prelude.{◌≡◌, ℕ, ◌+◌, ◌-◌, ◌%◌, ◌≤◌, ◌<◌, ◌==◌, if◌then◌else◌, not, false, List, [], ◌∷◌, ◌++◌, filter, length, Option, Some, None, IsSome, is_some, Result, Ok, Err}
+use Rattle.std.specs.FinMap.{get}
 use Rattle.std.specs.List.{range_with_len, list_any}
 use Rattle.vm_base.specs.Deals.{Deal, LeadsAlong}
 use Rattle.vm_base.specs.Places.{cell_of}
 use Rattle.vm_base.specs.FlatMemory.{PageMap}
-use Rattle.vm_base.specs.FlatStep.{with_pages, is_beyond}
+use Rattle.vm_base.specs.FlatStep.{with_pages}
 use Rattle.kernel_meaning.specs.Requests.{Answer, answers_of}
-use Rattle.kernel_meaning.specs.Leaves.{without_versions}
-use Rattle.kernel_meaning.specs.FrameLaw.{Leaves, cell_at, with_cell, cells_without_slot}
-use Rattle.kernel_meaning.specs.EventRequests.{FrameRefusal, pages_touched, pages_touched_behind, page_version, without_page, added_by}
+use Rattle.kernel_meaning.specs.FrameLaw.{Leaves, cells_without_slot}
+use Rattle.kernel_meaning.specs.EventRequests.{FrameRefusal, pages_touched, pages_touched_behind, page_version, without_page}
 use Rattle.page_tables.specs.declared.tables.PageTables.{PageTables}
 use Rattle.page_tables.specs.declared.range.FrameRefused.{FrameRefused}
 use Rattle.page_tables.specs.Sides.{Sides}

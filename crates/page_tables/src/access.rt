@@ -18,7 +18,8 @@ use leaf_cell::LeafState;
 use vm_base::Lost;
 
 impl PageTables {
-    /// Reads bytes of the parent from an address on. What is absent reads as zeros.
+    /// Reads bytes of the parent from an address on, as many as `buf` has. An absent page reads as
+    /// zeros. It is one look-up for each page of the range.
     pub fn read(&self, addr: u64, buf: &mut [u8])
         requires range { addr + length buf.old ≤ 2 ^ 48 }
         requires stands { (sides : Sides) × TablesStandFor self.now sides }
@@ -50,7 +51,8 @@ impl PageTables {
         }
     }
 
-    /// Stores bytes from an address on, in pages that were touched since the last fork.
+    /// Stores bytes from an address on, in pages that are present and that no snapshot names, as a
+    /// touch leaves them. It asks for no frame. It is one look-up for each page of the range.
     pub fn store(&mut self, addr: u64, bytes: &[u8])
         requires range { addr + length bytes.now ≤ 2 ^ 48 }
         requires stands { (sides : Sides) × (TablesStandFor self.old sides ×
@@ -93,8 +95,9 @@ impl PageTables {
         }
     }
 
-    /// Reads bytes of a snapshot from an address on, as they were at its fork. It looks at each
-    /// cell of the range once, in rising order, and stops at the first that the snapshot has lost.
+    /// Reads bytes of a snapshot, by its number, from an address on, as they were at its fork. It
+    /// looks at each cell of the range once, in rising order, and stops at the first that the
+    /// snapshot has lost: `Lost` tells the count of refused requests with which it was.
     pub fn snap_read(&self, number: u32, addr: u64, buf: &mut [u8]) -> Result<(), Lost>
         requires range { addr + length buf.old ≤ 2 ^ 48 }
         requires stands { (sides : Sides) × TablesStandFor self.now sides }
@@ -130,13 +133,7 @@ impl PageTables {
     }
 
     /// Reads bytes of a snapshot within the cell in a slot.
-    fn snap_read_slot(
-        &self,
-        slot: u32,
-        number: u32,
-        addr: u64,
-        buf: &mut [u8],
-    ) -> Result<(), Lost>
+    fn snap_read_slot(&self, slot: u32, number: u32, addr: u64, buf: &mut [u8]) -> Result<(), Lost>
         requires range { addr + length buf.old ≤ 2 ^ 48 }
         requires room { addr % 2 ^ 21 + length buf.old ≤ 2 ^ 21 }
         requires known { slot_in self.now.snapshot (cell_of (page_of addr)) ≡ Some slot }
@@ -156,13 +153,7 @@ impl PageTables {
     }
 
     /// Reads bytes of a snapshot within one page of the cell in a slot.
-    fn snap_read_piece(
-        &self,
-        slot: u32,
-        number: u32,
-        addr: u64,
-        buf: &mut [u8],
-    ) -> Result<(), Lost>
+    fn snap_read_piece(&self, slot: u32, number: u32, addr: u64, buf: &mut [u8]) -> Result<(), Lost>
         requires inside { addr < 2 ^ 48 }
         requires room { offset_of addr + length buf.old ≤ 4096 }
         requires some { 0 < length buf.old }
@@ -175,7 +166,7 @@ impl PageTables {
         cell.snap_read(number, location.page, location.at, buf)
     }
 
-    /// What a snapshot has at a cell.
+    /// What a snapshot has at a cell, both by their numbers. It is one look-up.
     pub fn state(&self, number: u32, cell: u32) -> LeafState
         requires cell { cell < 2 ^ 27 }
         requires stands { (sides : Sides) × TablesStandFor self.now sides }

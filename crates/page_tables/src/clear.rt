@@ -1,13 +1,14 @@
 //! Taking pages of the parent out.
-ghost use Rattle.std.specs.Prelude.{◌≡◌, ◌+◌, ◌-◌, ◌≤◌, ◌<◌, ◌^◌, None, Some, true};
+ghost use Rattle.std.specs.Prelude.{◌≡◌, ◌+◌, ◌-◌, ◌*◌, ◌/◌, ◌≤◌, ◌<◌, ◌^◌, None, Some, true};
 ghost use Rattle.std.specs.FinMap.{get};
 ghost use Rattle.vm_base.specs.Deals.{LeadsAlong};
 ghost use Rattle.table_levels.specs.Requests.{returned};
 ghost use Rattle.kernel_meaning.specs.Leaves.{has_present};
 ghost use Rattle.kernel_meaning.specs.FrameLaw.{cell_at};
 ghost use Rattle.leaf_cell.specs.States.{nth_number};
-ghost use Rattle.page_tables.specs.Clearing.{sides_without, cell_unmapped, owner_left};
-ghost use Rattle.page_tables.specs.Courses.{Runs};
+ghost use Rattle.page_tables.specs.Clearing.{sides_without, owner_left, pages_without, has_some, GivesBack, IsOutOf};
+ghost use Rattle.kernel_meaning.specs.EventRequests.{pages_unmapped};
+ghost use Rattle.page_tables.specs.Making.{MadeEvent};
 ghost use Rattle.page_tables.specs.Sides.{Sides};
 ghost use Rattle.page_tables.specs.Standing.{TablesStandFor, slot_count};
 ghost use Rattle.page_tables.specs.Held.{frames_of, frames_in, shares_in};
@@ -16,7 +17,58 @@ use crate::slot::Slot;
 use crate::tables::PageTables;
 use vm_base::Allot;
 
+/// Pages in a cell.
+const CELL_PAGES: u64 = 512;
+
 impl PageTables {
+    /// Takes the parent's pages of a range out, one cell after another in rising order. No frame
+    /// is asked for, and after each cell what it held goes back. The cost is that of the parent's
+    /// cells in the range, however long the range is.
+    pub fn unmap<A: Allot>(&mut self, first: u64, count: u64, allot: &mut A)
+        requires range { first + count ≤ 2 ^ 36 }
+        requires stands { (sides : Sides) × TablesStandFor self.old sides }
+        requires lent { frames_of self.old ≤ A.out (A.state allot.old) }
+        requires untold { A.grants allot.old ≡ None }
+        ensures made { MadeEvent A.goes (A.state allot.old) (A.state allot.new) (pages_unmapped first count) (pages_without first count) self.old self.new None }
+        ensures held { A.out (A.state allot.new) + frames_of self.old ≡ A.out (A.state allot.old) + frames_of self.new }
+        ensures untold { A.grants allot.new ≡ None }
+        ensures slots { slot_count self.new ≡ slot_count self.old }
+        ensures unrefused { A.refused (A.state allot.new) ≡ A.refused (A.state allot.old) }
+    {
+        let end = first + count;
+        let mut next = (first / CELL_PAGES) as u32;
+        while let Some((cell, slot)) = self.directory.at_or_after(next) {
+            if u64::from(cell) * CELL_PAGES >= end {
+                break;
+            }
+            self.unmap_cell(slot, cell, first, end, allot);
+            next = cell + 1;
+        }
+    }
+
+    /// Takes the parent's pages from one page up to another out of a cell, which lies in this slot.
+    fn unmap_cell<A: Allot>(&mut self, slot: u32, cell: u32, first: u64, end: u64, allot: &mut A)
+        requires range { (first ≤ end) × (end ≤ 2 ^ 36) }
+        requires within { (first / 512 ≤ cell) × (cell * 512 < end) }
+        requires known { get self.old.directory cell ≡ Some slot }
+        requires stands { (sides : Sides) × TablesStandFor self.old sides }
+        requires lent { frames_of self.old ≤ A.out (A.state allot.old) }
+        requires untold { A.grants allot.old ≡ None }
+        ensures given { LeadsAlong A.goes (A.state allot.old) (returned (frames_of self.old - frames_of self.new)) (A.state allot.new) }
+        ensures follows { (sides : Sides) → TablesStandFor self.old sides → IsOutOf (has_some first (end - first) cell (cell_at sides.leaves cell)) cell first (end - first) self.new (frames_of self.old - frames_of self.new) sides }
+        ensures held { A.out (A.state allot.new) + frames_of self.old ≡ A.out (A.state allot.old) + frames_of self.new }
+        ensures untold { A.grants allot.new ≡ None }
+        ensures slots { slot_count self.new ≡ slot_count self.old }
+        ensures unrefused { A.refused (A.state allot.new) ≡ A.refused (A.state allot.old) }
+    {
+        let start = u64::from(cell) * CELL_PAGES;
+        let low = first.saturating_sub(start) as u16;
+        let high = (end - start).min(CELL_PAGES) as u16;
+        if self.slots[slot as usize].cell.covers(low, high - low) {
+            self.clear_in_cell(cell, low, high - low, allot);
+        }
+    }
+
     /// Takes the parent's pages of a range within one cell out, of which one is present. With the
     /// cell's last page the directory loses the cell, and where no snapshot has it either its slot
     /// loses its owner.
@@ -37,7 +89,7 @@ impl PageTables {
         ensures follows { (sides : Sides) → TablesStandFor self.old sides → TablesStandFor self.new (sides_without cell first count sides) }
 
         // What the unmap of these pages makes, in the words of the events.
-        ensures event { (sides : Sides) → TablesStandFor self.old sides → Runs (cell_unmapped cell first count) sides.leaves sides.made (returned (frames_of self.old - frames_of self.new)) (sides_without cell first count sides).leaves sides.made None }
+        ensures event { (sides : Sides) → TablesStandFor self.old sides → GivesBack cell first count (frames_of self.old - frames_of self.new) sides }
         ensures held { A.out (A.state allot.new) + frames_of self.old ≡ A.out (A.state allot.old) + frames_of self.new }
         ensures untold { A.grants allot.new ≡ None }
         ensures slots { slot_count self.new ≡ slot_count self.old }
@@ -62,7 +114,7 @@ impl PageTables {
         ensures given { LeadsAlong A.goes (A.state allot.old) (returned (frames_of self.old - frames_of self.new)) (A.state allot.new) }
         ensures shrunk { frames_of self.new ≤ frames_of self.old }
         ensures follows { (sides : Sides) → TablesStandFor self.old sides → TablesStandFor self.new (sides_without cell first count sides) }
-        ensures event { (sides : Sides) → TablesStandFor self.old sides → Runs (cell_unmapped cell first count) sides.leaves sides.made (returned (frames_of self.old - frames_of self.new)) (sides_without cell first count sides).leaves sides.made None }
+        ensures event { (sides : Sides) → TablesStandFor self.old sides → GivesBack cell first count (frames_of self.old - frames_of self.new) sides }
         ensures held { A.out (A.state allot.new) + frames_of self.old ≡ A.out (A.state allot.old) + frames_of self.new }
         ensures untold { A.grants allot.new ≡ None }
         ensures slots { slot_count self.new ≡ slot_count self.old }
@@ -71,6 +123,7 @@ impl PageTables {
         ensures snapshot { self.new.snapshot ≡ self.old.snapshot }
     {
         let home = &mut self.slots[slot as usize];
+        // A cell holds its share, before and after: what goes back is what the share falls by.
         prove!(home.cell.held() <= u32::MAX);
         home.cell.clear(first, count, allot);
         prove!(home.cell.held() <= u32::MAX);

@@ -16,17 +16,21 @@ use vm_base::Allot;
 /// Pages in a cell.
 const CELL_PAGES: u64 = 512;
 
-/// A page of a range was refused: the count of refused requests then, and the page.
+/// A page of a range was refused a frame, for itself or for a table on its way.
 #[derive(Clone, Copy, Debug, PartialEq, Eq)]
 pub struct FrameRefused {
+    /// How many requests of the asker were refused by then, this one among them.
     pub at: u64,
+    /// The number of the page.
     pub page: u64,
 }
 
 impl PageTables {
-    /// Touches the pages of a range in rising order, and notes in `added` those that were absent.
-    /// After a refusal those are gone again, with the tables that they alone needed; copies and
-    /// losses that came before stay, and both sides read as before.
+    /// Touches `count` pages from `first` on in rising order, as `pages_touched` of
+    /// `kernel_meaning` has it, and notes in `added`, a list of the caller's with room for all,
+    /// those that were absent. After a refusal those are gone again, with the tables that they
+    /// alone needed; copies and losses that came before stay, and both sides read as before. It
+    /// costs two look-ups for each page, and for a new cell a look through the slots.
     pub fn touch<A: Allot>(
         &mut self,
         first: u64,
@@ -65,7 +69,7 @@ impl PageTables {
         Ok(())
     }
 
-    /// Whether the parent has a page.
+    /// Whether the parent has a page, by its number. It is one look-up.
     pub fn is_present(&self, page: u64) -> bool
         requires page { page < 2 ^ 36 }
         requires stands { (sides : Sides) × TablesStandFor self.now sides }

@@ -15,7 +15,9 @@ use crate::touch::slot_of;
 const CELL_PAGES: u64 = 512;
 
 impl PageTables {
-    /// Whether the cells of a range of pages that have no slot are more than the free slots.
+    /// Whether the cells of a range of pages that have no slot are more than the free slots: what a
+    /// caller asks before a touch. For each cell of the range it is one look-up, and a look through
+    /// the slots where the directory lacks the cell.
     pub fn lacks_slots(&self, first: u64, count: u64) -> bool
         requires some { 0 < count }
         requires range { first + count ≤ 2 ^ 36 }

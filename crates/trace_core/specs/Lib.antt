@@ -5,4 +5,3 @@ pub mod KernelState
 pub mod EventMeaning
 pub mod RunMeaning
 pub mod Supplied
-pub mod KernelStanding

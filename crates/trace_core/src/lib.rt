@@ -6,7 +6,6 @@
 //! README.md goes on.
 #![tactic(auto)]
 
-mod kernel;
 mod laws;
 mod supply;
 mod writing;
@@ -14,5 +13,4 @@ mod writing;
 mod tests;
 
 pub use laws::a_supply_answers_as_it_may;
-pub use kernel::Kernel;
 pub use supply::Supply;

@@ -30,7 +30,7 @@ pub clear-requires-clause-unjoined : goal.clear-requires-clause-unjoined
 clear-requires-clause-unjoined g c = λ _.
     let within : c.args.slot < length c.args.self.now.slots.items = owned-within c.args.self.now.slots.items c.args.slot c.args.cell (c.requires.stands.1.0.named c.args.cell c.args.slot c.requires.known) in
     slot-unjoined c.args.self.now.directory c.args.self.now.snapshot c.args.self.now.slots.items c.requires.stands.0 c.requires.stands.1.0 c.args.slot c.index_mut-home.result.now
-        (read-slot c.args.self.now.slots.items c.args.slot c.index_mut-home.result.now within c.index_mut-home.ensures.value)
+    (read-slot c.args.self.now.slots.items c.args.slot c.index_mut-home.result.now within c.index_mut-home.ensures.value)
 
 pub clear-requires-clause-held : goal.clear-requires-clause-held
 clear-requires-clause-held g c =
@@ -57,16 +57,16 @@ returns-then-pages-eq0-clause-given g c =
     let slot : Slot = c.index_mut-home.result.now in
     let made = c.clear.ensures.made in
     let deals : made.deals ≡ returned (held_of slot.cell - held_of c.clear.new.self) = deals-are old c.args.cell c.args.slot c.args.first c.args.count slot c.requires.known here c.requires.range
-        c.clear.new.self made.deals made.follows before later c.requires.stands.0 c.requires.stands.1.0 c.requires.stands.1.1 in
+    c.clear.new.self made.deals made.follows before later c.requires.stands.0 c.requires.stands.1.0 c.requires.stands.1.1 in
     let freed : (tables_of old.directory + snapshot_frames old.snapshot + frames_in old.slots.items) - (tables_of c.remove.new.self + snapshot_frames old.snapshot + frames_in (slice_set old.slots.items c.args.slot c.leave_slot.new.home))
-        ≡ (held_of slot.cell - held_of c.clear.new.self) + (tables_of old.directory - tables_of c.remove.new.self) =
-        freed-are old c.args.cell c.args.slot c.args.first c.args.count slot c.requires.known here c.requires.range c.clear.new.self made.deals made.follows before later c.requires.stands.0 c.requires.stands.1.0 c.requires.stands.1.1
-        c.remove.new.self c.leave_slot.new.home (ap (λ it. it.cell) c.leave_slot.ensures) c.remove.ensures.shrunk in
+    ≡ (held_of slot.cell - held_of c.clear.new.self) + (tables_of old.directory - tables_of c.remove.new.self) =
+    freed-are old c.args.cell c.args.slot c.args.first c.args.count slot c.requires.known here c.requires.range c.clear.new.self made.deals made.follows before later c.requires.stands.0 c.requires.stands.1.0 c.requires.stands.1.1
+    c.remove.new.self c.leave_slot.new.home (ap (λ it. it.cell) c.leave_slot.ensures) c.remove.ensures.shrunk in
     subst (λ n. LeadsAlong g.A.Allot.goes (g.A.Allot.state c.args.allot.now) (returned n) (g.A.Allot.state c.remove.new.allot)) (sym freed)
-        (subst (λ deals. LeadsAlong g.A.Allot.goes (g.A.Allot.state c.args.allot.now) deals (g.A.Allot.state c.remove.new.allot)) (replicate-both Returned (held_of slot.cell - held_of c.clear.new.self) (tables_of old.directory - tables_of c.remove.new.self))
-            (LeadsAlong-append g.A.Allot.goes (returned (held_of slot.cell - held_of c.clear.new.self)) (returned (tables_of old.directory - tables_of c.remove.new.self))
-                (g.A.Allot.state c.args.allot.now) (g.A.Allot.state c.clear.new.allot) (g.A.Allot.state c.remove.new.allot)
-                (subst (λ deals. LeadsAlong g.A.Allot.goes (g.A.Allot.state c.args.allot.now) deals (g.A.Allot.state c.clear.new.allot)) deals made.led) c.remove.ensures.given))
+    (subst (λ deals. LeadsAlong g.A.Allot.goes (g.A.Allot.state c.args.allot.now) deals (g.A.Allot.state c.remove.new.allot)) (replicate-both Returned (held_of slot.cell - held_of c.clear.new.self) (tables_of old.directory - tables_of c.remove.new.self))
+    (LeadsAlong-append g.A.Allot.goes (returned (held_of slot.cell - held_of c.clear.new.self)) (returned (tables_of old.directory - tables_of c.remove.new.self))
+    (g.A.Allot.state c.args.allot.now) (g.A.Allot.state c.clear.new.allot) (g.A.Allot.state c.remove.new.allot)
+    (subst (λ deals. LeadsAlong g.A.Allot.goes (g.A.Allot.state c.args.allot.now) deals (g.A.Allot.state c.clear.new.allot)) deals made.led) c.remove.ensures.given))
 
 pub returns-then-pages-eq0-clause-shrunk : goal.returns-then-pages-eq0-clause-shrunk
 returns-then-pages-eq0-clause-shrunk g c =
@@ -78,9 +78,9 @@ returns-then-pages-eq0-clause-shrunk g c =
     let slot : Slot = c.index_mut-home.result.now in
     let made = c.clear.ensures.made in
     let less : held_of c.clear.new.self ≤ held_of slot.cell = less-held old c.args.cell c.args.slot c.args.first c.args.count slot c.requires.known here c.requires.range
-        c.clear.new.self made.deals made.follows before later c.requires.stands.0 c.requires.stands.1.0 c.requires.stands.1.1 in
+    c.clear.new.self made.deals made.follows before later c.requires.stands.0 c.requires.stands.1.0 c.requires.stands.1.1 in
     let sums : frames_in (slice_set old.slots.items c.args.slot c.leave_slot.new.home) + held_of slot.cell ≡ frames_in old.slots.items + held_of c.clear.new.self =
-        frames-set old.slots.items c.args.slot slot c.leave_slot.new.home here ∙ ap (λ it. frames_in old.slots.items + held_of it.cell) c.leave_slot.ensures in
+    frames-set old.slots.items c.args.slot slot c.leave_slot.new.home here ∙ ap (λ it. frames_in old.slots.items + held_of it.cell) c.leave_slot.ensures in
     let fewer : tables_of c.remove.new.self ≤ tables_of old.directory = c.remove.ensures.shrunk in
     omega (arith, less, sums, fewer)
 
@@ -94,13 +94,13 @@ returns-then-pages-eq0-clause-follows g c = λ sides st.
     let slot : Slot = c.index_mut-home.result.now in
     let made = c.clear.ensures.made in
     let seen : has_present (cell_at sides.leaves c.args.cell).parent c.args.first c.args.count ≡ true =
-        sym (present-here old c.args.cell c.args.slot c.args.first c.args.count slot c.requires.known here c.requires.range sides st)
-        ∙ present-here old c.args.cell c.args.slot c.args.first c.args.count slot c.requires.known here c.requires.range c.requires.stands.0 c.requires.stands.1.0 ∙ c.requires.stands.1.1 in
+    sym (present-here old c.args.cell c.args.slot c.args.first c.args.count slot c.requires.known here c.requires.range sides st)
+    ∙ present-here old c.args.cell c.args.slot c.args.first c.args.count slot c.requires.known here c.requires.range c.requires.stands.0 c.requires.stands.1.0 ∙ c.requires.stands.1.1 in
     let none : count_by is_some c.clear.new.self.leaves.parent ≡ 0 = sym c.pages.ensures.pages ∙ c.if-pages-eq0.true in
     subst (λ d. StandFor d old.snapshot (slice_set old.slots.items c.args.slot c.leave_slot.new.home) (sides_without c.args.cell c.args.first c.args.count sides)) (sym c.remove.ensures.removed)
-        (subst (λ new. StandFor (remove old.directory c.args.cell) old.snapshot (slice_set old.slots.items c.args.slot new) (sides_without c.args.cell c.args.first c.args.count sides)) (sym c.leave_slot.ensures)
-            (leaves-cell old c.args.cell c.args.slot c.args.first c.args.count slot c.requires.known here c.requires.range c.clear.new.self made.deals made.follows before later sides st seen
-                (pages-counted c.clear.new.self.leaves.parent none)))
+    (subst (λ new. StandFor (remove old.directory c.args.cell) old.snapshot (slice_set old.slots.items c.args.slot new) (sides_without c.args.cell c.args.first c.args.count sides)) (sym c.leave_slot.ensures)
+    (leaves-cell old c.args.cell c.args.slot c.args.first c.args.count slot c.requires.known here c.requires.range c.clear.new.self made.deals made.follows before later sides st seen
+    (pages-counted c.clear.new.self.leaves.parent none)))
 
 pub returns-then-pages-eq0-clause-event : goal.returns-then-pages-eq0-clause-event
 returns-then-pages-eq0-clause-event g c = λ sides st.
@@ -112,16 +112,16 @@ returns-then-pages-eq0-clause-event g c = λ sides st.
     let slot : Slot = c.index_mut-home.result.now in
     let made = c.clear.ensures.made in
     let seen : has_present (cell_at sides.leaves c.args.cell).parent c.args.first c.args.count ≡ true =
-        sym (present-here old c.args.cell c.args.slot c.args.first c.args.count slot c.requires.known here c.requires.range sides st)
-        ∙ present-here old c.args.cell c.args.slot c.args.first c.args.count slot c.requires.known here c.requires.range c.requires.stands.0 c.requires.stands.1.0 ∙ c.requires.stands.1.1 in
+    sym (present-here old c.args.cell c.args.slot c.args.first c.args.count slot c.requires.known here c.requires.range sides st)
+    ∙ present-here old c.args.cell c.args.slot c.args.first c.args.count slot c.requires.known here c.requires.range c.requires.stands.0 c.requires.stands.1.0 ∙ c.requires.stands.1.1 in
     let none : count_by is_some c.clear.new.self.leaves.parent ≡ 0 = sym c.pages.ensures.pages ∙ c.if-pages-eq0.true in
     let now : StandFor c.remove.new.self old.snapshot (slice_set old.slots.items c.args.slot c.leave_slot.new.home) (sides_without c.args.cell c.args.first c.args.count sides) =
-        subst (λ d. StandFor d old.snapshot (slice_set old.slots.items c.args.slot c.leave_slot.new.home) (sides_without c.args.cell c.args.first c.args.count sides)) (sym c.remove.ensures.removed)
-            (subst (λ new. StandFor (remove old.directory c.args.cell) old.snapshot (slice_set old.slots.items c.args.slot new) (sides_without c.args.cell c.args.first c.args.count sides)) (sym c.leave_slot.ensures)
-                (leaves-cell old c.args.cell c.args.slot c.args.first c.args.count slot c.requires.known here c.requires.range c.clear.new.self made.deals made.follows before later sides st seen
-                    (pages-counted c.clear.new.self.leaves.parent none))) in
+    subst (λ d. StandFor d old.snapshot (slice_set old.slots.items c.args.slot c.leave_slot.new.home) (sides_without c.args.cell c.args.first c.args.count sides)) (sym c.remove.ensures.removed)
+    (subst (λ new. StandFor (remove old.directory c.args.cell) old.snapshot (slice_set old.slots.items c.args.slot new) (sides_without c.args.cell c.args.first c.args.count sides)) (sym c.leave_slot.ensures)
+    (leaves-cell old c.args.cell c.args.slot c.args.first c.args.count slot c.requires.known here c.requires.range c.clear.new.self made.deals made.follows before later sides st seen
+    (pages-counted c.clear.new.self.leaves.parent none))) in
     event-made old c.args.cell c.args.slot c.args.first c.args.count slot c.requires.known here c.requires.range c.clear.new.self made.deals made.follows before later sides st seen
-        c.remove.new.self c.leave_slot.new.home (ap (λ it. it.cell) c.leave_slot.ensures) c.remove.ensures.shrunk now
+    c.remove.new.self c.leave_slot.new.home (ap (λ it. it.cell) c.leave_slot.ensures) c.remove.ensures.shrunk now
 
 pub returns-then-pages-eq0-clause-held : goal.returns-then-pages-eq0-clause-held
 returns-then-pages-eq0-clause-held g c =
@@ -130,7 +130,7 @@ returns-then-pages-eq0-clause-held g c =
     let here : slice_get old.slots.items c.args.slot ≡ Some c.index_mut-home.result.now = read-slot old.slots.items c.args.slot c.index_mut-home.result.now within c.index_mut-home.ensures.value in
     let slot : Slot = c.index_mut-home.result.now in
     let sums : frames_in (slice_set old.slots.items c.args.slot c.leave_slot.new.home) + held_of slot.cell ≡ frames_in old.slots.items + held_of c.clear.new.self =
-        frames-set old.slots.items c.args.slot slot c.leave_slot.new.home here ∙ ap (λ it. frames_in old.slots.items + held_of it.cell) c.leave_slot.ensures in
+    frames-set old.slots.items c.args.slot slot c.leave_slot.new.home here ∙ ap (λ it. frames_in old.slots.items + held_of it.cell) c.leave_slot.ensures in
     let held : g.A.Allot.out (g.A.Allot.state c.clear.new.allot) + held_of slot.cell ≡ g.A.Allot.out (g.A.Allot.state c.args.allot.now) + held_of c.clear.new.self = c.clear.ensures.held in
     let back : g.A.Allot.out (g.A.Allot.state c.remove.new.allot) + tables_of old.directory ≡ g.A.Allot.out (g.A.Allot.state c.clear.new.allot) + tables_of c.remove.new.self = c.remove.ensures.out in
     omega (arith, sums, held, back)
@@ -146,13 +146,13 @@ returns-else-pages-eq0-clause-given g c =
     let new : Slot = record { owner = slot.owner; cell = c.clear.new.self } in
     let made = c.clear.ensures.made in
     let deals : made.deals ≡ returned (held_of slot.cell - held_of c.clear.new.self) = deals-are old c.args.cell c.args.slot c.args.first c.args.count slot c.requires.known here c.requires.range
-        c.clear.new.self made.deals made.follows before later c.requires.stands.0 c.requires.stands.1.0 c.requires.stands.1.1 in
+    c.clear.new.self made.deals made.follows before later c.requires.stands.0 c.requires.stands.1.0 c.requires.stands.1.1 in
     let same : tables_of old.directory ≤ tables_of old.directory = omega arith in
     let none : held_of slot.cell - held_of c.clear.new.self + (tables_of old.directory - tables_of old.directory) ≡ held_of slot.cell - held_of c.clear.new.self = omega arith in
     let freed : (tables_of old.directory + snapshot_frames old.snapshot + frames_in old.slots.items) - (tables_of old.directory + snapshot_frames old.snapshot + frames_in (slice_set old.slots.items c.args.slot new))
-        ≡ held_of slot.cell - held_of c.clear.new.self =
-        freed-are old c.args.cell c.args.slot c.args.first c.args.count slot c.requires.known here c.requires.range c.clear.new.self made.deals made.follows before later c.requires.stands.0 c.requires.stands.1.0 c.requires.stands.1.1
-        old.directory new refl same ∙ none in
+    ≡ held_of slot.cell - held_of c.clear.new.self =
+    freed-are old c.args.cell c.args.slot c.args.first c.args.count slot c.requires.known here c.requires.range c.clear.new.self made.deals made.follows before later c.requires.stands.0 c.requires.stands.1.0 c.requires.stands.1.1
+    old.directory new refl same ∙ none in
     subst (λ deals. LeadsAlong g.A.Allot.goes (g.A.Allot.state c.args.allot.now) deals (g.A.Allot.state c.clear.new.allot)) (deals ∙ ap returned (sym freed)) made.led
 
 pub returns-else-pages-eq0-clause-shrunk : goal.returns-else-pages-eq0-clause-shrunk
@@ -166,7 +166,7 @@ returns-else-pages-eq0-clause-shrunk g c =
     let new : Slot = record { owner = slot.owner; cell = c.clear.new.self } in
     let made = c.clear.ensures.made in
     let less : held_of c.clear.new.self ≤ held_of slot.cell = less-held old c.args.cell c.args.slot c.args.first c.args.count slot c.requires.known here c.requires.range
-        c.clear.new.self made.deals made.follows before later c.requires.stands.0 c.requires.stands.1.0 c.requires.stands.1.1 in
+    c.clear.new.self made.deals made.follows before later c.requires.stands.0 c.requires.stands.1.0 c.requires.stands.1.1 in
     let sums : frames_in (slice_set old.slots.items c.args.slot new) + held_of slot.cell ≡ frames_in old.slots.items + held_of c.clear.new.self = frames-set old.slots.items c.args.slot slot new here in
     omega (arith, less, sums)
 
@@ -180,10 +180,10 @@ returns-else-pages-eq0-clause-follows g c = λ sides st.
     let slot : Slot = c.index_mut-home.result.now in
     let made = c.clear.ensures.made in
     let seen : has_present (cell_at sides.leaves c.args.cell).parent c.args.first c.args.count ≡ true =
-        sym (present-here old c.args.cell c.args.slot c.args.first c.args.count slot c.requires.known here c.requires.range sides st)
-        ∙ present-here old c.args.cell c.args.slot c.args.first c.args.count slot c.requires.known here c.requires.range c.requires.stands.0 c.requires.stands.1.0 ∙ c.requires.stands.1.1 in
+    sym (present-here old c.args.cell c.args.slot c.args.first c.args.count slot c.requires.known here c.requires.range sides st)
+    ∙ present-here old c.args.cell c.args.slot c.args.first c.args.count slot c.requires.known here c.requires.range c.requires.stands.0 c.requires.stands.1.0 ∙ c.requires.stands.1.1 in
     stays old c.args.cell c.args.slot c.args.first c.args.count slot c.requires.known here c.requires.range c.clear.new.self made.deals made.follows before later sides st seen
-        (some-counted c.clear.new.self.leaves.parent (λ e. c.if-pages-eq0.false (c.pages.ensures.pages ∙ e)))
+    (some-counted c.clear.new.self.leaves.parent (λ e. c.if-pages-eq0.false (c.pages.ensures.pages ∙ e)))
 
 pub returns-else-pages-eq0-clause-event : goal.returns-else-pages-eq0-clause-event
 returns-else-pages-eq0-clause-event g c = λ sides st.
@@ -195,12 +195,12 @@ returns-else-pages-eq0-clause-event g c = λ sides st.
     let slot : Slot = c.index_mut-home.result.now in
     let made = c.clear.ensures.made in
     let seen : has_present (cell_at sides.leaves c.args.cell).parent c.args.first c.args.count ≡ true =
-        sym (present-here old c.args.cell c.args.slot c.args.first c.args.count slot c.requires.known here c.requires.range sides st)
-        ∙ present-here old c.args.cell c.args.slot c.args.first c.args.count slot c.requires.known here c.requires.range c.requires.stands.0 c.requires.stands.1.0 ∙ c.requires.stands.1.1 in
+    sym (present-here old c.args.cell c.args.slot c.args.first c.args.count slot c.requires.known here c.requires.range sides st)
+    ∙ present-here old c.args.cell c.args.slot c.args.first c.args.count slot c.requires.known here c.requires.range c.requires.stands.0 c.requires.stands.1.0 ∙ c.requires.stands.1.1 in
     event-made old c.args.cell c.args.slot c.args.first c.args.count slot c.requires.known here c.requires.range c.clear.new.self made.deals made.follows before later sides st seen
-        old.directory (record { owner = slot.owner; cell = c.clear.new.self }) refl (omega arith)
-        (stays old c.args.cell c.args.slot c.args.first c.args.count slot c.requires.known here c.requires.range c.clear.new.self made.deals made.follows before later sides st seen
-            (some-counted c.clear.new.self.leaves.parent (λ e. c.if-pages-eq0.false (c.pages.ensures.pages ∙ e))))
+    old.directory (record { owner = slot.owner; cell = c.clear.new.self }) refl (omega arith)
+    (stays old c.args.cell c.args.slot c.args.first c.args.count slot c.requires.known here c.requires.range c.clear.new.self made.deals made.follows before later sides st seen
+    (some-counted c.clear.new.self.leaves.parent (λ e. c.if-pages-eq0.false (c.pages.ensures.pages ∙ e))))
 
 pub returns-else-pages-eq0-clause-held : goal.returns-else-pages-eq0-clause-held
 returns-else-pages-eq0-clause-held g c =
@@ -222,7 +222,7 @@ returns-then-pages-eq0-clause-even g c =
     let later : HoldsShare c.clear.new.self = λ account stands. sym c.held-2.ensures.held ∙ c.held-2.ensures.share account stands in
     let made = c.clear.ensures.made in
     even-here old c.args.cell c.args.slot c.args.first c.args.count c.index_mut-home.result.now c.requires.known here c.requires.range c.clear.new.self made.deals made.follows before later c.requires.stands.0 c.requires.stands.1.0 c.requires.stands.1.1
-        c.leave_slot.new.home (ap (λ it. it.cell) c.leave_slot.ensures)
+    c.leave_slot.new.home (ap (λ it. it.cell) c.leave_slot.ensures)
 
 pub returns-else-pages-eq0-clause-even : goal.returns-else-pages-eq0-clause-even
 returns-else-pages-eq0-clause-even g c =
@@ -233,4 +233,4 @@ returns-else-pages-eq0-clause-even g c =
     let later : HoldsShare c.clear.new.self = λ account stands. sym c.held-2.ensures.held ∙ c.held-2.ensures.share account stands in
     let made = c.clear.ensures.made in
     even-here old c.args.cell c.args.slot c.args.first c.args.count c.index_mut-home.result.now c.requires.known here c.requires.range c.clear.new.self made.deals made.follows before later c.requires.stands.0 c.requires.stands.1.0 c.requires.stands.1.1
-        (record { owner = c.index_mut-home.result.now.owner; cell = c.clear.new.self }) refl
+    (record { owner = c.index_mut-home.result.now.owner; cell = c.clear.new.self }) refl

@@ -1,25 +1,26 @@
-use Rattle.std.proofs.Common.{◌≡◌, ◌<◌, ◌%◌, ℕ, length, Some, None, sym, ◌∙◌, ap, subst}
+use Rattle.std.proofs.Common.{◌≡◌, ◌<◌, ◌%◌, length, Some, None, sym, ◌∙◌, ap, subst}
 use Rattle.std.specs.Prelude.{is_some}
 use Rattle.std.specs.List.{slice_get}
 use Rattle.std.specs.FinMap.{get}
 use Rattle.vm_base.specs.Places.{cell_of}
-use Rattle.kernel_meaning.specs.FrameLaw.{cell_at}
 use Rattle.page_tables.proofs.OwnedSlots.{owned-within, read-slot}
-use Rattle.page_tables.proofs.ParentPages.{page-absent, version-absent}
+use Rattle.page_tables.proofs.ParentPages.{page-absent}
 use Rattle.page_tables.proofs.Presence.{one-present, version-there, bytes-there}
 use Rattle.page_tables.proofs.tables.PageTables.is_present.Goals as goal
 
 -- src/range.rt:77:17
 pub index-requires : goal.index-requires
 index-requires c =
-    let within : c.in-Some.slot < length c.args.self.now.slots.items = owned-within c.args.self.now.slots.items c.in-Some.slot (cell_of c.args.page) (c.requires.stands.1.named (cell_of c.args.page) c.in-Some.slot (sym c.find.ensures ∙ c.in-Some.is)) in
+    let within : c.in-Some.slot < length c.args.self.now.slots.items =
+    owned-within c.args.self.now.slots.items c.in-Some.slot (cell_of c.args.page) (c.requires.stands.1.named (cell_of c.args.page) c.in-Some.slot (sym c.find.ensures ∙ c.in-Some.is)) in
     subst (λ n. c.in-Some.slot < n) (sym c.args.self.now.slots.ok.0) within
 
 -- src/range.rt:67:5
 pub returns-in-Some-clause-version : goal.returns-in-Some-clause-version
 returns-in-Some-clause-version c = λ sides st.
     let known : get c.args.self.now.directory (cell_of c.args.page) ≡ Some c.in-Some.slot = sym c.find.ensures ∙ c.in-Some.is in
-    let within : c.in-Some.slot < length c.args.self.now.slots.items = owned-within c.args.self.now.slots.items c.in-Some.slot (cell_of c.args.page) (st.named (cell_of c.args.page) c.in-Some.slot known) in
+    let within : c.in-Some.slot < length c.args.self.now.slots.items =
+    owned-within c.args.self.now.slots.items c.in-Some.slot (cell_of c.args.page) (st.named (cell_of c.args.page) c.in-Some.slot known) in
     let here : slice_get c.args.self.now.slots.items c.in-Some.slot ≡ Some c.index.result.now = read-slot c.args.self.now.slots.items c.in-Some.slot c.index.result.now within c.index.ensures in
     c.covers.ensures.covers ∙ one-present c.index.result.now.cell.leaves.parent (c.args.page % 512)
     ∙ version-there c.args.self.now.directory c.args.self.now.snapshot c.args.self.now.slots.items sides st c.args.page c.in-Some.slot c.index.result.now known here
@@ -28,7 +29,8 @@ returns-in-Some-clause-version c = λ sides st.
 pub returns-in-Some-clause-page : goal.returns-in-Some-clause-page
 returns-in-Some-clause-page c = λ sides st.
     let known : get c.args.self.now.directory (cell_of c.args.page) ≡ Some c.in-Some.slot = sym c.find.ensures ∙ c.in-Some.is in
-    let within : c.in-Some.slot < length c.args.self.now.slots.items = owned-within c.args.self.now.slots.items c.in-Some.slot (cell_of c.args.page) (st.named (cell_of c.args.page) c.in-Some.slot known) in
+    let within : c.in-Some.slot < length c.args.self.now.slots.items =
+    owned-within c.args.self.now.slots.items c.in-Some.slot (cell_of c.args.page) (st.named (cell_of c.args.page) c.in-Some.slot known) in
     let here : slice_get c.args.self.now.slots.items c.in-Some.slot ≡ Some c.index.result.now = read-slot c.args.self.now.slots.items c.in-Some.slot c.index.result.now within c.index.ensures in
     c.covers.ensures.covers ∙ one-present c.index.result.now.cell.leaves.parent (c.args.page % 512) ∙ sym (c.covers.ensures.filled (c.args.page % 512))
     ∙ bytes-there c.args.self.now.directory c.args.self.now.snapshot c.args.self.now.slots.items sides st c.args.page c.in-Some.slot c.index.result.now known here

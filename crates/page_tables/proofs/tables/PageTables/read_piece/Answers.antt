@@ -16,12 +16,13 @@ returns-in-Some c = record {
   read = λ sides st.
       let known = ap (get c.args.self.now.directory) (sym c.location_of-location.ensures.cell) ∙ sym c.find.ensures ∙ c.in-Some.is in
       parent-read c.args.self.now sides st c.in-Some.slot c.args.addr (length c.args.buf.now) c.index.result.now known c.index.ensures c.requires.room c.read.new.buf c.read.auto.buf
-          c.location_of-location.result.page c.location_of-location.result.at c.location_of-location.ensures.page c.location_of-location.ensures.at c.read.ensures.account;
+      c.location_of-location.result.page c.location_of-location.result.at c.location_of-location.ensures.page c.location_of-location.ensures.at c.read.ensures.account;
 }
 
 pub returns-in-None : goal.returns-in-None
 returns-in-None c = record {
   read = λ sides st.
       let missing = ap (get c.args.self.now.directory) (sym c.location_of-location.ensures.cell) ∙ sym c.find.ensures ∙ c.in-None.is in
-      c.fill.ensures.after (λ y h. h) ∙ sym (bytes_at-absent sides.pages c.args.addr (length c.args.buf.now) (page-absent c.args.self.now.directory c.args.self.now.snapshot c.args.self.now.slots.items sides st (page_of c.args.addr) missing) c.requires.room);
+      c.fill.ensures.after (λ y h. h) ∙ sym (bytes_at-absent sides.pages c.args.addr (length c.args.buf.now)
+      (page-absent c.args.self.now.directory c.args.self.now.snapshot c.args.self.now.slots.items sides st (page_of c.args.addr) missing) c.requires.room);
 }

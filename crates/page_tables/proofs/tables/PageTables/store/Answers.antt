@@ -12,16 +12,18 @@ pub store_piece-requires-clause-stands : goal.store_piece-requires-clause-stands
 store_piece-requires-clause-stands c =
     let above : page_of c.args.addr ≤ page_of (c.args.addr + c.loop-done.done) = omega arith in
     let below : page_of (c.args.addr + c.loop-done.done) * 4096 < c.args.addr + length c.args.bytes.now = omega arith in
-    let sides : Sides = c.requires.stands.0 in
-    (record sides { pages = with_bytes sides.pages c.args.addr (take c.loop-done.done c.args.bytes.now) },
-    (c.loop-done.invariant.stored c.requires.stands.0 c.requires.stands.1.0, c.requires.stands.1.1 (page_of (c.args.addr + c.loop-done.done)) above below))
+    let sides : Sides = c.requires.stands.0 in (
+      record sides { pages = with_bytes sides.pages c.args.addr (take c.loop-done.done c.args.bytes.now) },
+      (c.loop-done.invariant.stored c.requires.stands.0 c.requires.stands.1.0, c.requires.stands.1.1 (page_of (c.args.addr + c.loop-done.done)) above below),
+    )
 
 pub loop-done-preserved : goal.loop-done-preserved
 loop-done-preserved c =
     let fits : c.loop-done.done + c.piece_of_page-piece.result ≤ length c.args.bytes.now = omega (arith, c.piece_of_page-piece.ensures.within) in
     record {
       within = fits;
-      stored = λ sides st. subst (λ pages. TablesStandFor c.store_piece.new.self (record sides { pages = pages })) (store-more sides.pages c.args.addr c.loop-done.done c.piece_of_page-piece.result c.args.bytes.now fits)
+      stored = λ sides st. subst (λ pages. TablesStandFor c.store_piece.new.self (record sides { pages = pages }))
+          (store-more sides.pages c.args.addr c.loop-done.done c.piece_of_page-piece.result c.args.bytes.now fits)
           (c.store_piece.ensures.stored (record sides { pages = with_bytes sides.pages c.args.addr (take c.loop-done.done c.args.bytes.now) }) (c.loop-done.invariant.stored sides st));
       held = c.store_piece.ensures.held ∙ c.loop-done.invariant.held;
       frames = c.store_piece.ensures.frames ∙ c.loop-done.invariant.frames;
@@ -32,4 +34,5 @@ loop-done-preserved c =
 
 pub returns-clause-stored : goal.returns-clause-stored
 returns-clause-stored c = λ sides st.
-    subst (λ bytes. TablesStandFor c.loop-done.self (record sides { pages = with_bytes sides.pages c.args.addr bytes })) (take_all c.loop-done.done c.args.bytes.now (omega arith)) (c.loop-done.invariant.stored sides st)
+    subst (λ bytes. TablesStandFor c.loop-done.self (record sides { pages = with_bytes sides.pages c.args.addr bytes }))
+    (take_all c.loop-done.done c.args.bytes.now (omega arith)) (c.loop-done.invariant.stored sides st)

@@ -24,23 +24,23 @@ pub store-requires-clause-present : goal.store-requires-clause-present
 store-requires-clause-present c =
     let known = ap (get c.args.self.now.directory) (sym c.location_of-location.ensures.cell) ∙ sym c.find.ensures ∙ c.in-Some.is in
     let alone : IsAlone c.index_mut.result.now.cell.leaves c.location_of-location.result.page = ready-view c.args.self.now c.requires.stands.0 c.requires.stands.1.0 c.args.addr c.in-Some.slot c.args.bytes.now c.index_mut.result.now known
-        c.index_mut.ensures.value c.location_of-location.result.page c.location_of-location.result.at c.location_of-location.ensures.page c.location_of-location.ensures.at c.requires.stands.1.1 in
+    c.index_mut.ensures.value c.location_of-location.result.page c.location_of-location.result.at c.location_of-location.ensures.page c.location_of-location.ensures.at c.requires.stands.1.1 in
     alone.present
 
 pub store-requires-clause-unnamed : goal.store-requires-clause-unnamed
 store-requires-clause-unnamed c =
     let known = ap (get c.args.self.now.directory) (sym c.location_of-location.ensures.cell) ∙ sym c.find.ensures ∙ c.in-Some.is in
     let alone : IsAlone c.index_mut.result.now.cell.leaves c.location_of-location.result.page = ready-view c.args.self.now c.requires.stands.0 c.requires.stands.1.0 c.args.addr c.in-Some.slot c.args.bytes.now c.index_mut.result.now known
-        c.index_mut.ensures.value c.location_of-location.result.page c.location_of-location.result.at c.location_of-location.ensures.page c.location_of-location.ensures.at c.requires.stands.1.1 in
+    c.index_mut.ensures.value c.location_of-location.result.page c.location_of-location.result.at c.location_of-location.ensures.page c.location_of-location.ensures.at c.requires.stands.1.1 in
     alone.unnamed
 
 pub returns-clause-stored : goal.returns-clause-stored
 returns-clause-stored c = λ sides st.
     let known = ap (get c.args.self.now.directory) (sym c.location_of-location.ensures.cell) ∙ sym c.find.ensures ∙ c.in-Some.is in
     stands-stored c.args.self.now sides st c.args.addr c.in-Some.slot c.args.bytes.now c.index_mut.result.now known c.index_mut.ensures.value
-        c.location_of-location.result.page c.location_of-location.result.at c.location_of-location.ensures.page c.location_of-location.ensures.at c.store.new.self c.requires.room c.store.ensures.stored
-        (record { directory = c.args.self.now.directory; snapshot = c.args.self.now.snapshot; slots = with_item c.args.self.now.slots c.in-Some.slot (record { owner = c.index_mut.result.now.owner; cell = c.store.new.self }) })
-        refl refl refl
+    c.location_of-location.result.page c.location_of-location.result.at c.location_of-location.ensures.page c.location_of-location.ensures.at c.store.new.self c.requires.room c.store.ensures.stored
+    (record { directory = c.args.self.now.directory; snapshot = c.args.self.now.snapshot; spare = c.args.self.now.spare; spared = c.self-in-Some-1.given.0; slots = with_item c.args.self.now.slots c.in-Some.slot (record { owner = c.index_mut.result.now.owner; cell = c.store.new.self }) })
+    refl refl refl
 
 pub returns-clause-held : goal.returns-clause-held
 returns-clause-held c =
@@ -48,7 +48,7 @@ returns-clause-held c =
     let here = owned-here c.args.self.now.slots.items c.in-Some.slot (cell_of (page_of c.args.addr)) c.index_mut.result.now (c.requires.stands.1.0.named (cell_of (page_of c.args.addr)) c.in-Some.slot known) c.index_mut.ensures.value in
     let new : Slot = record { owner = c.index_mut.result.now.owner; cell = c.store.new.self } in
     let sums : frames_in (slice_set c.args.self.now.slots.items c.in-Some.slot new) + held_of c.index_mut.result.now.cell ≡ frames_in c.args.self.now.slots.items + held_of c.store.new.self =
-        frames-set c.args.self.now.slots.items c.in-Some.slot c.index_mut.result.now new here in
+    frames-set c.args.self.now.slots.items c.in-Some.slot c.index_mut.result.now new here in
     let same : held_of c.store.new.self ≡ held_of c.index_mut.result.now.cell = c.store.ensures.held in
     omega (arith, sums, same)
 
@@ -58,7 +58,7 @@ returns-clause-frames c =
     let here = owned-here c.args.self.now.slots.items c.in-Some.slot (cell_of (page_of c.args.addr)) c.index_mut.result.now (c.requires.stands.1.0.named (cell_of (page_of c.args.addr)) c.in-Some.slot known) c.index_mut.ensures.value in
     let new : Slot = record { owner = c.index_mut.result.now.owner; cell = c.store.new.self } in
     let sums : frames_in (slice_set c.args.self.now.slots.items c.in-Some.slot new) + held_of c.index_mut.result.now.cell ≡ frames_in c.args.self.now.slots.items + held_of c.store.new.self =
-        frames-set c.args.self.now.slots.items c.in-Some.slot c.index_mut.result.now new here in
+    frames-set c.args.self.now.slots.items c.in-Some.slot c.index_mut.result.now new here in
     let same : held_of c.store.new.self ≡ held_of c.index_mut.result.now.cell = c.store.ensures.held in
     omega (arith, sums, same)
 
@@ -68,6 +68,6 @@ returns-clause-shares c =
     let here = owned-here c.args.self.now.slots.items c.in-Some.slot (cell_of (page_of c.args.addr)) c.index_mut.result.now (c.requires.stands.1.0.named (cell_of (page_of c.args.addr)) c.in-Some.slot known) c.index_mut.ensures.value in
     let new : Slot = record { owner = c.index_mut.result.now.owner; cell = c.store.new.self } in
     let sums : shares_in (slice_set c.args.self.now.slots.items c.in-Some.slot new) + share c.index_mut.result.now.cell.leaves ≡ shares_in c.args.self.now.slots.items + share c.store.new.self.leaves =
-        shares-set c.args.self.now.slots.items c.in-Some.slot c.index_mut.result.now new here in
+    shares-set c.args.self.now.slots.items c.in-Some.slot c.index_mut.result.now new here in
     let same : share c.store.new.self.leaves ≡ share c.index_mut.result.now.cell.leaves = ap share c.store.ensures.leaves in
     omega (arith, sums, same)

@@ -1,4 +1,4 @@
-use Rattle.std.proofs.Common.{◌≡◌, ◌+◌, ℕ, List, ◌∷◌, length, take, drop, sym, ◌∙◌, ap, subst, arith}
+use Rattle.std.proofs.Common.{◌≡◌, ◌+◌, ℕ, length, take, drop, sym, ◌∙◌, ap, subst, arith}
 use Rattle.std.proofs.Math.Seq.{take-length}
 use Rattle.std.specs.Prelude.{slice_index_or}
 use Rattle.page_tables.specs.Standing.{TablesStandFor}
@@ -25,13 +25,17 @@ pub loop-page-preserved : goal.loop-page-preserved
 loop-page-preserved g c =
     let i : ℕ = c.loop-page.page-index in
     let page : ℕ = slice_index_or c.args.added.now i 0 in
-    let so_far = subst (λ left. IsTakenBack g.A.Allot.goes g.A.Allot.refused g.A.Allot.out (g.A.Allot.state c.args.allot.now) (g.A.Allot.state c.loop-page.allot) (take i c.args.added.now) left c.args.self.now c.loop-page.self)
-        (drop-one-more c.args.added.now i c.loop-page-test.true) c.loop-page.invariant.taken in
+    let so_far = subst (λ left. IsTakenBack g.A.Allot.goes g.A.Allot.refused g.A.Allot.out (g.A.Allot.state c.args.allot.now)
+    (g.A.Allot.state c.loop-page.allot) (take i c.args.added.now) left c.args.self.now c.loop-page.self)
+    (drop-one-more c.args.added.now i c.loop-page-test.true) c.loop-page.invariant.taken in
     record {
-      taken = subst (λ done. IsTakenBack g.A.Allot.goes g.A.Allot.refused g.A.Allot.out (g.A.Allot.state c.args.allot.now) (g.A.Allot.state c.clear_in_cell.new.allot) done (drop (i + 1) c.args.added.now) c.args.self.now c.clear_in_cell.new.self)
+      taken = subst (λ done. IsTakenBack g.A.Allot.goes g.A.Allot.refused g.A.Allot.out (g.A.Allot.state c.args.allot.now)
+          (g.A.Allot.state c.clear_in_cell.new.allot) done (drop (i + 1) c.args.added.now) c.args.self.now c.clear_in_cell.new.self)
           (sym (take-one-more c.args.added.now i c.loop-page-test.true))
-          (one-more g.A.Allot.goes g.A.Allot.refused g.A.Allot.out (g.A.Allot.state c.args.allot.now) (g.A.Allot.state c.loop-page.allot) (g.A.Allot.state c.clear_in_cell.new.allot) (take i c.args.added.now) (drop (i + 1) c.args.added.now) page c.args.self.now c.loop-page.self c.clear_in_cell.new.self
-              so_far c.clear_in_cell.ensures.given c.clear_in_cell.ensures.shrunk c.clear_in_cell.ensures.follows c.clear_in_cell.ensures.held c.clear_in_cell.ensures.slots c.clear_in_cell.ensures.unrefused c.clear_in_cell.ensures.even c.clear_in_cell.ensures.snapshot);
+          (one-more g.A.Allot.goes g.A.Allot.refused g.A.Allot.out (g.A.Allot.state c.args.allot.now) (g.A.Allot.state c.loop-page.allot) (g.A.Allot.state c.clear_in_cell.new.allot)
+          (take i c.args.added.now) (drop (i + 1) c.args.added.now) page c.args.self.now c.loop-page.self c.clear_in_cell.new.self
+          so_far c.clear_in_cell.ensures.given c.clear_in_cell.ensures.shrunk c.clear_in_cell.ensures.follows c.clear_in_cell.ensures.held
+          c.clear_in_cell.ensures.slots c.clear_in_cell.ensures.unrefused c.clear_in_cell.ensures.even c.clear_in_cell.ensures.snapshot);
       untold = c.clear_in_cell.ensures.untold;
     }
 
@@ -39,4 +43,5 @@ loop-page-preserved g c =
 pub returns-clause-follows : goal.returns-clause-follows
 returns-clause-follows g c = λ sides st.
     let whole : c.loop-page.page-index ≡ length c.args.added.now = omega (arith, c.loop-page-test.false, c.loop-page.auto.page-index-end) in
-    subst (λ done. TablesStandFor c.loop-page.self (sides_without_pages done sides)) (ap (λ n. take n c.args.added.now) whole ∙ take-length c.args.added.now) (c.loop-page.invariant.taken.follows sides st)
+    subst (λ done. TablesStandFor c.loop-page.self (sides_without_pages done sides)) (ap (λ n. take n c.args.added.now) whole ∙ take-length c.args.added.now)
+    (c.loop-page.invariant.taken.follows sides st)

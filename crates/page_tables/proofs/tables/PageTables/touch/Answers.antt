@@ -1,20 +1,17 @@
-use Rattle.std.proofs.Common.{◌≡◌, ◌+◌, ◌-◌, ◌≤◌, ◌<◌, ◌^◌, ℕ, length, List, [], ◌∷◌, ◌++◌, Some, None, sym, ◌∙◌, ap, subst, refl, arith}
-use Rattle.std.specs.Prelude.{Bool, cond, vec_capacity, true, false, slice_index_or}
-use Rattle.std.specs.List.{range_with_len}
-use Rattle.std.proofs.lemmas.List.FromFn.{length-range_with_len}
+use Rattle.std.proofs.Common.{◌≡◌, ◌+◌, ◌-◌, ◌≤◌, ◌<◌, ◌^◌, ℕ, length, List, [], ◌∷◌, ◌++◌, Some, sym, ◌∙◌, subst, refl, arith}
+use Rattle.std.specs.Prelude.{cond, vec_capacity, true, false, slice_index_or}
 use Rattle.vm_base.specs.Places.{cell_of}
-use Rattle.vm_base.specs.Deals.{Deal, LeadsAlong}
+use Rattle.vm_base.specs.Deals.{Deal}
 use Rattle.vm_base.proofs.DealLemmas.{LeadsAlong-append}
 use Rattle.kernel_meaning.specs.FrameLaw.{lacks_slots}
-use Rattle.kernel_meaning.specs.EventRequests.{FrameRefusal}
 use Rattle.table_levels.specs.Requests.{returned}
 use Rattle.page_tables.specs.declared.tables.PageTables.{PageTables}
 use Rattle.page_tables.specs.Sides.{Sides}
 use Rattle.page_tables.specs.Standing.{TablesStandFor, slot_count}
 use Rattle.page_tables.specs.Held.{frames_of}
-use Rattle.page_tables.specs.Ranges.{IsTouchedUpTo, FollowsRange, absent_pages, cells_of_pages, sides_without_pages, AreThere}
+use Rattle.page_tables.specs.Ranges.{IsTouchedUpTo, cells_of_pages, sides_without_pages, AreThere}
 use Rattle.page_tables.proofs.RangeRoom.{is_among, page-among, room-for}
-use Rattle.page_tables.proofs.RangeSteps.{sides_then, none-touched, one-page-more, range-granted}
+use Rattle.page_tables.proofs.RangeSteps.{none-touched, one-page-more, range-granted}
 use Rattle.page_tables.proofs.RangeEnds.{added-there, added-below, range-refused, few-absent}
 use Rattle.page_tables.proofs.tables.PageTables.touch.Goals as goal
 
@@ -28,7 +25,8 @@ loop-page-init g c =
         deals = [];
         led = refl;
         touched = λ sides st. subst (λ added. IsTouchedUpTo c.args.first c.args.count start added c.args.self.now [] sides (slot_count c.args.self.now)) (sym c.clear.ensures.items)
-            (subst (λ i. IsTouchedUpTo c.args.first c.args.count i [] c.args.self.now [] sides (slot_count c.args.self.now)) none (none-touched c.args.first c.args.count c.args.self.now sides (slot_count c.args.self.now) st));
+            (subst (λ i. IsTouchedUpTo c.args.first c.args.count i [] c.args.self.now [] sides (slot_count c.args.self.now)) none
+            (none-touched c.args.first c.args.count c.args.self.now sides (slot_count c.args.self.now) st));
       };
       from = omega arith;
       held = refl;
@@ -51,15 +49,21 @@ touch_page-requires-clause-stands g c =
     let sides : Sides = c.requires.stands.0 in
     let so_far = c.loop-page.invariant.touched.touched sides c.requires.stands.1.0 in
     let cells : List ℕ = cells_of_pages c.args.first c.args.count in
-    let among : is_among (cell_of c.loop-page.page) cells ≡ true = page-among c.args.first c.args.count c.loop-page.page c.loop-page.invariant.from c.loop-page-test.true in
-    (_, (so_far.stands, subst (λ n. lacks_slots n so_far.leaves (cell_of c.loop-page.page ∷ []) ≡ false) (sym c.loop-page.invariant.slots)
-        (room-for (slot_count c.args.self.now) so_far.leaves cells (cell_of c.loop-page.page) (so_far.room c.requires.stands.1.1) among)))
+    let among : is_among (cell_of c.loop-page.page) cells ≡ true = page-among c.args.first c.args.count c.loop-page.page c.loop-page.invariant.from c.loop-page-test.true in (
+      _,
+      (
+        so_far.stands,
+        subst (λ n. lacks_slots n so_far.leaves (cell_of c.loop-page.page ∷ []) ≡ false) (sym c.loop-page.invariant.slots)
+            (room-for (slot_count c.args.self.now) so_far.leaves cells (cell_of c.loop-page.page) (so_far.room c.requires.stands.1.1) among),
+      ),
+    )
 
 -- src/range.rt:53:27
 pub note_added-requires : goal.note_added-requires
 note_added-requires g c =
     let so_far = c.loop-page.invariant.touched.touched c.requires.stands.0 c.requires.stands.1.0 in
-    let few : length c.loop-page.added.items ≤ c.loop-page.page - c.args.first = few-absent c.requires.stands.0.pages c.args.first (c.loop-page.page - c.args.first) c.loop-page.added.items so_far.new in
+    let few : length c.loop-page.added.items ≤ c.loop-page.page - c.args.first =
+    few-absent c.requires.stands.0.pages c.args.first (c.loop-page.page - c.args.first) c.loop-page.added.items so_far.new in
     let room : c.args.count ≤ vec_capacity c.args.added.now = c.requires.noted in
     let kept : vec_capacity c.loop-page.added ≡ vec_capacity c.args.added.now = c.loop-page.invariant.capacity in
     omega (arith, few, room, kept, c.loop-page.invariant.from, c.loop-page-test.true)
@@ -69,9 +73,14 @@ pub take_back-requires-clause-stands : goal.take_back-requires-clause-stands
 take_back-requires-clause-stands g c =
     let sides : Sides = c.requires.stands.0 in
     let so_far = c.loop-page.invariant.touched.touched sides c.requires.stands.1.0 in
-    let touch = c.in-Err.ensures.made.follows _ so_far.stands in
-    (_, (touch.follows.stands, subst (AreThere touch.follows.leaves) (sym c.deref.ensures.value)
-        (added-there sides.pages c.args.first (c.loop-page.page - c.args.first) c.loop-page.added.items so_far.new touch.follows.leaves (λ q low high. touch.still q (so_far.ready q low high)))))
+    let touch = c.in-Err.ensures.made.follows _ so_far.stands in (
+      _,
+      (
+        touch.follows.stands,
+        subst (AreThere touch.follows.leaves) (sym c.deref.ensures.value)
+            (added-there sides.pages c.args.first (c.loop-page.page - c.args.first) c.loop-page.added.items so_far.new touch.follows.leaves (λ q low high. touch.still q (so_far.ready q low high))),
+      ),
+    )
 
 -- src/range.rt:55:21
 pub take_back-requires-clause-below : goal.take_back-requires-clause-below
@@ -79,7 +88,7 @@ take_back-requires-clause-below g c =
     let sides : Sides = c.requires.stands.0 in
     let so_far = c.loop-page.invariant.touched.touched sides c.requires.stands.1.0 in
     subst (λ added. (k d : ℕ) → k < length added → slice_index_or added k d < 2 ^ 36) (sym c.deref.ensures.value)
-        (added-below sides.pages c.args.first (c.loop-page.page - c.args.first) c.args.count c.loop-page.added.items so_far.new (omega (arith, c.loop-page-test.true)) c.requires.range)
+    (added-below sides.pages c.args.first (c.loop-page.page - c.args.first) c.args.count c.loop-page.added.items so_far.new (omega (arith, c.loop-page-test.true)) c.requires.range)
 
 -- src/range.rt:56:21
 pub returns-in-Err-clause-made : goal.returns-in-Err-clause-made
@@ -93,12 +102,16 @@ returns-in-Err-clause-made g c =
     let here : c.loop-page.page ≡ c.args.first + i = omega (arith, c.loop-page.invariant.from) in
     record {
       deals = so_far.deals ++ (made.deals ++ returned (frames_of mid - frames_of final));
-      led = LeadsAlong-append g.A.Allot.goes so_far.deals (made.deals ++ returned (frames_of mid - frames_of final)) (g.A.Allot.state c.args.allot.now) (g.A.Allot.state c.loop-page.allot) (g.A.Allot.state c.take_back.new.allot) so_far.led
-          (LeadsAlong-append g.A.Allot.goes made.deals (returned (frames_of mid - frames_of final)) (g.A.Allot.state c.loop-page.allot) (g.A.Allot.state c.touch_page.new.allot) (g.A.Allot.state c.take_back.new.allot) made.led c.take_back.ensures.given);
+      led = LeadsAlong-append g.A.Allot.goes so_far.deals (made.deals ++ returned (frames_of mid - frames_of final)) (g.A.Allot.state c.args.allot.now)
+          (g.A.Allot.state c.loop-page.allot) (g.A.Allot.state c.take_back.new.allot) so_far.led
+          (LeadsAlong-append g.A.Allot.goes made.deals (returned (frames_of mid - frames_of final)) (g.A.Allot.state c.loop-page.allot)
+          (g.A.Allot.state c.touch_page.new.allot) (g.A.Allot.state c.take_back.new.allot) made.led c.take_back.ensures.given);
       follows = λ sides st.
-          range-refused c.args.first c.args.count i small c.loop-page.added.items c.loop-page.self mid final so_far.deals made.deals sides (slot_count c.args.self.now) (so_far.touched sides st) c.loop-page.page here
-              (record { at = c.in-Err.refused.at; page = Some c.loop-page.page }) (made.follows _ (so_far.touched sides st).stands)
-              (subst (λ added. (s : Sides) → TablesStandFor mid s → TablesStandFor final (sides_without_pages added s)) c.deref.ensures.value c.take_back.ensures.follows) c.take_back.ensures.snapshot c.take_back.ensures.even;
+          range-refused c.args.first c.args.count i small c.loop-page.added.items c.loop-page.self mid final so_far.deals made.deals sides
+          (slot_count c.args.self.now) (so_far.touched sides st) c.loop-page.page here
+          (record { at = c.in-Err.refused.at; page = Some c.loop-page.page }) (made.follows _ (so_far.touched sides st).stands)
+          (subst (λ added. (s : Sides) → TablesStandFor mid s
+          → TablesStandFor final (sides_without_pages added s)) c.deref.ensures.value c.take_back.ensures.follows) c.take_back.ensures.snapshot c.take_back.ensures.even;
     }
 
 -- src/range.rt:50:9
@@ -115,17 +128,21 @@ loop-page-preserved g c =
     record {
       touched = record {
         deals = deals;
-        led = LeadsAlong-append g.A.Allot.goes so_far.deals made.deals (g.A.Allot.state c.args.allot.now) (g.A.Allot.state c.loop-page.allot) (g.A.Allot.state c.touch_page.new.allot) so_far.led made.led;
+        led = LeadsAlong-append g.A.Allot.goes so_far.deals made.deals (g.A.Allot.state c.args.allot.now) (g.A.Allot.state c.loop-page.allot)
+            (g.A.Allot.state c.touch_page.new.allot) so_far.led made.led;
         touched = λ sides st.
             let up_to = so_far.touched sides st in
             subst (λ added. IsTouchedUpTo c.args.first c.args.count (c.loop-page.page + 1 - c.args.first) added c.touch_page.new.self deals sides slots) (sym c.note_added.ensures.noted)
-                (subst (λ k. IsTouchedUpTo c.args.first c.args.count k (c.loop-page.added.items ++ cond c.is_present-was_present.result [] (c.loop-page.page ∷ [])) c.touch_page.new.self deals sides slots) next
-                    (one-page-more c.args.first c.args.count i small c.loop-page.added.items c.loop-page.self c.touch_page.new.self so_far.deals made.deals sides slots up_to c.loop-page.page here
-                        c.is_present-was_present.result (c.is_present-was_present.ensures.version _ up_to.stands) (c.is_present-was_present.ensures.page _ up_to.stands) (made.follows _ up_to.stands)));
+            (subst (λ k. IsTouchedUpTo c.args.first c.args.count k
+            (c.loop-page.added.items ++ cond c.is_present-was_present.result [] (c.loop-page.page ∷ [])) c.touch_page.new.self deals sides slots) next
+            (one-page-more c.args.first c.args.count i small c.loop-page.added.items c.loop-page.self c.touch_page.new.self so_far.deals made.deals sides slots up_to c.loop-page.page here
+            c.is_present-was_present.result (c.is_present-was_present.ensures.version _ up_to.stands) (c.is_present-was_present.ensures.page _ up_to.stands) (made.follows _ up_to.stands)));
       };
       from = omega (arith, c.loop-page.invariant.from);
-      held = (let before : g.A.Allot.out (g.A.Allot.state c.loop-page.allot) + frames_of c.args.self.now ≡ g.A.Allot.out (g.A.Allot.state c.args.allot.now) + frames_of c.loop-page.self = c.loop-page.invariant.held in
-          let more : g.A.Allot.out (g.A.Allot.state c.touch_page.new.allot) + frames_of c.loop-page.self ≡ g.A.Allot.out (g.A.Allot.state c.loop-page.allot) + frames_of c.touch_page.new.self = c.touch_page.ensures.held in omega (arith, before, more));
+      held = (let before : g.A.Allot.out (g.A.Allot.state c.loop-page.allot) + frames_of c.args.self.now ≡ g.A.Allot.out (g.A.Allot.state c.args.allot.now) + frames_of c.loop-page.self =
+          c.loop-page.invariant.held in
+          let more : g.A.Allot.out (g.A.Allot.state c.touch_page.new.allot) + frames_of c.loop-page.self ≡ g.A.Allot.out (g.A.Allot.state c.loop-page.allot) + frames_of c.touch_page.new.self =
+          c.touch_page.ensures.held in omega (arith, before, more));
       untold = c.touch_page.ensures.untold;
       even = omega (arith, c.loop-page.invariant.even, c.touch_page.ensures.even);
       snapshot = c.touch_page.ensures.snapshot ∙ c.loop-page.invariant.snapshot;

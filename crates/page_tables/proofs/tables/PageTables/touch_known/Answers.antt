@@ -1,10 +1,9 @@
-use Rattle.std.proofs.Common.{◌≡◌, ◌+◌, ◌≤◌, ◌<◌, ℕ, length, List, Some, sym, ◌∙◌, ap, subst, refl, arith}
+use Rattle.std.proofs.Common.{◌≡◌, ◌+◌, ◌≤◌, ◌<◌, ℕ, length, Some, sym, ◌∙◌, ap, subst, refl, arith}
 use Rattle.std.specs.Prelude.{slice_set}
 use Rattle.std.specs.List.{slice_get}
 use Rattle.std.specs.Option.{option_and_then}
-use Rattle.std.specs.Vec.{with_item}
 use Rattle.vm_base.specs.Places.{cell_of}
-use Rattle.leaf_cell.specs.CellView.{AreUnjoined, held_of}
+use Rattle.leaf_cell.specs.CellView.{held_of}
 use Rattle.page_tables.specs.declared.slot.Slot.{Slot}
 use Rattle.page_tables.specs.Sides.{Sides}
 use Rattle.leaf_cell.specs.Standing.{StandsFor}
@@ -15,7 +14,7 @@ use Rattle.page_tables.proofs.ClearedSlot.{even-slots, holds-own}
 use Rattle.page_tables.specs.Held.{frames_in, snapshot_frames}
 use Rattle.table_levels.specs.Cells.{tables_of}
 use Rattle.page_tables.proofs.KnownTouch.{known-touches}
-use Rattle.page_tables.proofs.OwnedSlots.{owned-slot, owned-within, held-within, frames-set, read-slot, slot-unjoined}
+use Rattle.page_tables.proofs.OwnedSlots.{owned-within, held-within, frames-set, read-slot, slot-unjoined}
 use Rattle.page_tables.proofs.tables.PageTables.touch_known.Goals as goal
 
 -- src/touch.rt:56:9
@@ -29,7 +28,7 @@ pub touch-answer-requires-clause-unjoined : goal.touch-answer-requires-clause-un
 touch-answer-requires-clause-unjoined g c =
     let within : c.args.slot < length c.args.self.now.slots.items = owned-within c.args.self.now.slots.items c.args.slot (cell_of c.args.page) (c.requires.stands.1.named (cell_of c.args.page) c.args.slot c.requires.known) in
     slot-unjoined c.args.self.now.directory c.args.self.now.snapshot c.args.self.now.slots.items c.requires.stands.0 c.requires.stands.1 c.args.slot c.index_mut-home.result.now
-        (read-slot c.args.self.now.slots.items c.args.slot c.index_mut-home.result.now within c.index_mut-home.ensures.value)
+    (read-slot c.args.self.now.slots.items c.args.slot c.index_mut-home.result.now within c.index_mut-home.ensures.value)
 
 -- src/touch.rt:56:9
 pub touch-answer-requires-clause-held : goal.touch-answer-requires-clause-held
@@ -50,7 +49,7 @@ returns-clause-made g c =
       deals = c.touch-answer.ensures.made.deals;
       led = c.touch-answer.ensures.made.led;
       follows = λ sides st. known-touches c.args.self.now sides st c.args.page c.args.slot c.index_mut-home.result.now c.requires.known here c.touch-answer.new.self c.touch-answer.ensures.made.deals c.touch-answer.result c.touch-answer.ensures.made.follows (g.A.Allot.refused (g.A.Allot.state c.args.allot.now)) (g.A.Allot.refused (g.A.Allot.state c.touch-answer.new.allot)) c.touch-answer.ensures.touched
-          (record { directory = c.args.self.now.directory; snapshot = c.args.self.now.snapshot; slots = with_item c.args.self.now.slots c.args.slot (record { owner = c.index_mut-home.result.now.owner; cell = c.touch-answer.new.self }) })
+          _
           refl refl (ap (λ owner. slice_set c.args.self.now.slots.items c.args.slot (record { owner = owner; cell = c.touch-answer.new.self })) mine);
     }
 
@@ -78,5 +77,5 @@ returns-clause-even g c =
     let stood : StandsFor slot.cell account = slot-stands old.directory old.snapshot old.slots.items sides st cell c.args.slot slot here owned in
     let takes = c.touch-answer.ensures.made.follows account stood in
     even-slots old.slots.items c.args.slot slot (record { owner = slot.owner; cell = c.touch-answer.new.self }) here
-        (holds-own slot.cell account stood (λ account stands. sym c.held.ensures.held ∙ c.held.ensures.share account stands))
-        (holds-own c.touch-answer.new.self _ takes.stands (λ account stands. sym c.held-2.ensures.held ∙ c.held-2.ensures.share account stands))
+    (holds-own slot.cell account stood (λ account stands. sym c.held.ensures.held ∙ c.held.ensures.share account stands))
+    (holds-own c.touch-answer.new.self _ takes.stands (λ account stands. sym c.held-2.ensures.held ∙ c.held-2.ensures.share account stands))

@@ -1,22 +1,20 @@
-use Rattle.std.proofs.Common.{◌≡◌, ◌+◌, ◌-◌, ◌≤◌, ◌<◌, ℕ, length, List, [], ◌++◌, Option, Some, None, sym, ◌∙◌, ap, subst, refl, arith}
+use Rattle.std.proofs.Common.{◌≡◌, ◌+◌, ◌-◌, ◌≤◌, ◌<◌, ℕ, length, List, [], ◌++◌, Some, None, sym, ◌∙◌, ap, subst, refl, arith}
 use Rattle.std.specs.Prelude.{slice_set}
-use Rattle.std.specs.FinMap.{insert, remove, keys}
+use Rattle.std.specs.FinMap.{remove, keys}
 use Rattle.std.specs.List.{slice_get}
-use Rattle.std.specs.Vec.{with_item}
 use Rattle.std.proofs.lemmas.Option.{slice_get_within}
 use Rattle.vm_base.specs.Places.{cell_of}
-use Rattle.vm_base.specs.Deals.{Deal, Returned, LeadsAlong}
+use Rattle.vm_base.specs.Deals.{LeadsAlong}
 use Rattle.vm_base.specs.declared.frame_request.Want.{Want}
-use Rattle.vm_base.proofs.DealLemmas.{LeadsAlong-append, no_deal_leads}
+use Rattle.vm_base.proofs.DealLemmas.{LeadsAlong-append}
 use Rattle.leaf_cell.specs.CellView.{held_of}
-use Rattle.leaf_cell.specs.States.{refused_count}
-use Rattle.table_levels.specs.Cells.{CellMap, tables_of}
+use Rattle.table_levels.specs.Cells.{tables_of}
 use Rattle.table_levels.specs.Requests.{missing_tables, granted, returned}
 use Rattle.table_levels.proofs.Counting.{tables_of-insert}
 use Rattle.page_tables.specs.declared.slot.Slot.{Slot}
 use Rattle.page_tables.specs.declared.tables.PageTables.{PageTables}
 use Rattle.page_tables.specs.Sides.{Sides}
-use Rattle.page_tables.specs.Standing.{TablesStandFor, IsSlotFor}
+use Rattle.page_tables.specs.Standing.{StandFor, IsSlotFor}
 use Rattle.page_tables.specs.Held.{frames_in, snapshot_frames}
 use Rattle.page_tables.specs.Making.{FollowsTouch}
 use Rattle.page_tables.proofs.ClearedSlot.{even-slots, holds-own}
@@ -42,10 +40,22 @@ returns-in-Err-clause-made g c =
       deals = deals_up_to refuses.front refuses.want c.in-Err.refused.at;
       led = refuses.deals;
       follows = λ sides st.
-          subst (λ d. FollowsTouch c.args.page (record { directory = d; snapshot = old.snapshot; slots = old.slots }) (deals_up_to refuses.front refuses.want c.in-Err.refused.at) (Some (record { at = c.in-Err.refused.at; page = Some c.args.page })) sides)
-              (sym c.in-Err.ensures.kept)
-              (lacking-touches old sides st c.args.page c.args.slot home.slot c.requires.new home.here (fits-again old.directory old.snapshot old.slots.items c.requires.stands.0 sides c.requires.stands.1.0 st (cell_of c.args.page) home.slot.owner home.fits)
-                  refuses.front refuses.want refuses.rest refuses.order c.in-Err.refused.at);
+          let before : FollowsTouch c.args.page old (deals_up_to refuses.front refuses.want c.in-Err.refused.at) (Some (record { at = c.in-Err.refused.at; page = Some c.args.page })) sides =
+          lacking-touches old sides st c.args.page c.args.slot home.slot c.requires.new home.here (fits-again old.directory old.snapshot old.slots.items c.requires.stands.0 sides c.requires.stands.1.0 st (cell_of c.args.page) home.slot.owner home.fits)
+          refuses.front refuses.want refuses.rest refuses.order c.in-Err.refused.at in
+          let then : Sides = record { leaves = before.follows.leaves; pages = sides.pages; snapshots = sides.snapshots; made = before.follows.made } in
+          record {
+            follows = record {
+              leaves = before.follows.leaves;
+              made = before.follows.made;
+              runs = before.follows.runs;
+              stands = subst (λ d. StandFor d old.snapshot old.slots.items then) (sym c.in-Err.ensures.kept) before.follows.stands;
+            };
+            ready = before.ready;
+            still = before.still;
+            found = before.found;
+            size = before.size;
+          };
     }
 
 -- src/touch.rt:77:25
@@ -60,7 +70,7 @@ touch-requires-clause-unjoined g c =
     let home = c.requires.stands.1.1 in
     let within : c.args.slot < length c.args.self.now.slots.items = slice_get_within c.args.self.now.slots.items c.args.slot home.slot home.here in
     slot-unjoined c.args.self.now.directory c.args.self.now.snapshot c.args.self.now.slots.items c.requires.stands.0 c.requires.stands.1.0 c.args.slot c.index_mut-home.result.now
-        (read-slot c.args.self.now.slots.items c.args.slot c.index_mut-home.result.now within c.index_mut-home.ensures.value)
+    (read-slot c.args.self.now.slots.items c.args.slot c.index_mut-home.result.now within c.index_mut-home.ensures.value)
 
 -- src/touch.rt:78:15
 pub touch-requires-clause-held : goal.touch-requires-clause-held
@@ -87,12 +97,12 @@ returns-in-Ok-touch-clause-made g c =
           (LeadsAlong-append g.A.Allot.goes made.deals [] (g.A.Allot.state c.insert.new.allot) (g.A.Allot.state c.touch.new.allot) (g.A.Allot.state c.touch.new.allot) made.led refl);
       follows = λ sides st.
           let fits : IsSlotFor sides.leaves (cell_of c.args.page) c.index_mut-home.result.now.owner =
-              fits-again old.directory old.snapshot old.slots.items c.requires.stands.0 sides c.requires.stands.1.0 st (cell_of c.args.page) c.index_mut-home.result.now.owner (subst (λ it. IsSlotFor c.requires.stands.0.leaves (cell_of c.args.page) it.owner) (same_slot home.slot c.index_mut-home.result.now (sym home.here ∙ here)) home.fits) in
+          fits-again old.directory old.snapshot old.slots.items c.requires.stands.0 sides c.requires.stands.1.0 st (cell_of c.args.page) c.index_mut-home.result.now.owner (subst (λ it. IsSlotFor c.requires.stands.0.leaves (cell_of c.args.page) it.owner) (same_slot home.slot c.index_mut-home.result.now (sym home.here ∙ here)) home.fits) in
           granted-touches old sides st c.args.page c.args.slot c.index_mut-home.result.now c.requires.new here fits c.touch.new.self made.deals
-              (made.follows (account old sides st c.args.page c.args.slot c.index_mut-home.result.now c.requires.new here fits) (stood old sides st c.args.page c.args.slot c.index_mut-home.result.now c.requires.new here fits))
-              (g.A.Allot.refused (g.A.Allot.state c.insert.new.allot)) (g.A.Allot.refused (g.A.Allot.state c.touch.new.allot)) c.in-Ok-touch.ensures.touched
-              (record { directory = c.insert.new.self; snapshot = old.snapshot; slots = with_item old.slots c.args.slot (record { owner = Some (cell_of c.args.page); cell = c.touch.new.self }) })
-              c.in-Ok.ensures.added refl refl;
+          (made.follows (account old sides st c.args.page c.args.slot c.index_mut-home.result.now c.requires.new here fits) (stood old sides st c.args.page c.args.slot c.index_mut-home.result.now c.requires.new here fits))
+          (g.A.Allot.refused (g.A.Allot.state c.insert.new.allot)) (g.A.Allot.refused (g.A.Allot.state c.touch.new.allot)) c.in-Ok-touch.ensures.touched
+          _
+          c.in-Ok.ensures.added refl refl;
     }
 
 -- src/touch.rt:60:5
@@ -126,15 +136,15 @@ returns-in-Err-touch-clause-made g c =
       deals = deals_behind wants made.deals (Some at);
       led = LeadsAlong-append g.A.Allot.goes (granted wants) (made.deals ++ returned (length wants)) (g.A.Allot.state c.args.allot.now) (g.A.Allot.state c.insert.new.allot) (g.A.Allot.state c.remove.new.allot) c.in-Ok.ensures.requests
           (LeadsAlong-append g.A.Allot.goes made.deals (returned (length wants)) (g.A.Allot.state c.insert.new.allot) (g.A.Allot.state c.touch.new.allot) (g.A.Allot.state c.remove.new.allot) made.led
-              (subst (λ n. LeadsAlong g.A.Allot.goes (g.A.Allot.state c.touch.new.allot) (returned n) (g.A.Allot.state c.remove.new.allot)) back c.remove.ensures.given));
+          (subst (λ n. LeadsAlong g.A.Allot.goes (g.A.Allot.state c.touch.new.allot) (returned n) (g.A.Allot.state c.remove.new.allot)) back c.remove.ensures.given));
       follows = λ sides st.
           let fits : IsSlotFor sides.leaves cell c.index_mut-home.result.now.owner =
-              fits-again old.directory old.snapshot old.slots.items c.requires.stands.0 sides c.requires.stands.1.0 st cell c.index_mut-home.result.now.owner (subst (λ it. IsSlotFor c.requires.stands.0.leaves cell it.owner) (same_slot home.slot c.index_mut-home.result.now (sym home.here ∙ here)) home.fits) in
+          fits-again old.directory old.snapshot old.slots.items c.requires.stands.0 sides c.requires.stands.1.0 st cell c.index_mut-home.result.now.owner (subst (λ it. IsSlotFor c.requires.stands.0.leaves cell it.owner) (same_slot home.slot c.index_mut-home.result.now (sym home.here ∙ here)) home.fits) in
           refused-touches old sides st c.args.page c.args.slot c.index_mut-home.result.now c.requires.new here fits c.touch.new.self made.deals at
-              (made.follows (account old sides st c.args.page c.args.slot c.index_mut-home.result.now c.requires.new here fits) (stood old sides st c.args.page c.args.slot c.index_mut-home.result.now c.requires.new here fits))
-              (record { directory = c.remove.new.self; snapshot = old.snapshot; slots = with_item old.slots c.args.slot (record { owner = c.index_mut-home.result.now.owner; cell = c.touch.new.self }) })
-              gone refl
-              (ap (λ view. slice_set old.slots.items c.args.slot (record { owner = c.index_mut-home.result.now.owner; cell = view })) c.in-Err-touch.ensures.refused ∙ set-same old.slots.items c.args.slot c.index_mut-home.result.now here);
+          (made.follows (account old sides st c.args.page c.args.slot c.index_mut-home.result.now c.requires.new here fits) (stood old sides st c.args.page c.args.slot c.index_mut-home.result.now c.requires.new here fits))
+          _
+          gone refl
+          (ap (λ view. slice_set old.slots.items c.args.slot (record { owner = c.index_mut-home.result.now.owner; cell = view })) c.in-Err-touch.ensures.refused ∙ set-same old.slots.items c.args.slot c.index_mut-home.result.now here);
     }
 
 -- src/touch.rt:70:5
@@ -149,5 +159,5 @@ returns-in-Ok-touch-clause-even g c =
     let stood_here = stood old c.requires.stands.0 c.requires.stands.1.0 c.args.page c.args.slot slot c.requires.new here fits in
     let takes = c.in-Ok-touch.ensures.made.follows (account old c.requires.stands.0 c.requires.stands.1.0 c.args.page c.args.slot slot c.requires.new here fits) stood_here in
     even-slots old.slots.items c.args.slot slot (record { owner = Some (cell_of c.args.page); cell = c.touch.new.self }) here
-        (holds-own slot.cell _ stood_here (λ account stands. sym c.held.ensures.held ∙ c.held.ensures.share account stands))
-        (holds-own c.touch.new.self _ takes.stands (λ account stands. sym c.held-in-Ok-touch.ensures.held ∙ c.held-in-Ok-touch.ensures.share account stands))
+    (holds-own slot.cell _ stood_here (λ account stands. sym c.held.ensures.held ∙ c.held.ensures.share account stands))
+    (holds-own c.touch.new.self _ takes.stands (λ account stands. sym c.held-in-Ok-touch.ensures.held ∙ c.held-in-Ok-touch.ensures.share account stands))

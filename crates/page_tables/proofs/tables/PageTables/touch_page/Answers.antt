@@ -1,11 +1,11 @@
-use Rattle.std.proofs.Common.{◌≡◌, ◌+◌, ℕ, Some, None, sym, ap, subst, inl, inr}
 use Rattle.vm_base.specs.Places.{cell_of}
 use Rattle.page_tables.proofs.SlotChoice.{slot-chosen, slot-left}
 use Rattle.page_tables.proofs.tables.PageTables.touch_page.Goals as goal
 
 -- src/touch.rt:37:31
 pub touch_new-requires-clause-stands : goal.touch_new-requires-clause-stands
-touch_new-requires-clause-stands g c = (c.requires.stands.0, (c.requires.stands.1.0, slot-chosen c.args.self.now c.requires.stands.0 c.requires.stands.1.0 (cell_of c.args.page) c.in-Some-slot_for.slot c.in-Some-slot_for.ensures))
+touch_new-requires-clause-stands g c =
+    (c.requires.stands.0, (c.requires.stands.1.0, slot-chosen c.args.self.now c.requires.stands.0 c.requires.stands.1.0 (cell_of c.args.page) c.in-Some-slot_for.slot c.in-Some-slot_for.ensures))
 
 -- src/touch.rt:38:25
 pub unreachable-requires : goal.unreachable-requires
