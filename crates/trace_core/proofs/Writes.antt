@@ -1,30 +1,46 @@
 -- A write ends as the definitions have it: refused by the areas, for want of slots, or behind its requests for frames.
-use Rattle.std.proofs.Common.{◌≡◌, ℕ, ◌+◌, ◌-◌, ◌*◌, ◌/◌, ◌<◌, ◌≤◌, List, [], ◌∷◌, ◌++◌, length, Option, Some, None, Result, Ok, Err, cond, refl, sym, ◌∙◌, ap, subst, arith, append-nil}
-use Rattle.std.specs.Prelude.{Bool, true, false}
+use Rattle.std.proofs.Common.{◌≡◌, ℕ, ◌+◌, ◌-◌, ◌*◌, ◌<◌, ◌≤◌, List, [], length, Option, Some, None, Result, Ok, Err, cond, refl, sym, ◌∙◌, ap, subst, arith, append-nil}
+use Rattle.std.specs.Prelude.{true, false}
+use Rattle.std.specs.Prelude.{nat_le}
 use Rattle.std.specs.List.{range_with_len}
-use Rattle.std.proofs.lemmas.Bool.{cond-true, cond-false, ne_eqb}
+use Rattle.std.specs.Ordering.{nat_cmp}
+use Rattle.std.specs.FinMap.{empty, get-empty}
+use Rattle.std.proofs.lemmas.Bool.{cond-true, cond-false, ne_eqb, eq-eqb, false≢true}
 use Rattle.vm_base.specs.Deals.{Deal, LeadsAlong}
 use Rattle.vm_base.specs.Places.{page_of, page_count, cell_of, cells_of_range}
-use Rattle.vm_base.specs.FlatMemory.{Area, FlatMemory}
-use Rattle.vm_base.specs.FlatStep.{Refusal, OutsideAreas, ReadOnly, outside, unwritable, or_refused, touch_of, stored, with_pages, with_bytes}
-use Rattle.vm_base.specs.TwoSides.{World, with_parent}
+use Rattle.vm_base.specs.FlatMemory.{Area, FlatMemory, bytes_at}
+use Rattle.kernel_meaning.specs.Leaves.{holds_number}
+use Rattle.vm_base.specs.FlatStep.{Refusal, OutsideAreas, ReadOnly, Taken, TooManyAreas, map_of, read_of, taken, joined, with_area, at_most_128, outside, unwritable, or_refused, touch_of, stored, with_pages, with_bytes}
 use Rattle.kernel_meaning.specs.Requests.{Answer, answers_of}
-use Rattle.kernel_meaning.specs.FrameLaw.{held_frames, lacks_slots}
+use Rattle.kernel_meaning.specs.FrameLaw.{held_frames, lacks_slots, used_cells, cells_without_slot}
 use Rattle.kernel_meaning.specs.EventRequests.{Progress, FrameRefusal, pages_touched}
-use Rattle.table_levels.specs.Cells.{tables_of}
 use Rattle.page_tables.specs.declared.tables.PageTables.{PageTables}
 use Rattle.page_tables.specs.Courses.{requests_between, progress_between}
-use Rattle.page_tables.specs.Held.{frames_of, frames_in, shares_in, snapshot_frames}
+use Rattle.page_tables.specs.Held.{frames_of, frames_in, shares_in}
 use Rattle.page_tables.proofs.HeldFrames.{frames-law}
-use Rattle.page_tables.specs.Sides.{Sides}
-use Rattle.page_tables.specs.Standing.{TablesStandFor}
-use Rattle.page_tables.specs.Ranges.{cells_of_pages, FollowsRange}
+use Rattle.page_tables.specs.Sides.{Sides, opening_sides}
+use Rattle.page_tables.specs.Standing.{TablesStandFor, number_of, slot_count}
+use Rattle.page_tables.specs.Ranges.{cells_of_pages, FollowsRange, HasRoom}
+use Rattle.std.specs.List.{count_by}
+use Rattle.std.specs.Prelude.{is_some}
+use Rattle.std.proofs.lemmas.List.{length-map}
+use Rattle.std.proofs.lemmas.List.Sums.{count_by-le-length}
+use Rattle.std.proofs.lemmas.Bool.Decides.{nat_tests}
 use Rattle.trace_events.specs.declared.outcome.Outcome.{Outcome}
 use Rattle.trace_events.specs.declared.outcome.Outcome.TheVariants.{Done, CellsFull, NoFrame}
-use Rattle.trace_core.specs.SupplyState.{SupplyGoes}
-use Rattle.trace_core.specs.KernelState.{Machine, KernelState}
-use Rattle.trace_core.specs.EventMeaning.{EventEnd, begun, only_answers, refusal_outcome, touch_judged, touch_allowed, touch_answered, written}
-use Rattle.trace_core.specs.KernelStanding.{KernelParts, KernelStands, EventRan, sides_of}
+use Rattle.trace_core.specs.SupplyState.{SupplyState, SupplyGoes, opening_supply}
+use Rattle.vm_base.specs.declared.frame_request.Asker.TheVariants.{Parent}
+use Rattle.vm_base.specs.declared.permission.Perm.{Perm}
+use Rattle.kernel_meaning.specs.RefusedRequests.{PolicySum}
+use Rattle.area_list.specs.Calls.{areas_mapped, on_memory, if_few}
+use Rattle.page_tables.specs.declared.tables.SnapshotTables.{SnapshotTables}
+use Rattle.trace_core.specs.KernelState.{Machine, KernelState, opening_state}
+use Rattle.trace_core.specs.EventMeaning.{EventEnd, begun, only_answers, areas_changed, mapped, refusal_outcome, touch_judged, touch_answered, written}
+use Rattle.trace_events.specs.declared.event.Event.TheVariants.{Write}
+use Rattle.trace_core.specs.Supplied.{IsSupplied}
+use Rattle.trace_core.proofs.AnswerLemmas.{no_request_has_led}
+use Rattle.trace_core.proofs.SuppliedRuns.{supplied-parent, supplied-opening}
+use Rattle.trace_core.specs.KernelStanding.{KernelParts, KernelStands, EventRan, sides_of, kept_number}
 
 -- an event that makes no request and changes nothing
 pub ran-unchanged : (parts : KernelParts) (machine : Machine) (state : KernelState) (end : List Answer → EventEnd) (outcome : Outcome) → KernelStands parts machine state
@@ -72,7 +88,7 @@ module _ (parts : KernelParts) (machine : Machine) (state : KernelState) (st : K
       let last : first + count - 1 ≡ page_of (addr + length bytes - 1) = omega arith in
       ap (λ b. cond b [] (range_with_len (cell_of first) (cell_of (page_of (addr + length bytes - 1)) + 1 - cell_of first))) (ne_eqb (length bytes) 0 (λ e. omega arith))
       ∙ sym (ap (λ b. cond b [] (range_with_len (cell_of first) (cell_of (first + count - 1) + 1 - cell_of first))) (ne_eqb count 0 (λ e. omega arith))
-        ∙ ap (λ p. range_with_len (cell_of first) (cell_of p + 1 - cell_of first)) last)
+      ∙ ap (λ p. range_with_len (cell_of first) (cell_of p + 1 - cell_of first)) last)
 
   -- there are too few slots
   pub ran-full : 0 < length bytes → touch ≡ Ok granted_memory → lacks_slots machine.slots state.leaves (cells_of_pages first count) ≡ true
@@ -96,6 +112,186 @@ module _ (parts : KernelParts) (machine : Machine) (state : KernelState) (st : K
         ∙ cond-false (lacks_slots machine.slots state.leaves (cells_of_range addr (length bytes))) _ _ (ap (lacks_slots machine.slots state.leaves) (cells-same some) ∙ room)
         ∙ ap (λ p. touch_answered state (record granted_memory { present = with_bytes granted_memory.present addr bytes }) p.refused p) range-progress
 
-    -- the frames that are out are those of the law
-    held-then : (sides : Sides) → TablesStandFor mid sides → frames_in mid.slots.items ≡ shares_in mid.slots.items → frames_of mid ≡ held_frames sides.leaves
-    held-then sides stands even = let law : held_frames sides.leaves ≡ tables_of mid.directory + snapshot_frames mid.snapshot + shares_in mid.slots.items = frames-law mid.directory mid.snapshot mid.slots.items sides stands in omega (arith, law, even)
+    -- behind the touch of a range, with a supply that its deals led here
+    module _ (to : SupplyState) (led : LeadsAlong SupplyGoes parts.supply deals to) where
+      -- and page tables that hold what is out
+      module _ (new : PageTables) (sides : Sides) (stands : TablesStandFor new sides) (even : frames_in new.slots.items ≡ shares_in new.slots.items) (out : to.out ≡ frames_of new) where
+        pub out-then : to.out ≡ held_frames sides.leaves
+        out-then = out ∙ (let law = frames-law new.directory new.snapshot new.slots.items sides stands in omega (arith, law, even))
+
+      pub supplied-then : (end : EventEnd) → written machine state (answers_of deals) addr bytes ≡ end → end.deals ≡ deals → to.out ≡ held_frames end.after.leaves → IsSupplied machine end.after to
+      supplied-then end ends makes held = subst (λ e. IsSupplied machine e.after to) ends
+          (supplied-parent machine parts.supply.policies [] state (Write addr bytes) deals parts.supply to refl refl st.supply (no_request_has_led machine.frames parts.supply.policies) led
+          (ap (λ e. e.deals) ends ∙ makes) (held ∙ sym (ap (λ e. held_frames e.after.leaves) ends))).supplied
+
+  module _ (some : 0 < length bytes) (granted : touch ≡ Ok granted_memory) (room : lacks_slots machine.slots state.leaves (cells_of_pages first count) ≡ false)
+      (mid : PageTables) (deals : List Deal) (to : SupplyState) (led : LeadsAlong SupplyGoes parts.supply deals to) where
+    -- the touch was granted, and the bytes were stored
+    pub ran-done : (range : FollowsRange first count mid deals None (sides_of state st.pages)) (new : PageTables)
+        → TablesStandFor new (record { leaves = range.follows.leaves; pages = with_bytes (with_pages state.world.parent.present first count) addr bytes; snapshots = st.pages; made = range.follows.made })
+        → frames_in new.slots.items ≡ shares_in new.slots.items → to.out ≡ frames_of new → number_of new.snapshot ≡ kept_number parts.snapshot → slot_count new ≡ machine.slots
+        → EventRan parts (record { areas = parts.areas; tables = new; supply = to; snapshot = parts.snapshot; last = parts.last }) machine (λ answers. written machine state answers addr bytes) Done
+    ran-done range new stands even out number slots =
+        let ends = written-is some granted room mid deals None range in
+        let held = out-then some granted room mid deals None range to led new _ stands even out in
+        record {
+          deals = deals;
+          led = led;
+          after = (touch_answered state (record granted_memory { present = with_bytes granted_memory.present addr bytes }) None (progress some granted room mid deals None range)).after;
+          ends = ends;
+          stands = record {
+            pages = st.pages;
+            areas = st.areas;
+            tables = stands;
+            number = number;
+            memories = st.memories;
+            losses = refl;
+            last = st.last;
+            counts = st.counts;
+            supply = supplied-then some granted room mid deals None range to led _ ends refl held;
+            out = out;
+            even = even;
+            slots = slots;
+            limit = st.limit;
+          };
+        }
+
+    -- a page was refused, and the pages are as before
+    pub ran-no_frame : (refusal : FrameRefusal) (range : FollowsRange first count mid deals (Some refusal) (sides_of state st.pages))
+        → frames_in mid.slots.items ≡ shares_in mid.slots.items → to.out ≡ frames_of mid → number_of mid.snapshot ≡ kept_number parts.snapshot → slot_count mid ≡ machine.slots
+        → EventRan parts (record { areas = parts.areas; tables = mid; supply = to; snapshot = parts.snapshot; last = parts.last }) machine (λ answers. written machine state answers addr bytes) (NoFrame refusal.at)
+    ran-no_frame refusal range even out number slots =
+        let ends = written-is some granted room mid deals (Some refusal) range in
+        let held = out-then some granted room mid deals (Some refusal) range to led mid _ range.follows.stands even out in
+        record {
+          deals = deals;
+          led = led;
+          after = (touch_answered state (record granted_memory { present = with_bytes granted_memory.present addr bytes }) (Some refusal) (progress some granted room mid deals (Some refusal) range)).after;
+          ends = ends;
+          stands = record {
+            pages = st.pages;
+            areas = st.areas;
+            tables = range.follows.stands;
+            number = number;
+            memories = st.memories;
+            losses = refl;
+            last = st.last;
+            counts = st.counts;
+            supply = supplied-then some granted room mid deals (Some refusal) range to led _ ends refl held;
+            out = out;
+            even = even;
+            slots = slots;
+            limit = st.limit;
+          };
+        }
+
+-- where the cells of a range do not lack slots there is room
+pub room-there : (tables : PageTables) (sides : Sides) (cells : List ℕ) → TablesStandFor tables sides → lacks_slots (slot_count tables) sides.leaves cells ≡ false → HasRoom (slot_count tables) sides.leaves cells
+room-there tables sides cells st fits =
+    let owned : count_by (λ slot. is_some slot.owner) tables.slots.items ≡ length sides.leaves = st.slots_of.counted in
+    let few : count_by (λ slot. is_some slot.owner) tables.slots.items ≤ length tables.slots.items = count_by-le-length (λ slot. is_some slot.owner) tables.slots.items in
+    let used : length (used_cells sides.leaves) ≡ length sides.leaves = length-map sides.leaves (λ e. e.0) in
+    let left : slot_count tables - length (used_cells sides.leaves) < length (cells_without_slot sides.leaves cells) → ⊥ = λ l. grind (arith, nat_tests, l, fits) in
+    omega (arith, owned, few, used, left)
+
+-- a page that has a byte of a range is one of its pages
+pub page-within : (addr n count page : ℕ) → count ≡ page_count addr n → 0 < n → page * 4096 < addr + n → page < page_of addr + count
+page-within addr n count page whole some high =
+    let full : page_count addr n ≡ page_of (addr + n - 1) + 1 - page_of addr = ap (λ b. cond b 0 (page_of (addr + n - 1) + 1 - page_of addr)) (ne_eqb n 0 (λ e. omega arith)) in
+    omega (arith, whole, full, some, high)
+
+-- what moved on one side moved on the other
+pub moved-alike : (a b c d : ℕ) → a + b ≡ c + d → c ≡ b → a ≡ d
+moved-alike a b c d moved same = omega (arith, moved, same)
+
+pub moved-even : (a b c d : ℕ) → a + b ≡ c + d → a ≡ c → d ≡ b
+moved-even a b c d moved same = omega (arith, moved, same)
+
+-- ---- mapping, reading, and the start
+
+-- a mapping changes the areas of a memory as it changes their list, or is refused alike
+mapped-on : (memory : FlatMemory) (start n : ℕ) (perm : Perm) → map_of memory start n perm ≡ on_memory memory (areas_mapped memory.areas start n perm)
+mapped-on memory start n perm =
+    let areas = joined (with_area (record { first = start; pages = n; perm = perm }) memory.areas) in
+    elim (taken memory.areas start n) as (λ o. or_refused Taken o (at_most_128 (record memory { areas = areas })) ≡ on_memory memory (or_refused Taken o (if_few areas))) [
+      | Some page ↦ refl
+      | None ↦ elim (nat_le (length areas) 128) as (λ b. cond b (Ok (record memory { areas = areas })) (Err TooManyAreas) ≡ on_memory memory (cond b (Ok areas) (Err TooManyAreas))) [ true ↦ refl | false ↦ refl ]
+    ]
+
+module _ (parts : KernelParts) (machine : Machine) (state : KernelState) (st : KernelStands parts machine state) (first n : ℕ) (perm : Perm) where
+  pub ran-unmapped : (refusal : Refusal) (areas : List Area) (outcome : Outcome) → areas_mapped parts.areas first n perm ≡ Err refusal → areas ≡ parts.areas → outcome ≡ refusal_outcome refusal
+      → EventRan parts (record { areas = areas; tables = parts.tables; supply = parts.supply; snapshot = parts.snapshot; last = parts.last }) machine (λ answers. mapped state answers first n perm) outcome
+  ran-unmapped refusal areas outcome e same told =
+      subst (λ areas. EventRan parts (record { areas = areas; tables = parts.tables; supply = parts.supply; snapshot = parts.snapshot; last = parts.last }) machine (λ answers. mapped state answers first n perm) outcome) (sym same)
+      (subst (EventRan parts parts machine (λ answers. mapped state answers first n perm)) (sym told)
+      (ran-unchanged parts machine state (λ answers. mapped state answers first n perm) (refusal_outcome refusal) st
+      (ap (λ t. areas_changed state t (begun state [])) (mapped-on state.world.parent first n perm ∙ ap (λ areas. on_memory state.world.parent (areas_mapped areas first n perm)) st.areas ∙ ap (on_memory state.world.parent) e))))
+
+  pub ran-mapped : (areas : List Area) → areas_mapped parts.areas first n perm ≡ Ok areas
+      → EventRan parts (record { areas = areas; tables = parts.tables; supply = parts.supply; snapshot = parts.snapshot; last = parts.last }) machine (λ answers. mapped state answers first n perm) Done
+  ran-mapped areas e = record {
+    deals = [];
+    led = refl;
+    after = (areas_changed state (Ok (record state.world.parent { areas = areas })) (begun state [])).after;
+    ends = ap (λ t. areas_changed state t (begun state [])) (mapped-on state.world.parent first n perm ∙ ap (λ areas. on_memory state.world.parent (areas_mapped areas first n perm)) st.areas ∙ ap (on_memory state.world.parent) e);
+    stands = record {
+      pages = st.pages;
+      areas = refl;
+      tables = st.tables;
+      number = st.number;
+      memories = st.memories;
+      losses = refl;
+      last = st.last;
+      counts = st.counts;
+      supply = record { frames = st.supply.frames; held = st.supply.held; asker = st.supply.asker; refused = st.supply.refused; pending = st.supply.pending };
+      out = st.out;
+      even = st.even;
+      slots = st.slots;
+      limit = st.limit;
+    };
+  }
+
+module _ (parts : KernelParts) (machine : Machine) (state : KernelState) (st : KernelStands parts machine state) (addr n : ℕ) where
+  read_with : List Area → Result (List ℕ) Refusal
+  read_with areas = or_refused OutsideAreas (outside areas (page_of addr) (page_count addr n)) (Ok (bytes_at state.world.parent.present addr n))
+
+  pub read-granted : outside parts.areas (page_of addr) (page_count addr n) ≡ None → read_of state.world.parent addr n ≡ Ok (bytes_at state.world.parent.present addr n)
+  unfolding read_with
+  read-granted e = ap read_with st.areas ∙ ap (λ o. or_refused OutsideAreas o (Ok (bytes_at state.world.parent.present addr n))) e
+
+  pub read-refused : (page : ℕ) → outside parts.areas (page_of addr) (page_count addr n) ≡ Some page → read_of state.world.parent addr n ≡ Err (OutsideAreas page)
+  unfolding read_with
+  read-refused page e = ap read_with st.areas ∙ ap (λ o. or_refused OutsideAreas o (Ok (bytes_at state.world.parent.present addr n))) e
+
+-- all frames are there
+pub opens-all : (made frames : ℕ) (free : List ℕ) (policies : PolicySum) → made ≡ frames → length free ≡ frames
+    → record { made = made; out = made - length free; asker = Parent; refused = 0; pending = None; policies = policies } ≡ opening_supply frames policies
+opens-all made frames free policies all there =
+    let out : made - length free ≡ 0 = omega (arith, all, there) in
+    λ i. record { made = all i; out = out i; asker = Parent; refused = 0; pending = None; policies = policies }
+
+-- where no snapshot has pages none lives
+none-lives : (snapshot : Option SnapshotTables) → ((n : ℕ) → false ≡ holds_number (number_of snapshot) n) → number_of snapshot ≡ None
+none-lives None none = refl
+none-lives (Some tables) none = absurd (false≢true (none tables.number ∙ eq-eqb tables.number tables.number refl))
+
+-- a kernel begins without areas and pages, over a supply that has all frames
+pub opening-stands : (frames cells last : ℕ) (areas : List Area) → areas ≡ [] → (tables : PageTables) (policies : PolicySum) (supply : SupplyState) → supply ≡ opening_supply frames policies → TablesStandFor tables opening_sides
+    → slot_count tables ≡ cells → frames_of tables ≡ 0 → KernelStands (record { areas = areas; tables = tables; supply = supply; snapshot = None; last = last }) (record { frames = frames; slots = cells; limit = 1 }) (opening_state last)
+opening-stands frames cells last areas bare tables policies supply opens stands slots held =
+    let law = frames-law tables.directory tables.snapshot tables.slots.items opening_sides stands in
+    record {
+      pages = empty;
+      areas = sym bare;
+      tables = stands;
+      number = none-lives tables.snapshot (λ n. sym (ap is_some (get-empty nat_cmp n)) ∙ stands.snapshot_of.live n);
+      memories = refl;
+      losses = refl;
+      last = refl;
+      counts = refl;
+      supply = subst (λ s. IsSupplied (record { frames = frames; slots = cells; limit = 1 }) (opening_state last) s) (sym opens) (supplied-opening (record { frames = frames; slots = cells; limit = 1 }) last policies);
+      out = ap (λ s. s.out) opens ∙ sym held;
+      even = omega (arith, law, held);
+      slots = slots;
+      limit = refl;
+    }

@@ -6,6 +6,7 @@ use Rattle.vm_base.specs.declared.frame_request.Asker.{Asker}
 use Rattle.vm_base.specs.declared.frame_request.Asker.TheVariants.{Parent, Snapshot}
 use Rattle.vm_base.specs.Places.{page_of, page_count, cells_of_range}
 use Rattle.vm_base.specs.FlatMemory.{FlatMemory}
+use Rattle.vm_base.specs.declared.permission.Perm.{Perm}
 use Rattle.vm_base.specs.FlatStep.{Refusal, OutsideAreas, ReadOnly, Taken, TooManyAreas, read_of, touch_of, stored, map_of, unmap_of, protect_of}
 use Rattle.vm_base.specs.TwoSides.{World, with_parent, forked, dropped, SnapRefusal, NotLive, OutsideSnapshot, CellLost, snap_read_of}
 use Rattle.vm_base.specs.Deals.{Deal}
@@ -97,6 +98,10 @@ abbrev pub areas_changed : KernelState → Result FlatMemory Refusal → Progres
 areas_changed state (Ok memory) progress = parent_end state (with_parent state.world memory) Done progress
 areas_changed state (Err refusal) progress = only_answers state (refusal_outcome refusal)
 
+-- an area is mapped; no page is present there yet, so nothing is requested
+abbrev pub mapped : KernelState → List Answer → ℕ → ℕ → Perm → EventEnd
+mapped state answers first n perm = areas_changed state (map_of state.world.parent first n perm) (begun state answers)
+
 -- ---- writing
 
 -- the requests of a touch were answered: the memory is the new one; or the touch is refused, and the memory as it was
@@ -169,8 +174,7 @@ frames_told machine leaves = Held (held_frames leaves) (machine.frames - held_fr
 
 -- how an event ends, with these answers to its requests for frames
 abbrev pub event_end : Machine → KernelState → List Answer → Event → EventEnd
-event_end machine state answers (Map first n perm) =
-    areas_changed state (map_of state.world.parent first n perm) (begun state answers)
+event_end machine state answers (Map first n perm) = mapped state answers first n perm
 event_end machine state answers (Unmap first n) =
     areas_changed state (unmap_of state.world.parent first n) (pages_unmapped first n (begun state answers))
 event_end machine state answers (Protect first n perm) =

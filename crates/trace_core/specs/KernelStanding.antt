@@ -1,7 +1,6 @@
 -- When the parts of a kernel stand for the state of a run.
-use Rattle.std.specs.Prelude.{◌≡◌, ℕ, List, Option, Some, None, IsSome}
+use Rattle.std.specs.Prelude.{◌≡◌, ℕ, List, Option, Some, None, Result, Ok, Err}
 use Rattle.std.specs.Ordering.{nat_cmp}
-use Rattle.std.specs.Option.{option_map}
 use Rattle.std.specs.FinMap.{FinMap, empty, insert, get}
 use Rattle.vm_base.specs.Deals.{Deal, LeadsAlong}
 use Rattle.vm_base.specs.FlatMemory.{Area, PageMap, FlatMemory}
@@ -13,6 +12,8 @@ use Rattle.page_tables.specs.Standing.{TablesStandFor, number_of, slot_count}
 use Rattle.page_tables.specs.Held.{frames_of, frames_in, shares_in}
 use Rattle.trace_events.specs.declared.outcome.Outcome.{Outcome}
 use Rattle.trace_core.specs.declared.kernel.SnapshotAreas.{SnapshotAreas}
+use Rattle.trace_core.specs.declared.writing.NoArea.{NoArea}
+use Rattle.vm_base.specs.FlatStep.{Refusal, OutsideAreas}
 use Rattle.trace_core.specs.SupplyState.{SupplyState, SupplyGoes}
 use Rattle.trace_core.specs.Supplied.{IsSupplied}
 use Rattle.trace_core.specs.KernelState.{Machine, KernelState}
@@ -68,3 +69,8 @@ pub record EventRan (from new : KernelParts) (machine : Machine) (end : List Ans
   pub after : KernelState
   pub ends : end (answers_of deals) ≡ record { outcome = outcome; deals = deals; after = after }
   pub stands : KernelStands new machine after
+
+-- what a read answers: the bytes that are in the buffer then, or the lowest page outside the areas
+abbrev pub read_answer : Result (Unit {0}) NoArea → List ℕ → Result (List ℕ) Refusal
+read_answer (Ok done) bytes = Ok bytes
+read_answer (Err refused) bytes = Err (OutsideAreas refused.page)

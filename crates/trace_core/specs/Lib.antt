@@ -1,6 +1,7 @@
 -- What is defined of a run of the kernel, and of where its frames come from.
 pub mod SupplyState
 pub mod Answering
+pub mod KernelStanding
 pub mod KernelState
 pub mod EventMeaning
 pub mod RunMeaning

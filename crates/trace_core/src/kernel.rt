@@ -1,17 +1,16 @@
-//! The kernel: areas, page tables and a pool.
-ghost use Rattle.std.specs.Prelude.{◌≡◌, ◌≤◌, ◌<◌, IfOk, map, vec_capacity};
-ghost use Rattle.frame_pool.specs.Policies.{standing};
+//! The kernel: the parent's areas, the page tables, and where frames come from.
+ghost use Rattle.std.specs.Prelude.{◌≡◌, ◌≤◌, ◌<◌, IfOk, length, map, vec_capacity};
 ghost use Rattle.trace_core.specs.SupplyState.{state_of};
 ghost use Rattle.trace_core.specs.KernelState.{opening_state};
 ghost use Rattle.trace_core.specs.KernelStanding.{KernelParts, KernelStands};
 
 use crate::supply::Supply;
 use area_list::Areas;
-use frame_pool::FramePolicy;
+use frame_pool::{FramePolicy, Pool, Seen};
 use page_tables::PageTables;
 use std::alloc::Global;
 use std::marker::PhantomData;
-use vm_base::{Allot, NoMemory};
+use vm_base::NoMemory;
 
 /// The most pages that one touch may meet.
 pub(crate) const MOST_PAGES: usize = 1025;
@@ -59,4 +58,35 @@ impl Standing for Kernel {
       snapshot = kernel.snapshot;
       last = kernel.last;
     } };
+}
+
+impl Kernel {
+    /// A parent without areas or pages, over a pool that made so many frames and has them all, with
+    /// room for so many cells. The last snapshot had this number: 0 before the first. It fails
+    /// only for want of memory.
+    pub fn new(
+        alloc: Global,
+        pool: Pool,
+        frames: u32,
+        cells: u32,
+        last: u32,
+    ) -> Result<Kernel, NoMemory>
+        requires cells { cells ≤ 512 }
+        requires made { (⟦<Pool as Seen>⟧.seen pool).made ≡ frames }
+        requires free { length (⟦<Pool as Seen>⟧.seen pool).free ≡ frames }
+        ensures stands { IfOk result (λ kernel. KernelStands (⟦<Kernel as Standing>⟧.parts kernel)
+            (record { frames = frames; slots = cells; limit = 1 }) (opening_state last)) }
+    {
+        let tables = PageTables::new(alloc, cells)?;
+        let added = Vec::with_capacity(alloc, MOST_PAGES)?;
+        Ok(Kernel {
+            areas: Areas::new(),
+            tables,
+            supply: Supply::new(pool, frames),
+            snapshot: None,
+            last,
+            added,
+            policies: PhantomData,
+        })
+    }
 }

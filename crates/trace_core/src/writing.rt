@@ -1,14 +1,15 @@
-//! Writing.
-ghost use Rattle.std.specs.Prelude.{◌≡◌, ◌+◌, ◌<◌, ◌≤◌, ◌^◌, length, is_some};
+//! The calls of the parent: an area mapped, and bytes read and written.
+ghost use Rattle.std.specs.Prelude.{◌≡◌, ◌+◌, ◌<◌, ◌≤◌, ◌^◌, length, is_some, IfErr};
 ghost use Rattle.vm_base.specs.Places.{page_of, page_count};
 ghost use Rattle.vm_base.specs.FlatMemory.{area_of};
-ghost use Rattle.vm_base.specs.FlatStep.{outside, unwritable, is_read_only};
+ghost use Rattle.vm_base.specs.FlatStep.{outside, unwritable, is_read_only, read_of};
+ghost use Rattle.area_list.specs.Answers.{refusal_of};
 ghost use Rattle.trace_core.specs.KernelState.{Machine, KernelState};
-ghost use Rattle.trace_core.specs.EventMeaning.{written};
-ghost use Rattle.trace_core.specs.KernelStanding.{KernelStands, EventRan};
+ghost use Rattle.trace_core.specs.EventMeaning.{refusal_outcome, mapped, written};
+ghost use Rattle.trace_core.specs.KernelStanding.{KernelStands, EventRan, read_answer};
 
 use crate::kernel::{Kernel, Standing};
-use area_list::Areas;
+use area_list::{AreaFault, Areas};
 use trace_events::Outcome;
 use vm_base::Perm;
 
@@ -16,8 +17,43 @@ use vm_base::Perm;
 const PAGE_BYTES: u64 = 4096;
 
 impl Kernel {
-    /// Touches the range of the bytes, and then stores them. What is refused stores nothing.
-    pub(crate) fn write(&mut self, addr: u64, bytes: &[u8]) -> Outcome
+    /// Maps pages as an area. Which areas there are does not decide whether a page takes a frame:
+    /// none is asked for.
+    pub fn map(&mut self, first: u64, pages: u64, perm: Perm) -> Outcome
+        requires some { 0 < pages }
+        requires within { first + pages ≤ 2 ^ 36 }
+        ensures ran { (machine : Machine) (state : KernelState) → KernelStands (⟦<Kernel as Standing>⟧.parts self.old) machine state
+            → EventRan (⟦<Kernel as Standing>⟧.parts self.old) (⟦<Kernel as Standing>⟧.parts self.new) machine (λ answers. mapped state answers first pages perm) result }
+    {
+        match self.areas.map(first, pages, perm) {
+            Ok(()) => Outcome::Done,
+            Err(fault) => outcome_of(fault),
+        }
+    }
+
+    /// Reads a range, in which an absent page reads as zeros. Where pages of it lie in no area it
+    /// tells the lowest of them, and reads nothing.
+    pub fn read(&self, addr: u64, buf: &mut [u8]) -> Result<(), NoArea>
+        requires some { 0 < length buf.old }
+        requires range { addr + length buf.old ≤ 2 ^ 48 }
+        requires stands { (machine : Machine) × ((state : KernelState) × KernelStands (⟦<Kernel as Standing>⟧.parts self.now) machine state) }
+        ensures read { (machine : Machine) (state : KernelState) → KernelStands (⟦<Kernel as Standing>⟧.parts self.now) machine state
+            → read_of state.world.parent addr (length buf.old) ≡ read_answer result buf.new }
+        ensures kept { IfErr result (λ refused. buf.new ≡ buf.old) }
+    {
+        let first = addr / PAGE_BYTES;
+        let count = page_count(addr, buf.len() as u64);
+        if let Some(page) = first_outside(&self.areas, first, count) {
+            return Err(NoArea { page });
+        }
+        self.tables.read(addr, buf);
+        Ok(())
+    }
+
+    /// Touches the range of the bytes, and then stores them: a page that is absent takes its frames,
+    /// and one that a snapshot shares is copied first. What is refused stores nothing, and leaves
+    /// no page behind.
+    pub fn write(&mut self, addr: u64, bytes: &[u8]) -> Outcome
         requires some { 0 < length bytes.now }
         requires few { length bytes.now ≤ 4194304 }
         requires range { addr + length bytes.now ≤ 2 ^ 48 }
@@ -46,6 +82,24 @@ impl Kernel {
             }
             Err(refused) => Outcome::NoFrame(refused.at),
         }
+    }
+}
+
+/// Pages of a range lie in no area.
+#[derive(Clone, Copy, Debug, PartialEq, Eq)]
+pub struct NoArea {
+    /// The lowest of them.
+    pub page: u64,
+}
+
+// What an event answers when the areas refuse it.
+fn outcome_of(fault: AreaFault) -> Outcome
+    ensures { result ≡ refusal_outcome (refusal_of fault) }
+{
+    match fault {
+        AreaFault::NoArea(page) => Outcome::NoArea(page),
+        AreaFault::Overlap(page) => Outcome::Overlap(page),
+        AreaFault::AreasFull => Outcome::AreasFull,
     }
 }
 
