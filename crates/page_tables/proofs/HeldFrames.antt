@@ -56,7 +56,7 @@ module _ {X : Type 0} where
         | false ↦ λ apart. found
       ] refl
 
-  sum-alike : (f g : ℕ × X → ℕ) (es : List (ℕ × X)) → AllByRecursion (λ e. f e ≡ g e) es → sum_by f es ≡ sum_by g es
+  pub sum-alike : (f g : ℕ × X → ℕ) (es : List (ℕ × X)) → AllByRecursion (λ e. f e ≡ g e) es → sum_by f es ≡ sum_by g es
   sum-alike f g [] h = refl
   sum-alike f g (e ∷ es) h = let rest : sum_by f es ≡ sum_by g es = sum-alike f g es h.1 in
       sum_by-cons f e es ∙ (λ i. h.0 i + rest i) ∙ sym (sum_by-cons g e es)

@@ -36,3 +36,12 @@ pub mod ClearedCell
 pub mod ClearedTables
 pub mod ClearedSlot
 pub mod Vacancies
+pub mod SnapshotShares
+pub mod ForkSlots
+pub mod Changing
+pub mod ForkWants
+pub mod StandingFacts
+pub mod ForkedLeaves
+pub mod ForkedTables
+pub mod DroppedLeaves
+pub mod DroppedTables

@@ -6,3 +6,6 @@ pub mod Accesses
 pub mod Making
 pub mod Clearing
 pub mod Ranges
+pub mod Spare
+pub mod Returning
+pub mod Forking

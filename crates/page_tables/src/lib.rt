@@ -9,6 +9,7 @@
 
 mod access;
 mod clear;
+mod fork;
 mod pieces;
 mod range;
 mod slot;

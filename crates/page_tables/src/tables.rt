@@ -1,11 +1,8 @@
 //! The page tables, made with all their room.
-ghost use Rattle.std.specs.Prelude.{◌≡◌, ◌≤◌, ◌+◌, length, replicate, IfOk};
-ghost use Rattle.page_tables.specs.Sides.{opening_sides};
-ghost use Rattle.page_tables.specs.Standing.{TablesStandFor, free_slot, slot_count};
-ghost use Rattle.page_tables.specs.Held.{frames_of};
+ghost use Rattle.std.specs.Prelude.{◌≡◌, ◌≤◌, IfOk};
+ghost use Rattle.page_tables.specs.Spare.{HasSpare};
 
-use crate::slot::Slot;
-use leaf_cell::Cell;
+use crate::slot::{Slot, free_slots};
 use std::alloc::Global;
 use table_levels::Directory;
 use vm_base::NoMemory;
@@ -23,10 +20,17 @@ pub(crate) struct SnapshotTables {
 pub struct PageTables {
     pub(crate) directory: Directory,
     pub(crate) snapshot: Option<SnapshotTables>,
+    /// The directory of the next snapshot, while none lives.
+    pub(crate) spare: Option<Directory>,
     pub(crate) slots: Vec<Slot>,
+    ghost spared: { HasSpare snapshot spare },
 }
 
 impl PageTables {
+    ghost use Rattle.page_tables.specs.Sides.{opening_sides};
+    ghost use Rattle.page_tables.specs.Standing.{TablesStandFor, slot_count};
+    ghost use Rattle.page_tables.specs.Held.{frames_of};
+
     /// No page, no snapshot, and so many free slots, 512 at most: each has room for one cell. It
     /// fails only for want of memory.
     pub fn new(alloc: Global, slots: u32) -> Result<PageTables, NoMemory>
@@ -36,23 +40,13 @@ impl PageTables {
         ensures held { IfOk result (λ tables. frames_of tables ≡ 0) }
     {
         let directory = Directory::new(alloc)?;
+        let spare = Directory::new(alloc)?;
         let slots = free_slots(alloc, slots)?;
         Ok(PageTables {
             directory,
             snapshot: None,
+            spare: Some(spare),
             slots,
         })
     }
-}
-
-/// Slots in which no cell lies.
-fn free_slots(alloc: Global, count: u32) -> Result<Vec<Slot>, NoMemory>
-    ensures { IfOk result (λ slots. slots.items ≡ replicate count free_slot) }
-{
-    let mut slots = Vec::with_capacity(alloc, count as usize)?;
-    for _ in 0..count {
-        let cell = Cell::new(alloc)?;
-        slots.push(Slot { owner: None, cell })?;
-    }
-    Ok(slots)
 }

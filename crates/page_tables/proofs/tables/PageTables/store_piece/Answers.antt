@@ -41,12 +41,14 @@ pub returns-clause-stored : goal.returns-clause-stored
 returns-clause-stored c = λ sides st.
     let known = ap (get c.args.self.now.directory) (sym c.location_of-location.ensures.cell) ∙ sym c.find.ensures ∙ c.in-Some.is in
     stands-stored c.args.self.now sides st c.args.addr c.in-Some.slot c.args.bytes.now c.index_mut.result.now known c.index_mut.ensures.value
-    c.location_of-location.result.page c.location_of-location.result.at c.location_of-location.ensures.page c.location_of-location.ensures.at c.store.new.self c.requires.room c.store.ensures.stored
+    c.location_of-location.result.page c.location_of-location.result.at c.location_of-location.ensures.page
+    c.location_of-location.ensures.at c.store.new.self c.requires.room c.store.ensures.stored
     (record {
       directory = c.args.self.now.directory;
       snapshot = c.args.self.now.snapshot;
-      slots = with_item c.args.self.now.slots c.in-Some.slot
-          (record { owner = c.index_mut.result.now.owner; cell = c.store.new.self });
+      spare = c.args.self.now.spare;
+      spared = c.self-in-Some-1.given.0;
+      slots = with_item c.args.self.now.slots c.in-Some.slot (record { owner = c.index_mut.result.now.owner; cell = c.store.new.self });
     })
     refl refl refl
 

@@ -61,12 +61,7 @@ returns-clause-made g c =
       follows = λ sides st. known-touches c.args.self.now sides st c.args.page c.args.slot c.index_mut-home.result.now c.requires.known here
           c.touch-answer.new.self c.touch-answer.ensures.made.deals c.touch-answer.result c.touch-answer.ensures.made.follows
           (g.A.Allot.refused (g.A.Allot.state c.args.allot.now)) (g.A.Allot.refused (g.A.Allot.state c.touch-answer.new.allot)) c.touch-answer.ensures.touched
-          (record {
-            directory = c.args.self.now.directory;
-            snapshot = c.args.self.now.snapshot;
-            slots = with_item c.args.self.now.slots c.args.slot
-                (record { owner = c.index_mut-home.result.now.owner; cell = c.touch-answer.new.self });
-          })
+          _
           refl refl (ap (λ owner. slice_set c.args.self.now.slots.items c.args.slot (record { owner = owner; cell = c.touch-answer.new.self })) mine);
     }
 

@@ -16,7 +16,7 @@ use Rattle.table_levels.proofs.Counting.{tables_of-insert}
 use Rattle.page_tables.specs.declared.slot.Slot.{Slot}
 use Rattle.page_tables.specs.declared.tables.PageTables.{PageTables}
 use Rattle.page_tables.specs.Sides.{Sides}
-use Rattle.page_tables.specs.Standing.{TablesStandFor, IsSlotFor}
+use Rattle.page_tables.specs.Standing.{TablesStandFor, StandFor, IsSlotFor}
 use Rattle.page_tables.specs.Held.{frames_in, snapshot_frames}
 use Rattle.page_tables.specs.Making.{FollowsTouch}
 use Rattle.page_tables.proofs.ClearedSlot.{even-slots, holds-own}
@@ -43,12 +43,23 @@ returns-in-Err-clause-made g c =
       deals = deals_up_to refuses.front refuses.want c.in-Err.refused.at;
       led = refuses.deals;
       follows = λ sides st.
-          subst (λ d. FollowsTouch c.args.page (record { directory = d; snapshot = old.snapshot; slots = old.slots }) (deals_up_to refuses.front refuses.want c.in-Err.refused.at)
-          (Some (record { at = c.in-Err.refused.at; page = Some c.args.page })) sides)
-          (sym c.in-Err.ensures.kept)
-          (lacking-touches old sides st c.args.page c.args.slot home.slot c.requires.new home.here
+          let before : FollowsTouch c.args.page old (deals_up_to refuses.front refuses.want c.in-Err.refused.at) (Some (record { at = c.in-Err.refused.at; page = Some c.args.page })) sides =
+          lacking-touches old sides st c.args.page c.args.slot home.slot c.requires.new home.here
           (fits-again old.directory old.snapshot old.slots.items c.requires.stands.0 sides c.requires.stands.1.0 st (cell_of c.args.page) home.slot.owner home.fits)
-          refuses.front refuses.want refuses.rest refuses.order c.in-Err.refused.at);
+          refuses.front refuses.want refuses.rest refuses.order c.in-Err.refused.at in
+          let then : Sides = record { leaves = before.follows.leaves; pages = sides.pages; snapshots = sides.snapshots; made = before.follows.made } in
+          record {
+            follows = record {
+              leaves = before.follows.leaves;
+              made = before.follows.made;
+              runs = before.follows.runs;
+              stands = subst (λ d. StandFor d old.snapshot old.slots.items then) (sym c.in-Err.ensures.kept) before.follows.stands;
+            };
+            ready = before.ready;
+            still = before.still;
+            found = before.found;
+            size = before.size;
+          };
     }
 
 -- src/touch.rt:77:25
@@ -102,7 +113,7 @@ returns-in-Ok-touch-clause-made g c =
           (made.follows (account old sides st c.args.page c.args.slot c.index_mut-home.result.now c.requires.new here fits)
           (stood old sides st c.args.page c.args.slot c.index_mut-home.result.now c.requires.new here fits))
           (g.A.Allot.refused (g.A.Allot.state c.insert.new.allot)) (g.A.Allot.refused (g.A.Allot.state c.touch.new.allot)) c.in-Ok-touch.ensures.touched
-          (record { directory = c.insert.new.self; snapshot = old.snapshot; slots = with_item old.slots c.args.slot (record { owner = Some (cell_of c.args.page); cell = c.touch.new.self }) })
+          _
           c.in-Ok.ensures.added refl refl;
     }
 
@@ -151,7 +162,7 @@ returns-in-Err-touch-clause-made g c =
           refused-touches old sides st c.args.page c.args.slot c.index_mut-home.result.now c.requires.new here fits c.touch.new.self made.deals at
           (made.follows (account old sides st c.args.page c.args.slot c.index_mut-home.result.now c.requires.new here fits)
           (stood old sides st c.args.page c.args.slot c.index_mut-home.result.now c.requires.new here fits))
-          (record { directory = c.remove.new.self; snapshot = old.snapshot; slots = with_item old.slots c.args.slot (record { owner = c.index_mut-home.result.now.owner; cell = c.touch.new.self }) })
+          _
           gone refl
           (ap (λ view. slice_set old.slots.items c.args.slot (record { owner = c.index_mut-home.result.now.owner; cell = view })) c.in-Err-touch.ensures.refused
           ∙ set-same old.slots.items c.args.slot c.index_mut-home.result.now here);

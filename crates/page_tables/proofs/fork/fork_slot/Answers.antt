@@ -1,0 +1,32 @@
+use Rattle.std.proofs.Common.{◌≡◌, ℕ, List, refl, sym, ◌∙◌, subst, cond, replicate}
+use Rattle.std.specs.Prelude.{true, false}
+use Rattle.vm_base.specs.declared.frame_request.Want.TheVariants as want
+use Rattle.vm_base.specs.Deals.{LeadsAlong}
+use Rattle.kernel_meaning.specs.Leaves.{has_pages}
+use Rattle.leaf_cell.proofs.Without.{pages-counted, some-counted}
+use Rattle.table_levels.specs.Requests.{granted, Asks}
+use Rattle.page_tables.proofs.ForkSlots.{unforked-becomes, fork-becomes-ok, fork-asks}
+use Rattle.page_tables.proofs.fork.fork_slot.Goals as goal
+
+pub returns-then-pages-eq0-clause-forked : goal.returns-then-pages-eq0-clause-forked
+returns-then-pages-eq0-clause-forked g c =
+    unforked-becomes c.args.number c.args.slot.now (pages-counted c.args.slot.now.cell.leaves.parent (sym c.pages.ensures.pages ∙ c.if-pages-eq0.true))
+
+pub returns-then-pages-eq0-clause-requests : goal.returns-then-pages-eq0-clause-requests
+returns-then-pages-eq0-clause-requests g c =
+    let none : has_pages c.args.slot.now.cell.leaves.parent ≡ false = pages-counted c.args.slot.now.cell.leaves.parent (sym c.pages.ensures.pages ∙ c.if-pages-eq0.true) in
+    subst (λ b. LeadsAlong g.A.Allot.goes (g.A.Allot.state c.args.allot.now) (granted (replicate (cond b 1 0) want.Leaf)) (g.A.Allot.state c.args.allot.now)) (sym none) refl
+
+pub fork_eager-requires-clause-present : goal.fork_eager-requires-clause-present
+fork_eager-requires-clause-present g c = some-counted c.args.slot.now.cell.leaves.parent (λ e. c.if-pages-eq0.false (c.pages.ensures.pages ∙ e))
+
+pub returns-clause-forked : goal.returns-clause-forked
+returns-clause-forked g c =
+    let there : has_pages c.args.slot.now.cell.leaves.parent ≡ true = some-counted c.args.slot.now.cell.leaves.parent (λ e. c.if-pages-eq0.false (c.pages.ensures.pages ∙ e)) in
+    fork-becomes-ok g.A.Allot.goes _ _ c.args.number c.args.slot.now c.fork_eager.new.self c.requires.alone there c.fork_eager.result c.fork_eager.ensures.leaves (c.fork_eager.ensures.made 0)
+
+pub returns-clause-requests : goal.returns-clause-requests
+returns-clause-requests g c =
+    let there : has_pages c.args.slot.now.cell.leaves.parent ≡ true = some-counted c.args.slot.now.cell.leaves.parent (λ e. c.if-pages-eq0.false (c.pages.ensures.pages ∙ e)) in
+    subst (λ b. Asks g.A.Allot.goes (g.A.Allot.state c.args.allot.now) (replicate (cond b 1 0) want.Leaf) c.fork_eager.result (g.A.Allot.state c.fork_eager.new.allot)) (sym there)
+    (fork-asks g.A.Allot.goes _ _ c.args.number c.args.slot.now.cell c.fork_eager.new.self c.requires.known.0 c.requires.known.1 c.fork_eager.result (c.fork_eager.ensures.made 0))

@@ -1,0 +1,28 @@
+use Rattle.std.proofs.Common.{◌≡◌, ◌+◌, None, Some, refl, sym, ◌∙◌, ap, subst, arith}
+use Rattle.table_levels.specs.Cells.{tables_of}
+use Rattle.table_levels.proofs.Counting.{tables_of-empty}
+use Rattle.page_tables.specs.Standing.{StandFor}
+use Rattle.page_tables.proofs.StandingFacts.{alone-slots, known-slots}
+use Rattle.page_tables.proofs.ForkedTables.{fork-made, fork-refused}
+use Rattle.page_tables.proofs.tables.PageTables.fork.Goals as goal
+
+pub fork_into-requires-clause-alone : goal.fork_into-requires-clause-alone
+fork_into-requires-clause-alone g c =
+    alone-slots c.args.self.now.directory c.args.self.now.slots.items c.requires.stands.0
+    (subst (λ snapshot. StandFor c.args.self.now.directory snapshot c.args.self.now.slots.items c.requires.stands.0) c.requires.alone c.requires.stands.1)
+
+pub fork_into-requires-clause-known : goal.fork_into-requires-clause-known
+fork_into-requires-clause-known g c = known-slots c.args.self.now.directory c.args.self.now.snapshot c.args.self.now.slots.items c.requires.stands.0 c.requires.stands.1
+
+pub returns-in-Ok-clause-made : goal.returns-in-Ok-clause-made
+returns-in-Ok-clause-made g c =
+    fork-made c.args.self.now c.requires.alone g.A.Allot.goes _ _ c.args.number c.fork_into.new.child _ c.in-Ok.ensures.requests c.in-Ok.ensures.forked c.in-Ok.ensures.copied refl refl
+
+pub returns-in-Err-clause-made : goal.returns-in-Err-clause-made
+returns-in-Err-clause-made g c =
+    fork-refused c.args.self.now c.requires.alone g.A.Allot.goes _ _ c.args.number _ c.in-Err.refused.at c.in-Err.ensures.requests c.in-Err.ensures.undone refl c.requires.alone
+
+pub returns-in-Err-clause-held : goal.returns-in-Err-clause-held
+returns-in-Err-clause-held g c =
+    let none : tables_of c.fork_into.new.child ≡ 0 = ap tables_of c.in-Err.ensures.kept ∙ tables_of-empty in
+    omega (arith, none, c.in-Err.ensures.held)
