@@ -26,7 +26,8 @@ fork_eager-answer-requires-clause-present g c = some-counted c.args.slot.now.cel
 pub returns-clause-forked : goal.returns-clause-forked
 returns-clause-forked g c =
     let there : has_pages c.args.slot.now.cell.leaves.parent ≡ true = some-counted c.args.slot.now.cell.leaves.parent (λ e. c.if-pages-eq0.false (c.pages.ensures.pages ∙ e)) in
-    fork-becomes-ok g.A.Allot.goes _ _ c.args.number c.args.slot.now c.fork_eager-answer.new.self c.requires.alone there c.fork_eager-answer.result c.fork_eager-answer.ensures.leaves (c.fork_eager-answer.ensures.made 0)
+    fork-becomes-ok g.A.Allot.goes _ _ c.args.number c.args.slot.now c.fork_eager-answer.new.self c.requires.alone there c.fork_eager-answer.result c.fork_eager-answer.ensures.leaves
+    (c.fork_eager-answer.ensures.made 0)
 
 pub returns-clause-requests : goal.returns-clause-requests
 returns-clause-requests g c =
@@ -40,5 +41,6 @@ returns-clause-even g c =
     let stands = c.requires.known.1 in
     let takes = (c.fork_eager-answer.ensures.made 0).follows account stands in
     let before : held_of c.args.slot.now.cell ≡ share c.args.slot.now.cell.leaves = c.tell_share.ensures account stands ∙ sym (share-stands c.args.slot.now.cell account stands) in
-    let after : held_of c.fork_eager-answer.new.self ≡ share c.fork_eager-answer.new.self.leaves = c.tell_share-2.ensures _ takes.stands ∙ sym (share-stands c.fork_eager-answer.new.self _ takes.stands) in
+    let after : held_of c.fork_eager-answer.new.self ≡ share c.fork_eager-answer.new.self.leaves =
+    c.tell_share-2.ensures _ takes.stands ∙ sym (share-stands c.fork_eager-answer.new.self _ takes.stands) in
     omega (arith, before, after)
