@@ -42,7 +42,8 @@ module _ (change : Slot → Slot → Type 0) where
   pub none-changed : (slots : List Slot) → ChangedBelow change 0 slots slots
   none-changed slots = record { size = refl; done = λ s slot small. absurd (omega arith); rest = λ s more. refl }
 
-  pub one-changed : (i j : ℕ) (old now : List Slot) (slot new : Slot) → ChangedBelow change i old now → slice_get now i ≡ Some slot → change slot new → j ≡ i + 1 → ChangedBelow change j old (slice_set now i new)
+  pub one-changed : (i j : ℕ) (old now : List Slot) (slot new : Slot) → ChangedBelow change i old now → slice_get now i ≡ Some slot
+      → change slot new → j ≡ i + 1 → ChangedBelow change j old (slice_set now i new)
   one-changed i j old now slot new below here changed next = record {
     size = length-set now i new ∙ below.size;
     done = λ s it small found. elim (cases_eq s i) [
@@ -58,7 +59,8 @@ module _ (change : Slot → Slot → Type 0) where
   }
 
 -- all have changed
-pub all-changed : (leaves : CellLeaves → CellLeaves) (change : CellState → CellState) (i : ℕ) (old now : List Slot) → ChangedBelow (Becomes leaves change) i old now → length old ≤ i → AllBecome leaves change old now
+pub all-changed : (leaves : CellLeaves → CellLeaves) (change : CellState → CellState) (i : ℕ) (old now : List Slot)
+    → ChangedBelow (Becomes leaves change) i old now → length old ≤ i → AllBecome leaves change old now
 all-changed leaves change i old now below most = record {
   size = below.size;
   each = λ s slot found. below.done s slot (let within : s < length old = slice_get_within old s slot found in omega arith) found;
@@ -84,8 +86,12 @@ undoes-fork n = record {
         ∙ ap (λ kept. record cell { kept = kept }) (sym alone)
     | false ↦ back-again n cell alone
   ];
-  same_leaves_there = λ state. elim (has_pages state.leaves.parent) as (λ b. (cond b (record { leaves = with_fork n Eager Own state.leaves; pages = state.pages; snapshots = insert state.snapshots n state.pages }) state).leaves ≡ cond b (with_fork n Eager Own state.leaves) state.leaves) [ true ↦ refl | false ↦ refl ];
-  same_pages_there = λ state. elim (has_pages state.leaves.parent) as (λ b. (cond b (record { leaves = with_fork n Eager Own state.leaves; pages = state.pages; snapshots = insert state.snapshots n state.pages }) state).pages ≡ state.pages) [ true ↦ refl | false ↦ refl ];
+  same_leaves_there = λ state. elim (has_pages state.leaves.parent) as
+      (λ b. (cond b (record { leaves = with_fork n Eager Own state.leaves; pages = state.pages; snapshots = insert state.snapshots n state.pages }) state).leaves
+      ≡ cond b (with_fork n Eager Own state.leaves) state.leaves) [ true ↦ refl | false ↦ refl ];
+  same_pages_there = λ state. elim (has_pages state.leaves.parent) as
+      (λ b. (cond b (record { leaves = with_fork n Eager Own state.leaves; pages = state.pages; snapshots = insert state.snapshots n state.pages }) state).pages
+      ≡ state.pages) [ true ↦ refl | false ↦ refl ];
 }
 
 -- a drop takes the change back
@@ -115,8 +121,11 @@ module _ (n i : ℕ) (old now : List Slot) (below : ChangedBelow (Becomes (forke
         | inl small ↦
             let to : (to : Slot) × ((slice_get now s ≡ Some to) × Becomes (forked_leaves n) (forked_state n) was.0 to) = below.done s was.0 small was.1 in
             let is : to.0 ≡ it = ap (λ o. unwrap_or o it) (sym to.1.0 ∙ found) in
-            let account : (account : CellAccount) × StandsFor was.0.cell account = known s was.0 was.1 in
-            (record { state = forked_state n account.0.state; made = account.0.made }, subst (λ slot. StandsFor slot.cell (record { state = forked_state n account.0.state; made = account.0.made })) is (to.1.1.stands account.0.state account.0.made account.1))
+            let account : (account : CellAccount) × StandsFor was.0.cell account = known s was.0 was.1 in (
+              record { state = forked_state n account.0.state; made = account.0.made },
+              subst
+                  (λ slot. StandsFor slot.cell (record { state = forked_state n account.0.state; made = account.0.made })) is (to.1.1.stands account.0.state account.0.made account.1),
+            )
         | inr more ↦ known s it (sym (below.rest s more) ∙ found)
       ]
 
@@ -135,7 +144,8 @@ module _ (n i : ℕ) (old now : List Slot) (below : ChangedBelow (Becomes (forke
   }
 
 -- the same sum over slots that are alike one by one
-pub sums-same : (f : Slot → ℕ) (old new : List Slot) → length new ≡ length old → ((s : ℕ) (slot : Slot) → slice_get old s ≡ Some slot → (it : Slot) × ((slice_get new s ≡ Some it) × (f it ≡ f slot))) → sum_by f new ≡ sum_by f old
+pub sums-same : (f : Slot → ℕ) (old new : List Slot) → length new ≡ length old
+    → ((s : ℕ) (slot : Slot) → slice_get old s ≡ Some slot → (it : Slot) × ((slice_get new s ≡ Some it) × (f it ≡ f slot))) → sum_by f new ≡ sum_by f old
 sums-same f [] [] size each = refl
 sums-same f [] (it ∷ new) size each = absurd (omega arith)
 sums-same f (slot ∷ old) [] size each = absurd (omega arith)
@@ -160,7 +170,8 @@ count-next slots i slot here = by (is_forked slot) refl
 
     by : (b : Bool) → is_forked slot ≡ b → forked_count (take (i + 1) slots) ≡ forked_count (take i slots) + cond b 1 0
     by true is = count_by_more_yes is_forked slots i slot (slice_get_within slots i slot here) (read true is)
-    by false is = let same : forked_count (take (i + 1) slots) ≡ forked_count (take i slots) = count_by_more_no is_forked slots i slot (slice_get_within slots i slot here) (read false is) in omega (arith, same)
+    by false is = let same : forked_count (take (i + 1) slots) ≡ forked_count (take i slots) =
+        count_by_more_no is_forked slots i slot (slice_get_within slots i slot here) (read false is) in omega (arith, same)
 
 pub count-within : (slots : List Slot) (i : ℕ) → forked_count (take i slots) ≤ forked_count slots
 count-within [] zero = omega arith
@@ -176,14 +187,17 @@ count-within (slot ∷ slots) (suc i) =
 pub shares-next : (n : ℕ) (now : List Slot) (i : ℕ) (slot new : Slot) → slice_get now i ≡ Some slot → slot.cell.leaves.kept ≡ [] → Becomes (forked_leaves n) (forked_state n) slot new
     → shares_in (slice_set now i new) ≡ shares_in now + cond (is_forked slot) 1 0
 shares-next n now i slot new here alone become =
-    let sums : shares_in (slice_set now i new) + share (slice_index_or now i slot).cell.leaves ≡ shares_in now + share new.cell.leaves = sum_by-set (λ it. share it.cell.leaves) now i new slot (slice_get_within now i slot here) in
+    let sums : shares_in (slice_set now i new) + share (slice_index_or now i slot).cell.leaves ≡ shares_in now + share new.cell.leaves =
+    sum_by-set (λ it. share it.cell.leaves) now i new slot (slice_get_within now i slot here) in
     let was : share (slice_index_or now i slot).cell.leaves ≡ share slot.cell.leaves = ap (λ it. share it.cell.leaves) (get_or_from_slice_get now i slot slot here) in
     let more : share new.cell.leaves ≡ share slot.cell.leaves + cond (is_forked slot) 1 0 = ap share become.leaves_then
-    ∙ elim (has_pages slot.cell.leaves.parent) as (λ b. share (cond b (with_fork n Eager Own slot.cell.leaves) slot.cell.leaves) ≡ share slot.cell.leaves + cond b 1 0) [ true ↦ share-forked n slot.cell.leaves alone | false ↦ omega arith ] in
+    ∙ elim (has_pages slot.cell.leaves.parent) as (λ b. share (cond b (with_fork n Eager Own slot.cell.leaves) slot.cell.leaves)
+    ≡ share slot.cell.leaves + cond b 1 0) [ true ↦ share-forked n slot.cell.leaves alone | false ↦ omega arith ] in
     omega (arith, sums, was, more)
 
 -- the leaf of one slot was refused, and those before it are given back
-pub refused-behind : {State : Type 0} (goes : State → Deal → State → Type 0) (slots : List Slot) (i : ℕ) (slot : Slot) (at n : ℕ) (old granted_then refused_then new : State) → slice_get slots i ≡ Some slot
+pub refused-behind : {State : Type 0} (goes : State → Deal → State → Type 0) (slots : List Slot) (i : ℕ) (slot : Slot) (at n : ℕ) (old granted_then refused_then new : State)
+    → slice_get slots i ≡ Some slot
     → LeadsAlong goes old (granted (replicate (forked_count (take i slots)) want.Leaf)) granted_then → RefusesOne goes granted_then (replicate (cond (is_forked slot) 1 0) want.Leaf) at refused_then
     → LeadsAlong goes refused_then (returned n) new → n ≡ forked_count (take i slots) → RefusesOne goes old (replicate (forked_count slots) want.Leaf) at new
 refused-behind goes slots i slot at n old granted_then refused_then new here before refused after count =
@@ -205,9 +219,11 @@ module _ {State : Type 0} (goes : State → Deal → State → Type 0) where
   pub none-returned : (state : State) (slots : List Slot) → Returning goes state state slots slots
   none-returned state slots = record { count = 0; led = refl; shrunk = omega arith }
 
-  pub more-returned : (from mid to : State) (old now : List Slot) (i : ℕ) (slot new : Slot) → Returning goes from mid old now → slice_get now i ≡ Some slot → Returning goes mid to (slot ∷ []) (new ∷ []) → Returning goes from to old (slice_set now i new)
+  pub more-returned : (from mid to : State) (old now : List Slot) (i : ℕ) (slot new : Slot) → Returning goes from mid old now → slice_get now i ≡ Some slot
+      → Returning goes mid to (slot ∷ []) (new ∷ []) → Returning goes from to old (slice_set now i new)
   more-returned from mid to old now i slot new before here one =
-      let sums : shares_in (slice_set now i new) + share (slice_index_or now i slot).cell.leaves ≡ shares_in now + share new.cell.leaves = sum_by-set (λ it. share it.cell.leaves) now i new slot (slice_get_within now i slot here) in
+      let sums : shares_in (slice_set now i new) + share (slice_index_or now i slot).cell.leaves ≡ shares_in now + share new.cell.leaves =
+      sum_by-set (λ it. share it.cell.leaves) now i new slot (slice_get_within now i slot here) in
       let was : share (slice_index_or now i slot).cell.leaves ≡ share slot.cell.leaves = ap (λ it. share it.cell.leaves) (get_or_from_slice_get now i slot slot here) in
       let shrunk : before.count + shares_in now ≡ shares_in old = before.shrunk in
       let less : one.count + shares_in (new ∷ []) ≡ shares_in (slot ∷ []) = one.shrunk in

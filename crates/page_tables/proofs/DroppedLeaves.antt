@@ -72,7 +72,8 @@ module _ (leaves : Leaves) (c : ℕ) (new : CellLeaves) where
 
   all-left : (P : CellLeaves → Type 0) (es : Leaves) → AllByRecursion (λ e. P e.1) es → AllByRecursion (λ e. P e.1) (filter (λ e. others e.0) es)
   all-left P [] h = tt
-  all-left P (e ∷ es) h = elim (others e.0) as (λ b. AllByRecursion (λ e. P e.1) (cond b (e ∷ filter (λ e. others e.0) es) (filter (λ e. others e.0) es))) [ true ↦ (h.0, all-left P es h.1) | false ↦ all-left P es h.1 ]
+  all-left P (e ∷ es) h = elim (others e.0) as
+      (λ b. AllByRecursion (λ e. P e.1) (cond b (e ∷ filter (λ e. others e.0) es) (filter (λ e. others e.0) es))) [ true ↦ (h.0, all-left P es h.1) | false ↦ all-left P es h.1 ]
 
   pub kept-left : length new.parent ≡ 512 → AreUnjoined new.kept → AreKept leaves → AreKept (with_cell leaves c new)
   kept-left size unjoined kept = by (is_used new) refl
@@ -96,20 +97,23 @@ module _ (leaves : Leaves) (c : ℕ) (new : CellLeaves) where
 
 unjoined-without : (n : ℕ) (kept : List Kept) → AreUnjoined kept → AreUnjoined (without_kept n kept)
 unjoined-without n [] h = tt
-unjoined-without n (it ∷ others) h = elim (it.number == n) as (λ b. AreUnjoined (cond (not b) (it ∷ without_kept n others) (without_kept n others))) [ true ↦ unjoined-without n others h.1 | false ↦ (h.0, unjoined-without n others h.1) ]
+unjoined-without n (it ∷ others) h = elim (it.number == n) as
+    (λ b. AreUnjoined (cond (not b) (it ∷ without_kept n others) (without_kept n others))) [ true ↦ unjoined-without n others h.1 | false ↦ (h.0, unjoined-without n others h.1) ]
 
 -- a snapshot that does not have a cell is not missed there
 not-missed : (n : ℕ) (kept : List Kept) → is_some (kept_by kept n) ≡ false → without_kept n kept ≡ kept
 not-missed n [] none = refl
-not-missed n (it ∷ others) none = elim (it.number == n) as (λ b. is_some (cond b (Some it) (kept_by others n)) ≡ false → cond (not b) (it ∷ without_kept n others) (without_kept n others) ≡ it ∷ others) [
-  | true ↦ λ e. absurd (false≢true (sym e))
-  | false ↦ λ e. ap (λ ks. it ∷ ks) (not-missed n others e)
-] none
+not-missed n (it ∷ others) none = elim (it.number == n) as (λ b. is_some (cond b (Some it) (kept_by others n)) ≡ false
+    → cond (not b) (it ∷ without_kept n others) (without_kept n others) ≡ it ∷ others) [
+      | true ↦ λ e. absurd (false≢true (sym e))
+      | false ↦ λ e. ap (λ ks. it ∷ ks) (not-missed n others e)
+    ] none
 
 pub kept-dropped : (n : ℕ) (cells : List ℕ) (leaves : Leaves) → AreKept leaves → AreKept (without_snapshot_at cells n leaves)
 kept-dropped n [] leaves kept = kept
 kept-dropped n (c ∷ cells) leaves kept =
-    kept-dropped n cells (with_cell leaves c (without_snapshot n (cell_at leaves c))) (kept-left leaves c (without_snapshot n (cell_at leaves c)) (kept.sizes c) (unjoined-without n (cell_at leaves c).kept (kept.unjoined c)) kept)
+    kept-dropped n cells (with_cell leaves c (without_snapshot n (cell_at leaves c)))
+    (kept-left leaves c (without_snapshot n (cell_at leaves c)) (kept.sizes c) (unjoined-without n (cell_at leaves c).kept (kept.unjoined c)) kept)
 
 dropped-cell : (n : ℕ) {X : Type 0} (fs : List (ℕ × X)) → T (is_sorted nat_cmp fs) → (leaves : Leaves) → AreKept leaves → (c : ℕ)
     → cell_at (without_snapshot_at (map (λ f. f.0) fs) n leaves) c ≡ cond (is_some (find nat_cmp c fs)) (without_snapshot n (cell_at leaves c)) (cell_at leaves c)
@@ -136,7 +140,8 @@ pub cell-dropped : (n : ℕ) (leaves : Leaves) → AreKept leaves → (c : ℕ) 
 cell-dropped n leaves kept c =
     dropped-cell n (filter (λ e. is_some (kept_by e.1.kept n)) leaves) (sorted-filter (λ cell. is_some (kept_by cell.kept n)) leaves kept.sorted) leaves kept c
     ∙ ap (λ b. cond b (without_snapshot n (cell_at leaves c)) (cell_at leaves c)) (is_some-filter (λ cell. is_some (kept_by cell.kept n)) c leaves kept.sorted ∙ passed)
-    ∙ elim (is_some (kept_by (cell_at leaves c).kept n)) as (λ b. is_some (kept_by (cell_at leaves c).kept n) ≡ b → cond b (without_snapshot n (cell_at leaves c)) (cell_at leaves c) ≡ without_snapshot n (cell_at leaves c)) [
+    ∙ elim (is_some (kept_by (cell_at leaves c).kept n)) as (λ b. is_some (kept_by (cell_at leaves c).kept n) ≡ b
+    → cond b (without_snapshot n (cell_at leaves c)) (cell_at leaves c) ≡ without_snapshot n (cell_at leaves c)) [
       | true ↦ λ e. refl
       | false ↦ λ e. ap (λ kept. record (cell_at leaves c) { kept = kept }) (sym (not-missed n (cell_at leaves c).kept e))
     ] refl

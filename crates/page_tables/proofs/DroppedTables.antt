@@ -39,7 +39,8 @@ use Rattle.page_tables.proofs.DroppedLeaves.{unused-pages, unused-is, kept-dropp
 
 -- ---- a cell that nobody has any more
 
-pub stands-empty : (view : CellView) (state : CellState) (made : ℕ) → StandsFor view (record { state = state; made = made }) → state.leaves ≡ unused_cell → StandsFor view (record { state = empty_state; made = made })
+pub stands-empty : (view : CellView) (state : CellState) (made : ℕ) → StandsFor view (record { state = state; made = made })
+    → state.leaves ≡ unused_cell → StandsFor view (record { state = empty_state; made = made })
 stands-empty view state made stands none =
     let alone : view.leaves.kept ≡ [] = alone-viewed view (record { state = state; made = made }) stands (ap (λ cell. cell.kept) none) in
     let bare : has_pages view.leaves.parent ≡ false = pages-alike view (record { state = state; made = made }) stands ∙ ap (λ cell. has_pages cell.parent) none in
@@ -73,7 +74,8 @@ last-gone n true (it ∷ []) e =
 last-gone n true (it ∷ other ∷ others) e = let l : length (map (λ (k : Kept). k.number) (it ∷ other ∷ others)) ≡ 1 = ap length e in absurd (omega arith)
 
 -- owners that have all changed alike
-owners-mapped : (f : Option ℕ → Option ℕ) → f None ≡ None → (old new : List Slot) → length new ≡ length old → ((s : ℕ) (slot : Slot) → slice_get old s ≡ Some slot → (it : Slot) × ((slice_get new s ≡ Some it) × (it.owner ≡ f slot.owner)))
+owners-mapped : (f : Option ℕ → Option ℕ) → f None ≡ None → (old new : List Slot) → length new ≡ length old
+    → ((s : ℕ) (slot : Slot) → slice_get old s ≡ Some slot → (it : Slot) × ((slice_get new s ≡ Some it) × (it.owner ≡ f slot.owner)))
     → (t : ℕ) → owner_at new t ≡ f (owner_at old t)
 owners-mapped f none [] [] size each t = sym none
 owners-mapped f none [] (it ∷ new) size each t = absurd (omega arith)
@@ -85,7 +87,8 @@ owners-mapped f none (slot ∷ old) (it ∷ new) size each (suc t) = owners-mapp
 
 -- slots with the same cells
 pub freed-sum : (f : Slot → ℕ) → ((slot it : Slot) → it.cell ≡ slot.cell → f it ≡ f slot) → (old new : List Slot) → AreFreed old new → sum_by f new ≡ sum_by f old
-freed-sum f same old new freed = sums-same f old new freed.size (λ s slot here. let it : (it : Slot) × ((slice_get new s ≡ Some it) × ((it.cell ≡ slot.cell) × (it.owner ≡ owner_if_used slot))) = freed.each s slot here in (it.0, (it.1.0, same slot it.0 it.1.1.0)))
+freed-sum f same old new freed = sums-same f old new freed.size (λ s slot here. let it : (it : Slot) × ((slice_get new s ≡ Some it) × ((it.cell ≡ slot.cell) × (it.owner ≡ owner_if_used slot))) =
+    freed.each s slot here in (it.0, (it.1.0, same slot it.0 it.1.1.0)))
 
 -- a slot behind the drop, with the owner that is left
 record IsLeft (n : ℕ) (slot : Slot) (new : List Slot) (s : ℕ) (owner : Option ℕ) : Type 0 where
@@ -140,7 +143,8 @@ module _ (directory : CellMap) (tables : SnapshotTables) (slots : List Slot) (si
       by false unused e = absurd (false≢true (ap is_some e))
 
   -- what a cell stands for behind the drop
-  stood : (slot to : Slot) (s : ℕ) → slice_get slots s ≡ Some slot → Becomes (without_snapshot n) (dropped_state n) slot to → StandsFor to.cell (record { state = dropped_state n (state_in st.cells slot.owner); made = sides.made })
+  stood : (slot to : Slot) (s : ℕ) → slice_get slots s ≡ Some slot → Becomes (without_snapshot n) (dropped_state n) slot to
+      → StandsFor to.cell (record { state = dropped_state n (state_in st.cells slot.owner); made = sides.made })
   stood slot to s here become = become.stands (state_in st.cells slot.owner) sides.made (st.slots_of.stands s slot here)
 
   leaves-dropped : (c : ℕ) → (dropped_state n (st.cells c)).leaves ≡ cell_at leaves_left c
@@ -155,7 +159,8 @@ module _ (directory : CellMap) (tables : SnapshotTables) (slots : List Slot) (si
     where
       by : (owner : Option ℕ) → StandsFor to.cell (record { state = dropped_state n (state_in st.cells owner); made = sides.made }) → cond (is_used to.cell.leaves) owner None ≡ still owner
       by None stands = elim (is_used to.cell.leaves) as (λ b. cond {A = Option ℕ} b None None ≡ None) [ true ↦ refl | false ↦ refl ]
-      by (Some c) stands = ap (λ b. cond b (Some c) None) (used-viewed to.cell (record { state = dropped_state n (st.cells c); made = sides.made }) stands (kept-gone c) ∙ ap is_used (leaves-dropped c))
+      by (Some c) stands = ap (λ b. cond b (Some c) None)
+          (used-viewed to.cell (record { state = dropped_state n (st.cells c); made = sides.made }) stands (kept-gone c) ∙ ap is_used (leaves-dropped c))
 
   -- the changed slots, and those with their owners taken
   both : (s : ℕ) (slot : Slot) → slice_get slots s ≡ Some slot → IsLeft n slot new s (still slot.owner)
@@ -177,7 +182,8 @@ module _ (directory : CellMap) (tables : SnapshotTables) (slots : List Slot) (si
   cells_left c = cond (used_left c) (here_left c) empty_state
 
   -- a cell stands for what is left
-  as-left : (to : CellView) (owner : Option ℕ) → StandsFor to (record { state = dropped_state n (state_in st.cells owner); made = sides.made }) → StandsFor to (record { state = state_in cells_left (still owner); made = sides.made })
+  as-left : (to : CellView) (owner : Option ℕ) → StandsFor to (record { state = dropped_state n (state_in st.cells owner); made = sides.made })
+      → StandsFor to (record { state = state_in cells_left (still owner); made = sides.made })
   as-left to None stands = stands-alone to (dropped_state n empty_state) empty_state sides.made stands refl refl refl
   as-left to (Some c) stands = by (used_left c) refl
     where
@@ -297,8 +303,10 @@ drop-runs n leaves made total falls = record {
   };
 }
 
-pub drop-made : (old : PageTables) (tables : SnapshotTables) → old.snapshot ≡ Some tables → {State : Type 0} (goes : State → Deal → State → Type 0) (from between to : State) (new : PageTables) (mid : List Slot)
-    → AllBecome (without_snapshot tables.number) (dropped_state tables.number) old.slots.items mid → AreFreed mid new.slots.items → Returning goes from between old.slots.items mid → LeadsAlong goes between (returned (tables_of tables.directory)) to
+pub drop-made : (old : PageTables) (tables : SnapshotTables) → old.snapshot ≡ Some tables
+    → {State : Type 0} (goes : State → Deal → State → Type 0) (from between to : State) (new : PageTables) (mid : List Slot)
+    → AllBecome (without_snapshot tables.number) (dropped_state tables.number) old.slots.items mid → AreFreed mid new.slots.items
+    → Returning goes from between old.slots.items mid → LeadsAlong goes between (returned (tables_of tables.directory)) to
     → new.directory ≡ old.directory → new.snapshot ≡ None → (number : ℕ) → number_of old.snapshot ≡ Some number
     → MadeOfSnapshots goes from to (snapshot_dropped number) (snapshots_without number) old new None
 drop-made old tables lives goes from between to new mid dropped freed back tables_back same gone number is =
@@ -306,7 +314,8 @@ drop-made old tables lives goes from between to new mid dropped freed back table
     let named : tables.number ≡ number = ap (λ o. unwrap_or o number) (sym (ap number_of lives) ∙ is) in
     subst (λ n. MadeOfSnapshots goes from to (snapshot_dropped n) (snapshots_without n) old new None) named (record {
       deals = returned total;
-      led = subst (λ ds. LeadsAlong goes from ds to) (returned-append back.count (tables_of tables.directory)) (LeadsAlong-append goes (returned back.count) (returned (tables_of tables.directory)) from between to back.led tables_back);
+      led = subst (λ ds. LeadsAlong goes from ds to) (returned-append back.count (tables_of tables.directory))
+          (LeadsAlong-append goes (returned back.count) (returned (tables_of tables.directory)) from between to back.led tables_back);
       follows = λ sides st.
           let stood : StandFor old.directory (Some tables) old.slots.items sides = subst (λ snapshot. StandFor old.directory snapshot old.slots.items sides) lives st in
           let then : Sides = sides_left old.directory tables old.slots.items sides stood mid new.slots.items dropped freed in
@@ -314,6 +323,8 @@ drop-made old tables lives goes from between to new mid dropped freed back table
             leaves = then.leaves;
             made = sides.made;
             runs = drop-runs tables.number sides.leaves sides.made total (frames-left old.directory tables old.slots.items sides stood mid new.slots.items dropped freed back.count back.shrunk);
-            stands = subst (λ d. StandFor d new.snapshot new.slots.items then) (sym same) (subst (λ snapshot. StandFor old.directory snapshot new.slots.items then) (sym gone) (stands-dropped old.directory tables old.slots.items sides stood mid new.slots.items dropped freed));
+            stands = subst (λ d. StandFor d new.snapshot new.slots.items then) (sym same)
+                (subst (λ snapshot. StandFor old.directory snapshot new.slots.items then) (sym gone)
+                (stands-dropped old.directory tables old.slots.items sides stood mid new.slots.items dropped freed));
           };
     })

@@ -42,7 +42,8 @@ pub alone-viewed : (view : CellView) (account : CellAccount) → StandsFor view 
 alone-viewed view account stands alone = alike-none stands.name view.leaves.kept (subst (λ kept. AreKeptAlike stands.name view.leaves.kept kept) alone stands.leaves.kept)
 
 -- a cell without snapshots stands for an account with any pages of snapshots
-pub stands-alone : (view : CellView) (state other : CellState) (made : ℕ) → StandsFor view (record { state = state; made = made }) → other.leaves ≡ state.leaves → other.pages ≡ state.pages → state.leaves.kept ≡ []
+pub stands-alone : (view : CellView) (state other : CellState) (made : ℕ) → StandsFor view (record { state = state; made = made })
+    → other.leaves ≡ state.leaves → other.pages ≡ state.pages → state.leaves.kept ≡ []
     → StandsFor view (record { state = other; made = made })
 stands-alone view state other made stands leaves pages alone =
     let none : view.leaves.kept ≡ [] = alone-viewed view (record { state = state; made = made }) stands alone in
@@ -95,7 +96,8 @@ module _ (n : ℕ) (leaves : CellLeaves) (alone : leaves.kept ≡ []) where
   lived-before page version (inr named) = named-before page version (subst (λ kept. IsNamedBy page version (with_kept new_kept kept)) alone named)
 
 -- a cell where the parent has a page was forked
-pub fork-becomes : (n : ℕ) (old : Slot) (view : CellView) (deals : List Deal) → old.cell.leaves.kept ≡ [] → has_pages old.cell.leaves.parent ≡ true → view.leaves ≡ with_fork n Eager Own old.cell.leaves
+pub fork-becomes : (n : ℕ) (old : Slot) (view : CellView) (deals : List Deal) → old.cell.leaves.kept ≡ []
+    → has_pages old.cell.leaves.parent ≡ true → view.leaves ≡ with_fork n Eager Own old.cell.leaves
     → ((account : CellAccount) → StandsFor old.cell account → TakesAccount (Fork n Eager 0) old.cell view deals None account)
     → Becomes (forked_leaves n) (forked_state n) old (record { owner = old.owner; cell = view })
 fork-becomes n old view deals alone there leaves follows = record {
@@ -119,7 +121,8 @@ fork-becomes n old view deals alone there leaves follows = record {
       subst (λ b. StandsFor view (record { state = cond b then state; made = made })) (sym has) at_once;
 }
 
-pub fork-becomes-ok : {State : Type 0} (goes : State → Deal → State → Type 0) (from to : State) (n : ℕ) (old : Slot) (view : CellView) → old.cell.leaves.kept ≡ [] → has_pages old.cell.leaves.parent ≡ true
+pub fork-becomes-ok : {State : Type 0} (goes : State → Deal → State → Type 0) (from to : State) (n : ℕ) (old : Slot) (view : CellView)
+    → old.cell.leaves.kept ≡ [] → has_pages old.cell.leaves.parent ≡ true
     → (result : Result (Unit {0}) Refused) → OnOk result (view.leaves ≡ with_fork n Eager Own old.cell.leaves) → MadeAct goes from to (Fork n Eager 0) old.cell view (refused_count result)
     → OnOk result (Becomes (forked_leaves n) (forked_state n) old (record { owner = old.owner; cell = view }))
 fork-becomes-ok goes from to n old view alone there (Ok done) leaves made = fork-becomes n old view made.deals alone there leaves made.follows
@@ -132,11 +135,14 @@ unforked-becomes n old none = record {
   leaves_then = sym (ap (λ b. cond b (with_fork n Eager Own old.cell.leaves) old.cell.leaves) none);
   stands = λ state made stands.
       let lacks : has_pages state.leaves.parent ≡ false = sym (pages-alike old.cell (record { state = state; made = made }) stands) ∙ none in
-      subst (λ b. StandsFor old.cell (record { state = cond b (record { leaves = with_fork n Eager Own state.leaves; pages = state.pages; snapshots = insert state.snapshots n state.pages }) state; made = made })) (sym lacks) stands;
+      subst (λ b. StandsFor old.cell
+      (record { state = cond b (record { leaves = with_fork n Eager Own state.leaves; pages = state.pages; snapshots = insert state.snapshots n state.pages }) state; made = made }))
+      (sym lacks) stands;
 }
 
 -- one leaf was asked for
-pub fork-asks : {State : Type 0} (goes : State → Deal → State → Type 0) (from to : State) (n : ℕ) (view new : CellView) (account : CellAccount) → StandsFor view account → (result : Result (Unit {0}) Refused)
+pub fork-asks : {State : Type 0} (goes : State → Deal → State → Type 0) (from to : State) (n : ℕ) (view new : CellView) (account : CellAccount)
+    → StandsFor view account → (result : Result (Unit {0}) Refused)
     → MadeAct goes from to (Fork n Eager 0) view new (refused_count result) → Asks goes from (want.Leaf ∷ []) result to
 fork-asks goes from to n view new account stands (Ok done) made =
     subst (λ ds. LeadsAlong goes from ds to) (fork-deals n 0 view new made.deals None account (made.follows account stands)) made.led

@@ -63,18 +63,22 @@ module _ (directory : CellMap) (slots : List Slot) (sides : Sides) (st : StandFo
     alone c = no-numbers (cell_at sides.leaves c).kept (st.snapshot_of.numbers c)
 
     owner_then : (t : ℕ) → owner_at new t ≡ owner_at slots t
-    owner_then = owners-same slots new become.size (λ s slot here. let it : (it : Slot) × ((slice_get new s ≡ Some it) × Becomes (forked_leaves n) (forked_state n) slot it) = become.each s slot here in (it.0, (it.1.0, it.1.1.owner)))
+    owner_then = owners-same slots new become.size (λ s slot here. let it : (it : Slot) × ((slice_get new s ≡ Some it) × Becomes (forked_leaves n) (forked_state n) slot it) =
+        become.each s slot here in (it.0, (it.1.0, it.1.1.owner)))
 
     parent_then : (c : ℕ) → (cell_at leaves_then c).parent ≡ (cell_at sides.leaves c).parent
     parent_then c = ap (λ cell. cell.parent) (cell_then c)
-        ∙ elim (has_pages (cell_at sides.leaves c).parent) as (λ b. (cond b (with_fork n Eager Own (cell_at sides.leaves c)) (cell_at sides.leaves c)).parent ≡ (cell_at sides.leaves c).parent) [ true ↦ refl | false ↦ refl ]
+        ∙ elim (has_pages (cell_at sides.leaves c).parent) as
+        (λ b. (cond b (with_fork n Eager Own (cell_at sides.leaves c)) (cell_at sides.leaves c)).parent ≡ (cell_at sides.leaves c).parent) [ true ↦ refl | false ↦ refl ]
 
     -- a page of a snapshot at a cell
     abbrev page_at : ℕ → ℕ → Option PageMap → Option (List ℕ)
     page_at c p pages = option_and_then (λ it. get it (c * 512 + p)) pages
 
     snapshots_then : (m c p : ℕ) → p < 512 → (b : Bool) → has_pages (st.cells c).leaves.parent ≡ b
-        → option_and_then (λ it. get it p) (get (cond b (record { leaves = with_fork n Eager Own (st.cells c).leaves; pages = (st.cells c).pages; snapshots = insert (st.cells c).snapshots n (st.cells c).pages }) (st.cells c)).snapshots m)
+        → option_and_then (λ it. get it p)
+        (get (cond b (record { leaves = with_fork n Eager Own (st.cells c).leaves; pages = (st.cells c).pages; snapshots = insert (st.cells c).snapshots n (st.cells c).pages })
+        (st.cells c)).snapshots m)
         ≡ page_at c p (get (insert sides.snapshots n sides.pages) m)
     snapshots_then m c p small true there = elim (cases_eq m n) [
       | inl same ↦ ap (option_and_then (λ it. get it p)) (get_inserted_here (st.cells c).snapshots n (st.cells c).pages m same) ∙ st.each.pages c p small
@@ -83,7 +87,8 @@ module _ (directory : CellMap) (slots : List Slot) (sides : Sides) (st : StandFo
           ∙ sym (ap (page_at c p) (get_inserted_apart sides.snapshots n sides.pages m apart))
     ]
     snapshots_then m c p small false none = st.each.snapshots m c p small ∙ ap (page_at c p) (none-lives m) ∙ elim (cases_eq m n) [
-      | inl same ↦ sym (ap (page_at c p) (get_inserted_here sides.snapshots n sides.pages m same) ∙ no-page directory None slots sides st c p (ap (λ cell. has_pages cell.parent) (sym (st.each.leaves c)) ∙ none) small)
+      | inl same ↦ sym (ap (page_at c p) (get_inserted_here sides.snapshots n sides.pages m same)
+          ∙ no-page directory None slots sides st c p (ap (λ cell. has_pages cell.parent) (sym (st.each.leaves c)) ∙ none) small)
       | inr apart ↦ sym (ap (page_at c p) (get_inserted_apart sides.snapshots n sides.pages m apart ∙ none-lives m))
     ]
 
@@ -97,7 +102,8 @@ module _ (directory : CellMap) (slots : List Slot) (sides : Sides) (st : StandFo
     numbers_then : (c : ℕ) → map (λ it. it.number) (cell_at leaves_then c).kept ≡ cond (is_some (get directory c)) (n ∷ []) []
     numbers_then c =
         ap (λ cell. map (λ it. it.number) cell.kept) (cell_then c)
-        ∙ elim (has_pages (cell_at sides.leaves c).parent) as (λ b. map (λ it. it.number) (cond b (with_fork n Eager Own (cell_at sides.leaves c)) (cell_at sides.leaves c)).kept ≡ cond b (n ∷ []) []) [
+        ∙ elim (has_pages (cell_at sides.leaves c).parent) as
+        (λ b. map (λ it. it.number) (cond b (with_fork n Eager Own (cell_at sides.leaves c)) (cell_at sides.leaves c)).kept ≡ cond b (n ∷ []) []) [
           | true ↦ ap (λ kept. map (λ it. it.number) (with_kept (record { number = n; mode = Eager; versions = (cell_at sides.leaves c).parent; leaf = Own }) kept)) (alone c)
           | false ↦ ap (map (λ it. it.number)) (alone c)
         ]
@@ -111,7 +117,8 @@ module _ (directory : CellMap) (slots : List Slot) (sides : Sides) (st : StandFo
 
     absent_then : (m c p : ℕ) → p < 512 → list_any (λ k. k == m) (cond (is_some (get directory c)) (n ∷ []) []) ≡ false → page_at c p (get (insert sides.snapshots n sides.pages) m) ≡ None
     absent_then m c p small lacks = elim (cases_eq m n) [
-      | inl same ↦ ap (page_at c p) (get_inserted_here sides.snapshots n sides.pages m same) ∙ no-page directory None slots sides st c p (sym (st.parent c) ∙ by (is_some (get directory c)) refl same) small
+      | inl same ↦ ap (page_at c p) (get_inserted_here sides.snapshots n sides.pages m same)
+          ∙ no-page directory None slots sides st c p (sym (st.parent c) ∙ by (is_some (get directory c)) refl same) small
       | inr apart ↦ ap (page_at c p) (get_inserted_apart sides.snapshots n sides.pages m apart ∙ none-lives m)
     ]
       where
@@ -156,7 +163,8 @@ module _ (directory : CellMap) (slots : List Slot) (sides : Sides) (st : StandFo
   }
     where
       same : (t : ℕ) → owner_at new t ≡ owner_at slots t
-      same = owners-same slots new become.size (λ s slot here. let it : (it : Slot) × ((slice_get new s ≡ Some it) × Becomes same_leaves same_state slot it) = become.each s slot here in (it.0, (it.1.0, it.1.1.owner)))
+      same = owners-same slots new become.size (λ s slot here. let it : (it : Slot) × ((slice_get new s ≡ Some it) × Becomes same_leaves same_state slot it) =
+          become.each s slot here in (it.0, (it.1.0, it.1.1.owner)))
 
 -- what the fork asked for
 abbrev pub asked_wants : CellMap → List Slot → List Want
@@ -169,11 +177,14 @@ module _ (old : PageTables) (none : old.snapshot ≡ None) where
   wanted : (sides : Sides) → TablesStandFor old sides → fork_wants Eager (parent_cells sides.leaves) ≡ asked_wants old.directory old.slots.items
   wanted sides st =
       let cells : keys old.directory ≡ parent_cells sides.leaves = directory-cells old.directory old.snapshot old.slots.items sides st in
-      sym (ap (λ cells. directory_wants cells ++ replicate (forked_count old.slots.items) want.Leaf) cells ∙ same-fork (parent_cells sides.leaves) (forked_count old.slots.items) (forks-counted old.directory old.snapshot old.slots.items sides st))
+      sym (ap (λ cells. directory_wants cells ++ replicate (forked_count old.slots.items) want.Leaf) cells
+      ∙ same-fork (parent_cells sides.leaves) (forked_count old.slots.items) (forks-counted old.directory old.snapshot old.slots.items sides st))
 
   -- the snapshot is there
-  pub fork-made : {State : Type 0} (goes : State → Deal → State → Type 0) (from to : State) (n : ℕ) (child : CellMap) (new : PageTables) → LeadsAlong goes from (granted (asked_wants old.directory old.slots.items)) to
-      → AllBecome (forked_leaves n) (forked_state n) old.slots.items new.slots.items → child ≡ old.directory → new.directory ≡ old.directory → new.snapshot ≡ Some (record { number = n; directory = child })
+  pub fork-made : {State : Type 0} (goes : State → Deal → State → Type 0) (from to : State) (n : ℕ) (child : CellMap) (new : PageTables)
+      → LeadsAlong goes from (granted (asked_wants old.directory old.slots.items)) to
+      → AllBecome (forked_leaves n) (forked_state n) old.slots.items new.slots.items → child ≡ old.directory
+      → new.directory ≡ old.directory → new.snapshot ≡ Some (record { number = n; directory = child })
       → MadeOfSnapshots goes from to (snapshot_forked n Eager) (snapshots_with n) old new None
   fork-made goes from to n child new led become copied same there = record {
     deals = granted (asked_wants old.directory old.slots.items);
@@ -183,7 +194,8 @@ module _ (old : PageTables) (none : old.snapshot ≡ None) where
         let later : ℕ = sides.made + length wants in
         let then : Sides = record { leaves = with_fork_at (parent_cells sides.leaves) n Eager sides.leaves; pages = sides.pages; snapshots = insert sides.snapshots n sides.pages; made = later } in
         let whole : new.snapshot ≡ Some (record { number = n; directory = old.directory }) = there ∙ ap (λ d. Some (record { number = n; directory = d })) copied in
-        let stands : StandFor old.directory (Some (record { number = n; directory = old.directory })) new.slots.items then = stands-forked old.directory old.slots.items sides (stood sides st) n new.slots.items become later (omega arith) in
+        let stands : StandFor old.directory (Some (record { number = n; directory = old.directory })) new.slots.items then =
+        stands-forked old.directory old.slots.items sides (stood sides st) n new.slots.items become later (omega arith) in
         record {
           leaves = then.leaves;
           made = later;
@@ -193,7 +205,8 @@ module _ (old : PageTables) (none : old.snapshot ≡ None) where
   }
 
   -- or it was refused
-  pub fork-refused : {State : Type 0} (goes : State → Deal → State → Type 0) (from to : State) (n : ℕ) (new : PageTables) (at : ℕ) → Asks {X = Unit {0}} goes from (asked_wants old.directory old.slots.items) (Err (record { at = at })) to
+  pub fork-refused : {State : Type 0} (goes : State → Deal → State → Type 0) (from to : State) (n : ℕ) (new : PageTables) (at : ℕ)
+      → Asks {X = Unit {0}} goes from (asked_wants old.directory old.slots.items) (Err (record { at = at })) to
       → AllBecome same_leaves same_state old.slots.items new.slots.items → new.directory ≡ old.directory → new.snapshot ≡ None
       → MadeOfSnapshots goes from to (snapshot_forked n Eager) (snapshots_with n) old new (Some (record { at = at; page = None }))
   fork-refused goes from to n new at refuses become same gone = record {

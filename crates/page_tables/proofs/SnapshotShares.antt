@@ -42,7 +42,8 @@ inserted (x ∷ xs) ys z =
   where
     by : (s : Bool) → is_same_pair x z ≡ s → (a : Bool) → list_any (is_same_pair x) (xs ++ ys) ≡ a → (b : Bool) → list_any (is_same_pair z) (xs ++ ys) ≡ b
         → distinct_count (xs ++ z ∷ ys) + cond b 1 0 ≡ distinct_count (xs ++ ys) + 1
-        → length (cond (s || a) (distinct_pairs (xs ++ z ∷ ys)) (x ∷ distinct_pairs (xs ++ z ∷ ys))) + cond (s || b) 1 0 ≡ length (cond a (distinct_pairs (xs ++ ys)) (x ∷ distinct_pairs (xs ++ ys))) + 1
+        → length (cond (s || a) (distinct_pairs (xs ++ z ∷ ys)) (x ∷ distinct_pairs (xs ++ z ∷ ys))) + cond (s || b) 1 0
+        ≡ length (cond a (distinct_pairs (xs ++ ys)) (x ∷ distinct_pairs (xs ++ ys))) + 1
     by true s true a true b rest = rest
     by true s false a false b rest = omega (arith, rest)
     by true s true a false b rest = absurd (false≢true (sym b ∙ ap (λ w. list_any (is_same_pair w) (xs ++ ys)) (sym (same-pair x z s)) ∙ a))
@@ -56,7 +57,8 @@ grown xs [] ys = omega arith
 grown xs (z ∷ zs) ys =
     let rest : distinct_count (xs ++ ys) ≤ distinct_count (xs ++ (zs ++ ys)) = grown xs zs ys in
     let one : distinct_count (xs ++ z ∷ (zs ++ ys)) + cond (list_any (is_same_pair z) (xs ++ (zs ++ ys))) 1 0 ≡ distinct_count (xs ++ (zs ++ ys)) + 1 = inserted xs (zs ++ ys) z in
-    let small : cond (list_any (is_same_pair z) (xs ++ (zs ++ ys))) 1 0 ≤ 1 = elim (list_any (is_same_pair z) (xs ++ (zs ++ ys))) as (λ b. cond b 1 0 ≤ 1) [ true ↦ omega arith | false ↦ omega arith ] in
+    let small : cond (list_any (is_same_pair z) (xs ++ (zs ++ ys))) 1 0 ≤ 1 =
+    elim (list_any (is_same_pair z) (xs ++ (zs ++ ys))) as (λ b. cond b 1 0 ≤ 1) [ true ↦ omega arith | false ↦ omega arith ] in
     omega arith
 
 pairs-fall : (n : ℕ) (xs : List (ℕ × ℕ)) (kept : List Kept) → distinct_count (xs ++ flat_map pairs_of (without_kept n kept)) ≤ distinct_count (xs ++ flat_map pairs_of kept)
@@ -64,9 +66,11 @@ pairs-fall n xs [] = omega arith
 pairs-fall n xs (it ∷ others) =
     let less : distinct_count (xs ++ flat_map pairs_of (without_kept n others)) ≤ distinct_count (xs ++ flat_map pairs_of others) = pairs-fall n xs others in
     let more : distinct_count (xs ++ flat_map pairs_of others) ≤ distinct_count (xs ++ (pairs_of it ++ flat_map pairs_of others)) = grown xs (pairs_of it) (flat_map pairs_of others) in
-    let behind : distinct_count ((xs ++ pairs_of it) ++ flat_map pairs_of (without_kept n others)) ≤ distinct_count ((xs ++ pairs_of it) ++ flat_map pairs_of others) = pairs-fall n (xs ++ pairs_of it) others in
+    let behind : distinct_count ((xs ++ pairs_of it) ++ flat_map pairs_of (without_kept n others)) ≤ distinct_count ((xs ++ pairs_of it) ++ flat_map pairs_of others) =
+    pairs-fall n (xs ++ pairs_of it) others in
     let joined : (ys : List (ℕ × ℕ)) → distinct_count ((xs ++ pairs_of it) ++ ys) ≡ distinct_count (xs ++ (pairs_of it ++ ys)) = λ ys. ap distinct_count (append_assoc xs (pairs_of it) ys) in
-    elim (it.number == n) as (λ b. distinct_count (xs ++ flat_map pairs_of (cond (not b) (it ∷ without_kept n others) (without_kept n others))) ≤ distinct_count (xs ++ (pairs_of it ++ flat_map pairs_of others))) [
+    elim (it.number == n) as (λ b. distinct_count (xs ++ flat_map pairs_of (cond (not b) (it ∷ without_kept n others) (without_kept n others))) ≤ distinct_count
+    (xs ++ (pairs_of it ++ flat_map pairs_of others))) [
       | true ↦ omega (arith, less, more)
       | false ↦ omega (arith, behind, joined (flat_map pairs_of (without_kept n others)), joined (flat_map pairs_of others))
     ]
@@ -76,7 +80,8 @@ own-fall n [] = omega arith
 own-fall n (it ∷ others) =
     let rest : count_by (λ it. is_own it.leaf) (without_kept n others) ≤ count_by (λ it. is_own it.leaf) others = own-fall n others in
     let whole : count_by (λ it. is_own it.leaf) (it ∷ others) ≡ cond (is_own it.leaf) 1 0 + count_by (λ it. is_own it.leaf) others = sum_by-cons (λ it. cond (is_own it.leaf) 1 0) it others in
-    let part : count_by (λ it. is_own it.leaf) (it ∷ without_kept n others) ≡ cond (is_own it.leaf) 1 0 + count_by (λ it. is_own it.leaf) (without_kept n others) = sum_by-cons (λ it. cond (is_own it.leaf) 1 0) it (without_kept n others) in
+    let part : count_by (λ it. is_own it.leaf) (it ∷ without_kept n others) ≡ cond (is_own it.leaf) 1 0 + count_by (λ it. is_own it.leaf) (without_kept n others) =
+    sum_by-cons (λ it. cond (is_own it.leaf) 1 0) it (without_kept n others) in
     elim (it.number == n) as (λ b. count_by (λ it. is_own it.leaf) (cond (not b) (it ∷ without_kept n others) (without_kept n others)) ≤ count_by (λ it. is_own it.leaf) (it ∷ others)) [
       | true ↦ omega (arith, rest, whole)
       | false ↦ omega (arith, rest, whole, part)
@@ -116,4 +121,5 @@ forked-alone n parent =
     omega (arith, same)
 
 pub share-forked : (n : ℕ) (cell : CellLeaves) → cell.kept ≡ [] → share (with_fork n Eager Own cell) ≡ share cell + 1
-share-forked n cell alone = subst (λ kept. share (with_fork n Eager Own (record { parent = cell.parent; kept = kept })) ≡ share (record { parent = cell.parent; kept = kept }) + 1) (sym alone) (forked-alone n cell.parent)
+share-forked n cell alone = subst (λ kept. share (with_fork n Eager Own (record { parent = cell.parent; kept = kept })) ≡ share (record { parent = cell.parent; kept = kept }) + 1)
+    (sym alone) (forked-alone n cell.parent)

@@ -49,10 +49,12 @@ none-at (Some version ∷ versions) p none = absurd (false≢true (sym none))
 -- a sum of ones
 sum-ones : {X : Type 0} (es : List X) → sum_by (λ e. 1) es ≡ length es
 sum-ones [] = refl
-sum-ones (e ∷ es) = let rest : sum_by (λ (x : _). 1) es ≡ length es = sum-ones es in let whole : sum_by (λ (x : _). 1) (e ∷ es) ≡ 1 + sum_by (λ (x : _). 1) es = sum_by-cons (λ x. 1) e es in omega arith
+sum-ones (e ∷ es) = let rest : sum_by (λ (x : _). 1) es ≡ length es = sum-ones es in let whole : sum_by (λ (x : _). 1) (e ∷ es) ≡ 1 + sum_by (λ (x : _). 1) es =
+    sum_by-cons (λ x. 1) e es in omega arith
 
 -- the count of the owners follows
-pub counted-by : (leaves : Leaves) → T (is_sorted nat_cmp leaves) → (slots : List Slot) → ((s t c : ℕ) → owner_at slots s ≡ Some c → owner_at slots t ≡ Some c → s ≡ t) → ((s c : ℕ) → owner_at slots s ≡ Some c → IsSome (find nat_cmp c leaves))
+pub counted-by : (leaves : Leaves) → T (is_sorted nat_cmp leaves) → (slots : List Slot) → ((s t c : ℕ) → owner_at slots s ≡ Some c → owner_at slots t ≡ Some c → s ≡ t)
+    → ((s c : ℕ) → owner_at slots s ≡ Some c → IsSome (find nat_cmp c leaves))
     → ((c : ℕ) → IsSome (find nat_cmp c leaves) → (s : ℕ) × (owner_at slots s ≡ Some c)) → count_by (λ slot. is_some slot.owner) slots ≡ length leaves
 counted-by leaves sorted slots once used owned = owners-sum (λ owner. cond (is_some owner) 1 0) refl leaves sorted slots once used owned ∙ sum-ones leaves
 
@@ -79,7 +81,8 @@ module _ (directory : CellMap) (snapshot : Option SnapshotTables) (slots : List 
       (λ s slot here. ap (λ b. cond b 1 0) (pages-alike slot.cell (record { state = state_in st.cells slot.owner; made = sides.made }) (st.slots_of.stands s slot here)))
       ∙ owners-sum one refl sides.leaves st.kept.sorted slots st.slots_of.once st.slots_of.used st.slots_of.owned
       ∙ sum-alike (λ e. one (Some e.0)) (λ e. parent_leaves e.1) sides.leaves
-      (all-found (λ q cell. one (Some q) ≡ parent_leaves cell) sides.leaves st.kept.sorted (λ q cell found. ap parent_leaves (st.each.leaves q) ∙ ap (λ o. parent_leaves (unwrap_or o unused_cell)) found))
+      (all-found (λ q cell. one (Some q) ≡ parent_leaves cell) sides.leaves st.kept.sorted
+      (λ q cell found. ap parent_leaves (st.each.leaves q) ∙ ap (λ o. parent_leaves (unwrap_or o unused_cell)) found))
       ∙ sym (parent_leaves-sum sides.leaves)
 
   -- the parent has no page in a cell where it has none
@@ -94,7 +97,8 @@ module _ (directory : CellMap) (snapshot : Option SnapshotTables) (slots : List 
           let view : CellView = there.0.cell in
           let stands : StandsFor view (record { state = st.cells c; made = sides.made }) =
           subst (λ owner. StandsFor view (record { state = state_in st.cells owner; made = sides.made })) there.1.1 (st.slots_of.stands owned.0 there.0 there.1.0) in
-          let unviewed : has_pages view.leaves.parent ≡ false = pages-alike view (record { state = st.cells c; made = sides.made }) stands ∙ ap (λ cell. has_pages cell.parent) (st.each.leaves c) ∙ none in
+          let unviewed : has_pages view.leaves.parent ≡ false = pages-alike view (record { state = st.cells c; made = sides.made }) stands
+          ∙ ap (λ cell. has_pages cell.parent) (st.each.leaves c) ∙ none in
           sym (stands.pages p small) ∙ ap (bytes_in view.frames) (none-at view.leaves.parent p unviewed)
 
 pub alone-slots : (directory : CellMap) (slots : List Slot) (sides : Sides) → StandFor directory None slots sides → AreAlone slots
@@ -106,7 +110,8 @@ alone-slots directory slots sides st s slot here = alone-viewed slot.cell (recor
 
 -- slots that have all changed hold the changed cells
 pub slots-become : (leaves : CellLeaves → CellLeaves) (change : CellState → CellState) → change empty_state ≡ empty_state → (old new : List Slot) → AllBecome leaves change old new
-    → (before after : Leaves) (cells : ℕ → CellState) (made later : ℕ) → AreSlotsOf before cells made old → AreKept after → ((c : ℕ) → is_some (find nat_cmp c after) ≡ is_some (find nat_cmp c before)) → made ≤ later
+    → (before after : Leaves) (cells : ℕ → CellState) (made later : ℕ) → AreSlotsOf before cells made old → AreKept after
+    → ((c : ℕ) → is_some (find nat_cmp c after) ≡ is_some (find nat_cmp c before)) → made ≤ later
     → AreSlotsOf after (λ c. change (cells c)) later new
 slots-become leaves change blank old new become before after cells made later of kept found more = record {
   stands = stands_there;
@@ -117,7 +122,8 @@ slots-become leaves change blank old new become before after cells made later of
 }
   where
     same : (t : ℕ) → owner_at new t ≡ owner_at old t
-    same = owners-same old new become.size (λ s slot here. let it : (it : Slot) × ((slice_get new s ≡ Some it) × Becomes leaves change slot it) = become.each s slot here in (it.0, (it.1.0, it.1.1.owner)))
+    same = owners-same old new become.size (λ s slot here. let it : (it : Slot) × ((slice_get new s ≡ Some it) × Becomes leaves change slot it) =
+        become.each s slot here in (it.0, (it.1.0, it.1.1.owner)))
 
     once_there : (s t c : ℕ) → owner_at new s ≡ Some c → owner_at new t ≡ Some c → s ≡ t
     once_there s t c e f = of.once s t c (sym (same s) ∙ e) (sym (same t) ∙ f)

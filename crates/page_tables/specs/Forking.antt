@@ -106,14 +106,16 @@ abbrev pub snapshots_without : ℕ → Option FrameRefusal → PageMap → Snaps
 snapshots_without n refused pages snapshots = remove snapshots n
 
 -- the tables stood for some sides; the event made these deals there, and the tables stand for what it left
-pub record FollowsAt (event : Progress → Progress) (snapshots : Option FrameRefusal → PageMap → SnapshotPages → SnapshotPages) (new : PageTables) (deals : List Deal) (refused : Option FrameRefusal) (sides : Sides) : Type 0 where
+pub record FollowsAt (event : Progress → Progress) (snapshots : Option FrameRefusal → PageMap → SnapshotPages → SnapshotPages)
+    (new : PageTables) (deals : List Deal) (refused : Option FrameRefusal) (sides : Sides) : Type 0 where
   pub leaves : Leaves
   pub made : ℕ
   pub runs : Runs event sides.leaves sides.made deals leaves made refused
   pub stands : TablesStandFor new (record { leaves = leaves; pages = sides.pages; snapshots = snapshots refused sides.pages sides.snapshots; made = made })
 
 -- a call ran an event of the snapshots: its deals led from one state of the allot to the other, and whatever sides the tables stood for, the event made just these deals
-pub record MadeOfSnapshots {State : Type 0} (goes : State → Deal → State → Type 0) (from to : State) (event : Progress → Progress) (snapshots : Option FrameRefusal → PageMap → SnapshotPages → SnapshotPages)
+pub record MadeOfSnapshots {State : Type 0} (goes : State → Deal → State → Type 0) (from to : State) (event : Progress → Progress)
+    (snapshots : Option FrameRefusal → PageMap → SnapshotPages → SnapshotPages)
     (old new : PageTables) (refused : Option FrameRefusal) : Type 0 where
   pub deals : List Deal
   pub led : LeadsAlong goes from deals to

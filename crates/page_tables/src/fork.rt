@@ -5,6 +5,7 @@ ghost use Rattle.vm_base.specs.declared.fork_mode.Mode.TheVariants as mode;
 ghost use Rattle.vm_base.specs.declared.frame_request.Want.TheVariants as want;
 ghost use Rattle.vm_base.specs.Deals.{Counts};
 ghost use Rattle.kernel_meaning.specs.EventRequests.{snapshot_forked, snapshot_dropped};
+ghost use Rattle.kernel_meaning.specs.Leaves.{share};
 ghost use Rattle.kernel_meaning.specs.FrameLaw.{is_used};
 ghost use Rattle.kernel_meaning.specs.CellAccount.{CellAccount};
 ghost use Rattle.leaf_cell.specs.CellView.{held_of, without_snapshot};
@@ -13,7 +14,7 @@ ghost use Rattle.table_levels.specs.Cells.{tables_of};
 ghost use Rattle.table_levels.specs.Requests.{Asks, directory_wants};
 ghost use Rattle.page_tables.specs.Sides.{Sides};
 ghost use Rattle.page_tables.specs.Standing.{TablesStandFor, number_of, slot_count};
-ghost use Rattle.page_tables.specs.Held.{frames_in, frames_of};
+ghost use Rattle.page_tables.specs.Held.{frames_in, frames_of, shares_in};
 ghost use Rattle.page_tables.specs.Forking.{Becomes, AllBecome, HaveAccounts, AreAlone, AreFreed, owner_if_used, is_forked, forked_count, forked_leaves, forked_state, same_leaves, same_state, dropped_state, fork_refusal, snapshots_with, snapshots_without, MadeOfSnapshots};
 ghost use Rattle.page_tables.specs.Returning.{Returning};
 
@@ -37,6 +38,7 @@ impl PageTables {
         ensures held { A.out (A.state allot.new) + frames_of self.old ≡ A.out (A.state allot.old) + frames_of self.new }
         ensures untold { A.grants allot.new ≡ None }
         ensures slots { slot_count self.new ≡ slot_count self.old }
+        ensures even { frames_in self.old.slots.items + shares_in self.new.slots.items ≡ shares_in self.old.slots.items + frames_in self.new.slots.items }
         ensures lives { OnOk result (number_of self.new.snapshot ≡ Some number) }
         ensures kept { OnErr result (self.new.snapshot ≡ None) }
     {
@@ -75,6 +77,7 @@ impl PageTables {
         ensures held { A.out (A.state allot.new) + frames_of self.old ≡ A.out (A.state allot.old) + frames_of self.new }
         ensures untold { A.grants allot.new ≡ None }
         ensures slots { slot_count self.new ≡ slot_count self.old }
+        ensures even { frames_in self.old.slots.items + shares_in self.new.slots.items ≡ shares_in self.old.slots.items + frames_in self.new.slots.items }
         ensures gone { self.new.snapshot ≡ None }
     {
         match self.snapshot.take() {
@@ -112,6 +115,7 @@ fn fork_into<A: Allot>(
     ensures counts { Counts A.refused (A.state allot.old) result (A.state allot.new) }
     ensures held { A.out (A.state allot.new) + frames_in slots.old.items ≡ A.out (A.state allot.old) + frames_in slots.new.items + tables_of child.new }
     ensures untold { A.grants allot.new ≡ None }
+    ensures even { frames_in slots.old.items + shares_in slots.new.items ≡ shares_in slots.old.items + frames_in slots.new.items }
 {
     match child.copy_from(parent, allot) {
         Ok(()) => {}
@@ -138,6 +142,7 @@ fn fork_cells<A: Allot>(slots: &mut Vec<Slot>, number: u32, allot: &mut A) -> Re
     ensures counts { Counts A.refused (A.state allot.old) result (A.state allot.new) }
     ensures held { A.out (A.state allot.new) + frames_in slots.old.items ≡ A.out (A.state allot.old) + frames_in slots.new.items }
     ensures untold { A.grants allot.new ≡ None }
+    ensures even { frames_in slots.old.items + shares_in slots.new.items ≡ shares_in slots.old.items + frames_in slots.new.items }
 {
     for i in 0..slots.len() {
         match fork_slot(&mut slots[i], number, allot) {
@@ -163,11 +168,15 @@ fn fork_slot<A: Allot>(slot: &mut Slot, number: u32, allot: &mut A) -> Result<()
     ensures counts { Counts A.refused (A.state allot.old) result (A.state allot.new) }
     ensures held { A.out (A.state allot.new) + held_of slot.old.cell ≡ A.out (A.state allot.old) + held_of slot.new.cell }
     ensures untold { A.grants allot.new ≡ None }
+    ensures even { held_of slot.old.cell + share slot.new.cell.leaves ≡ share slot.old.cell.leaves + held_of slot.new.cell }
 {
     if slot.cell.pages() == 0 {
         return Ok(());
     }
-    slot.cell.fork_eager(number, allot)
+    slot.cell.tell_share();
+    let answer = slot.cell.fork_eager(number, allot);
+    slot.cell.tell_share();
+    answer
 }
 
 /// Drops the snapshot at each cell.
@@ -180,6 +189,7 @@ fn drop_cells<A: Allot>(slots: &mut Vec<Slot>, number: u32, allot: &mut A)
     ensures unrefused { A.refused (A.state allot.new) ≡ A.refused (A.state allot.old) }
     ensures held { A.out (A.state allot.new) + frames_in slots.old.items ≡ A.out (A.state allot.old) + frames_in slots.new.items }
     ensures untold { A.grants allot.new ≡ None }
+    ensures even { frames_in slots.old.items + shares_in slots.new.items ≡ shares_in slots.old.items + frames_in slots.new.items }
 {
     for i in 0..slots.len() {
         drop_slot(&mut slots[i], number, allot);
@@ -196,8 +206,11 @@ fn drop_slot<A: Allot>(slot: &mut Slot, number: u32, allot: &mut A)
     ensures unrefused { A.refused (A.state allot.new) ≡ A.refused (A.state allot.old) }
     ensures held { A.out (A.state allot.new) + held_of slot.old.cell ≡ A.out (A.state allot.old) + held_of slot.new.cell }
     ensures untold { A.grants allot.new ≡ None }
+    ensures even { held_of slot.old.cell + share slot.new.cell.leaves ≡ share slot.old.cell.leaves + held_of slot.new.cell }
 {
+    slot.cell.tell_share();
     slot.cell.drop_snap(number, allot);
+    slot.cell.tell_share();
 }
 
 /// Takes the owners of cells that nobody has any more.

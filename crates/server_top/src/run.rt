@@ -10,8 +10,8 @@ ghost use Rattle.server_top.specs.ScriptRun.{IsReady};
 
 use crate::script::outcome_text;
 use io_face::{Failed, Sink, write_all};
-use std::alloc::Global;
 use plain_kernel::{Event, Kernel};
+use std::alloc::Global;
 use vm_base::{Bytes, NoMemory};
 
 /// So many bytes of lines are written at once.

@@ -6,8 +6,8 @@ use crate::script::number::number;
 use crate::script::tokens::{
     bytes_of, is_range, mode, page_at, parts_at, permission, range, snapshot_number,
 };
-use std::alloc::Global;
 use plain_kernel::Event;
+use std::alloc::Global;
 use vm_base::NoMemory;
 
 /// The frames of the machine's line.

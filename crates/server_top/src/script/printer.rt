@@ -7,8 +7,8 @@ ghost use Rattle.server_top.specs.ScriptGrammar.{hexadecimal};
 ghost use Rattle.server_top.specs.PrintedLines.{outcome_line};
 
 use itoa::Buffer;
-use std::alloc::Global;
 use plain_kernel::Outcome;
+use std::alloc::Global;
 use vm_base::{Bytes, NoMemory};
 
 /// Appends the line of the outcome. After `NoMemory` the text is as it was.

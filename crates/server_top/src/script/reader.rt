@@ -7,8 +7,8 @@ ghost use Rattle.server_top.specs.declared.script.reader.ScriptFault.TheVariants
 
 use crate::script::line::{event_of, machine_frames};
 use crate::script::tokens::parts_at;
-use std::alloc::{AllocFailed, Global};
 use plain_kernel::Event;
+use std::alloc::{AllocFailed, Global};
 use vm_base::NoMemory;
 
 /// A script that was read: the frames of its machine, and its events in order.

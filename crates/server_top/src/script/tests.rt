@@ -1,9 +1,9 @@
 //! Which texts are scripts, and what outcomes print, case by case.
 use crate::script::printer::outcome_text;
 use crate::script::reader::{ScriptFault, read_script};
+use plain_kernel::{Event, Outcome};
 use std::alloc::Global;
 use std::test::Fail;
-use plain_kernel::{Event, Outcome};
 use vm_base::{Bytes, Mode, Perm};
 
 fn is_refused(alloc: Global, text: &[u8]) -> bool {

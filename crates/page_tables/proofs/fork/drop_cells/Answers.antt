@@ -2,9 +2,11 @@ use Rattle.std.proofs.Common.{◌≡◌, ◌+◌, ◌<◌, ◌≤◌, length, So
 use Rattle.std.specs.Prelude.{slice_set}
 use Rattle.std.specs.List.{slice_get}
 use Rattle.leaf_cell.specs.CellView.{held_of, without_snapshot}
-use Rattle.page_tables.specs.Held.{frames_in}
+use Rattle.page_tables.specs.Held.{frames_in, shares_in}
 use Rattle.page_tables.specs.Forking.{Becomes, dropped_state}
 use Rattle.page_tables.proofs.Changing.{one-changed, all-changed, more-returned}
+use Rattle.kernel_meaning.specs.Leaves.{share}
+use Rattle.page_tables.proofs.ClearedSlot.{shares-set}
 use Rattle.page_tables.proofs.OwnedSlots.{frames-set, read-slot}
 use Rattle.page_tables.proofs.fork.drop_cells.Goals as goal
 
@@ -21,12 +23,18 @@ loop-i-preserved g c =
     let size : length c.loop-i.slots.items ≡ length c.args.slots.now.items = c.loop-i.invariant.changed.size in
     let within : c.loop-i.i < length c.loop-i.slots.items = omega (arith, c.loop-i-test.true, c.len-i-end.ensures, size) in
     let here : slice_get c.loop-i.slots.items c.loop-i.i ≡ Some c.index_mut.result.now = read-slot c.loop-i.slots.items c.loop-i.i c.index_mut.result.now within c.index_mut.ensures.value in
-    let frames : frames_in (slice_set c.loop-i.slots.items c.loop-i.i c.drop_slot.new.slot) + held_of c.index_mut.result.now.cell ≡ frames_in c.loop-i.slots.items + held_of c.drop_slot.new.slot.cell = frames-set c.loop-i.slots.items c.loop-i.i c.index_mut.result.now c.drop_slot.new.slot here in
+    let frames : frames_in (slice_set c.loop-i.slots.items c.loop-i.i c.drop_slot.new.slot) + held_of c.index_mut.result.now.cell
+    ≡ frames_in c.loop-i.slots.items + held_of c.drop_slot.new.slot.cell = frames-set c.loop-i.slots.items c.loop-i.i c.index_mut.result.now c.drop_slot.new.slot here in
+    let parts : shares_in (slice_set c.loop-i.slots.items c.loop-i.i c.drop_slot.new.slot) + share c.index_mut.result.now.cell.leaves
+    ≡ shares_in c.loop-i.slots.items + share c.drop_slot.new.slot.cell.leaves = shares-set c.loop-i.slots.items c.loop-i.i c.index_mut.result.now c.drop_slot.new.slot here in
     record {
-      changed = one-changed (Becomes (without_snapshot c.args.number) (dropped_state c.args.number)) c.loop-i.i (c.loop-i.i + 1) c.args.slots.now.items c.loop-i.slots.items c.index_mut.result.now c.drop_slot.new.slot c.loop-i.invariant.changed here c.drop_slot.ensures.dropped refl;
-      returned = more-returned g.A.Allot.goes _ _ _ c.args.slots.now.items c.loop-i.slots.items c.loop-i.i c.index_mut.result.now c.drop_slot.new.slot c.loop-i.invariant.returned here c.drop_slot.ensures.returned;
+      changed = one-changed (Becomes (without_snapshot c.args.number) (dropped_state c.args.number)) c.loop-i.i
+          (c.loop-i.i + 1) c.args.slots.now.items c.loop-i.slots.items c.index_mut.result.now c.drop_slot.new.slot c.loop-i.invariant.changed here c.drop_slot.ensures.dropped refl;
+      returned = more-returned g.A.Allot.goes _ _ _ c.args.slots.now.items c.loop-i.slots.items c.loop-i.i c.index_mut.result.now
+          c.drop_slot.new.slot c.loop-i.invariant.returned here c.drop_slot.ensures.returned;
       unrefused = c.drop_slot.ensures.unrefused ∙ c.loop-i.invariant.unrefused;
       held = omega (arith, c.loop-i.invariant.held, c.drop_slot.ensures.held, frames);
+      even = omega (arith, c.loop-i.invariant.even, c.drop_slot.ensures.even, frames, parts);
       untold = c.drop_slot.ensures.untold;
     }
 

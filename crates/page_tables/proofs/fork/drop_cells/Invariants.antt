@@ -1,6 +1,6 @@
 use Rattle.std.proofs.Common.{◌≡◌, ◌+◌, None}
 use Rattle.leaf_cell.specs.CellView.{without_snapshot}
-use Rattle.page_tables.specs.Held.{frames_in}
+use Rattle.page_tables.specs.Held.{frames_in, shares_in}
 use Rattle.page_tables.specs.Forking.{Becomes, dropped_state}
 use Rattle.page_tables.specs.Returning.{Returning}
 use Rattle.page_tables.proofs.Changing.{ChangedBelow}
@@ -12,5 +12,6 @@ invariant-loop-i g l = record {
   returned : Returning g.A.Allot.goes (g.A.Allot.state l.fn.allot) (g.A.Allot.state l.allot) l.fn.slots.items l.slots.items;
   unrefused : g.A.Allot.refused (g.A.Allot.state l.allot) ≡ g.A.Allot.refused (g.A.Allot.state l.fn.allot);
   held : g.A.Allot.out (g.A.Allot.state l.allot) + frames_in l.fn.slots.items ≡ g.A.Allot.out (g.A.Allot.state l.fn.allot) + frames_in l.slots.items;
+  even : frames_in l.fn.slots.items + shares_in l.slots.items ≡ shares_in l.fn.slots.items + frames_in l.slots.items;
   untold : g.A.Allot.grants l.allot ≡ None;
 }

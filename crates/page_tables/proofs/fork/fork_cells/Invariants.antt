@@ -14,5 +14,6 @@ invariant-loop-i g l = record {
   shares : shares_in l.slots.items ≡ shares_in l.fn.slots.items + forked_count (take l.i l.fn.slots.items);
   unrefused : g.A.Allot.refused (g.A.Allot.state l.allot) ≡ g.A.Allot.refused (g.A.Allot.state l.fn.allot);
   held : g.A.Allot.out (g.A.Allot.state l.allot) + frames_in l.fn.slots.items ≡ g.A.Allot.out (g.A.Allot.state l.fn.allot) + frames_in l.slots.items;
+  even : frames_in l.fn.slots.items + shares_in l.slots.items ≡ shares_in l.fn.slots.items + frames_in l.slots.items;
   untold : g.A.Allot.grants l.allot ≡ None;
 }

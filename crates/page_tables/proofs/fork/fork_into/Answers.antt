@@ -21,7 +21,8 @@ returns-in-Ok-fork_cells-clause-requests g c =
 
 pub returns-in-Err-fork_cells-clause-requests : goal.returns-in-Err-fork_cells-clause-requests
 returns-in-Err-fork_cells-clause-requests g c =
-    refuses_after g.A.Allot.goes (directory_wants (keys c.args.parent.now)) (replicate (forked_count c.args.slots.now.items) want.Leaf) c.in-Err-fork_cells.refused.at (tables_of c.copy_from.new.self) _ _ _ _
+    refuses_after g.A.Allot.goes (directory_wants (keys c.args.parent.now)) (replicate (forked_count c.args.slots.now.items) want.Leaf) c.in-Err-fork_cells.refused.at
+    (tables_of c.copy_from.new.self) _ _ _ _
     c.in-Ok.ensures.requests c.in-Err-fork_cells.ensures.requests c.release.ensures.given (ap tables_of c.in-Ok.ensures.copied ∙ sym (wants-counted (keys c.args.parent.now)))
 
 pub returns-in-Err-fork_cells-clause-held : goal.returns-in-Err-fork_cells-clause-held

@@ -1,4 +1,4 @@
-use Rattle.std.proofs.Common.{◌≡◌, refl, sym, ◌∙◌, subst, cond, replicate}
+use Rattle.std.proofs.Common.{◌≡◌, ◌+◌, refl, sym, ◌∙◌, subst, cond, replicate, arith}
 use Rattle.std.specs.Prelude.{true, false}
 use Rattle.vm_base.specs.declared.frame_request.Want.TheVariants as want
 use Rattle.vm_base.specs.Deals.{LeadsAlong}
@@ -6,6 +6,9 @@ use Rattle.kernel_meaning.specs.Leaves.{has_pages}
 use Rattle.leaf_cell.proofs.Without.{pages-counted, some-counted}
 use Rattle.table_levels.specs.Requests.{granted, Asks}
 use Rattle.page_tables.proofs.ForkSlots.{unforked-becomes, fork-becomes-ok, fork-asks}
+use Rattle.kernel_meaning.specs.Leaves.{share}
+use Rattle.leaf_cell.specs.CellView.{held_of}
+use Rattle.leaf_cell.proofs.HeldShare.{share-stands}
 use Rattle.page_tables.proofs.fork.fork_slot.Goals as goal
 
 pub returns-then-pages-eq0-clause-forked : goal.returns-then-pages-eq0-clause-forked
@@ -17,16 +20,27 @@ returns-then-pages-eq0-clause-requests g c =
     let none : has_pages c.args.slot.now.cell.leaves.parent ≡ false = pages-counted c.args.slot.now.cell.leaves.parent (sym c.pages.ensures.pages ∙ c.if-pages-eq0.true) in
     subst (λ b. LeadsAlong g.A.Allot.goes (g.A.Allot.state c.args.allot.now) (granted (replicate (cond b 1 0) want.Leaf)) (g.A.Allot.state c.args.allot.now)) (sym none) refl
 
-pub fork_eager-requires-clause-present : goal.fork_eager-requires-clause-present
-fork_eager-requires-clause-present g c = some-counted c.args.slot.now.cell.leaves.parent (λ e. c.if-pages-eq0.false (c.pages.ensures.pages ∙ e))
+pub fork_eager-answer-requires-clause-present : goal.fork_eager-answer-requires-clause-present
+fork_eager-answer-requires-clause-present g c = some-counted c.args.slot.now.cell.leaves.parent (λ e. c.if-pages-eq0.false (c.pages.ensures.pages ∙ e))
 
 pub returns-clause-forked : goal.returns-clause-forked
 returns-clause-forked g c =
     let there : has_pages c.args.slot.now.cell.leaves.parent ≡ true = some-counted c.args.slot.now.cell.leaves.parent (λ e. c.if-pages-eq0.false (c.pages.ensures.pages ∙ e)) in
-    fork-becomes-ok g.A.Allot.goes _ _ c.args.number c.args.slot.now c.fork_eager.new.self c.requires.alone there c.fork_eager.result c.fork_eager.ensures.leaves (c.fork_eager.ensures.made 0)
+    fork-becomes-ok g.A.Allot.goes _ _ c.args.number c.args.slot.now c.fork_eager-answer.new.self c.requires.alone there c.fork_eager-answer.result c.fork_eager-answer.ensures.leaves
+    (c.fork_eager-answer.ensures.made 0)
 
 pub returns-clause-requests : goal.returns-clause-requests
 returns-clause-requests g c =
     let there : has_pages c.args.slot.now.cell.leaves.parent ≡ true = some-counted c.args.slot.now.cell.leaves.parent (λ e. c.if-pages-eq0.false (c.pages.ensures.pages ∙ e)) in
-    subst (λ b. Asks g.A.Allot.goes (g.A.Allot.state c.args.allot.now) (replicate (cond b 1 0) want.Leaf) c.fork_eager.result (g.A.Allot.state c.fork_eager.new.allot)) (sym there)
-    (fork-asks g.A.Allot.goes _ _ c.args.number c.args.slot.now.cell c.fork_eager.new.self c.requires.known.0 c.requires.known.1 c.fork_eager.result (c.fork_eager.ensures.made 0))
+    subst (λ b. Asks g.A.Allot.goes (g.A.Allot.state c.args.allot.now) (replicate (cond b 1 0) want.Leaf) c.fork_eager-answer.result (g.A.Allot.state c.fork_eager-answer.new.allot)) (sym there)
+    (fork-asks g.A.Allot.goes _ _ c.args.number c.args.slot.now.cell c.fork_eager-answer.new.self c.requires.known.0 c.requires.known.1 c.fork_eager-answer.result (c.fork_eager-answer.ensures.made 0))
+
+pub returns-clause-even : goal.returns-clause-even
+returns-clause-even g c =
+    let account = c.requires.known.0 in
+    let stands = c.requires.known.1 in
+    let takes = (c.fork_eager-answer.ensures.made 0).follows account stands in
+    let before : held_of c.args.slot.now.cell ≡ share c.args.slot.now.cell.leaves = c.tell_share.ensures account stands ∙ sym (share-stands c.args.slot.now.cell account stands) in
+    let after : held_of c.fork_eager-answer.new.self ≡ share c.fork_eager-answer.new.self.leaves =
+    c.tell_share-2.ensures _ takes.stands ∙ sym (share-stands c.fork_eager-answer.new.self _ takes.stands) in
+    omega (arith, before, after)

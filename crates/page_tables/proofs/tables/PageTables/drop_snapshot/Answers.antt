@@ -1,7 +1,8 @@
-use Rattle.std.proofs.Common.{◌≡◌, refl, sym, ◌∙◌, ap, arith}
+use Rattle.std.proofs.Common.{◌≡◌, ◌+◌, refl, sym, ◌∙◌, ap, arith}
+use Rattle.kernel_meaning.specs.Leaves.{share}
 use Rattle.leaf_cell.specs.CellView.{held_of}
 use Rattle.table_levels.specs.Cells.{tables_of}
-use Rattle.page_tables.specs.Held.{frames_in, snapshot_frames}
+use Rattle.page_tables.specs.Held.{frames_in, shares_in, snapshot_frames}
 use Rattle.page_tables.proofs.StandingFacts.{known-slots}
 use Rattle.page_tables.proofs.DroppedTables.{drop-made, freed-sum}
 use Rattle.page_tables.proofs.tables.PageTables.drop_snapshot.Goals as goal
@@ -11,12 +12,22 @@ drop_cells-requires-clause-known g c = known-slots c.args.self.now.directory c.a
 
 pub returns-clause-made : goal.returns-clause-made
 returns-clause-made g c =
-    drop-made c.args.self.now c.in-Some.tables (sym c.take.ensures.value ∙ c.in-Some.is) g.A.Allot.goes _ _ _ _ c.drop_cells.new.slots.items c.drop_cells.ensures.dropped c.free_unused.ensures c.drop_cells.ensures.returned c.release.ensures.given
+    drop-made c.args.self.now c.in-Some.tables (sym c.take.ensures.value
+    ∙ c.in-Some.is) g.A.Allot.goes _ _ _ _ c.drop_cells.new.slots.items c.drop_cells.ensures.dropped c.free_unused.ensures c.drop_cells.ensures.returned c.release.ensures.given
     refl c.take.ensures.after
 
 pub returns-clause-held : goal.returns-clause-held
 returns-clause-held g c =
     let none : snapshot_frames c.take.new.self ≡ 0 = ap snapshot_frames c.take.ensures.after in
     let had : snapshot_frames c.args.self.now.snapshot ≡ tables_of c.in-Some.tables.directory = ap snapshot_frames (sym c.take.ensures.value ∙ c.in-Some.is) in
-    let same : frames_in c.free_unused.new.slots.items ≡ frames_in c.drop_cells.new.slots.items = freed-sum (λ slot. held_of slot.cell) (λ slot it e. ap held_of e) c.drop_cells.new.slots.items c.free_unused.new.slots.items c.free_unused.ensures in
+    let same : frames_in c.free_unused.new.slots.items ≡ frames_in c.drop_cells.new.slots.items =
+    freed-sum (λ slot. held_of slot.cell) (λ slot it e. ap held_of e) c.drop_cells.new.slots.items c.free_unused.new.slots.items c.free_unused.ensures in
     omega (arith, none, had, same, c.drop_cells.ensures.held, c.release.ensures.out)
+
+pub returns-clause-even : goal.returns-clause-even
+returns-clause-even g c =
+    let frames : frames_in c.free_unused.new.slots.items ≡ frames_in c.drop_cells.new.slots.items =
+    freed-sum (λ slot. held_of slot.cell) (λ slot it e. ap held_of e) c.drop_cells.new.slots.items c.free_unused.new.slots.items c.free_unused.ensures in
+    let shares : shares_in c.free_unused.new.slots.items ≡ shares_in c.drop_cells.new.slots.items =
+    freed-sum (λ slot. share slot.cell.leaves) (λ slot it e. ap (λ cell. share cell.leaves) e) c.drop_cells.new.slots.items c.free_unused.new.slots.items c.free_unused.ensures in
+    omega (arith, frames, shares, c.drop_cells.ensures.even)
