@@ -75,16 +75,19 @@ module _ (parts : KernelParts) (machine : Machine) (state : KernelState) (st : K
 
   pub read_only-refused : (page : ℕ) → outside parts.areas first count ≡ None → unwritable parts.areas first count ≡ Some page → touch ≡ Err (ReadOnly page)
   unfolding touch_with
-  read_only-refused page e f = ap touch_with st.areas ∙ ap (λ o. or_refused OutsideAreas o (or_refused ReadOnly (unwritable parts.areas first count) (Ok granted_memory))) e ∙ ap (λ o. or_refused ReadOnly o (Ok granted_memory)) f
+  read_only-refused page e f = ap touch_with st.areas ∙ ap (λ o. or_refused OutsideAreas o (or_refused ReadOnly (unwritable parts.areas first count) (Ok granted_memory))) e
+      ∙ ap (λ o. or_refused ReadOnly o (Ok granted_memory)) f
 
   pub touch-granted : outside parts.areas first count ≡ None → unwritable parts.areas first count ≡ None → touch ≡ Ok granted_memory
   unfolding touch_with
-  touch-granted e f = ap touch_with st.areas ∙ ap (λ o. or_refused OutsideAreas o (or_refused ReadOnly (unwritable parts.areas first count) (Ok granted_memory))) e ∙ ap (λ o. or_refused ReadOnly o (Ok granted_memory)) f
+  touch-granted e f = ap touch_with st.areas ∙ ap (λ o. or_refused OutsideAreas o (or_refused ReadOnly (unwritable parts.areas first count) (Ok granted_memory))) e
+      ∙ ap (λ o. or_refused ReadOnly o (Ok granted_memory)) f
 
   -- the cells of the range are those of its pages
   cells-same : 0 < length bytes → cells_of_range addr (length bytes) ≡ cells_of_pages first count
   cells-same some =
-      let whole : count ≡ page_of (addr + length bytes - 1) + 1 - page_of addr = ap (λ b. cond b 0 (page_of (addr + length bytes - 1) + 1 - page_of addr)) (ne_eqb (length bytes) 0 (λ e. omega arith)) in
+      let whole : count ≡ page_of (addr + length bytes - 1) + 1 - page_of addr =
+      ap (λ b. cond b 0 (page_of (addr + length bytes - 1) + 1 - page_of addr)) (ne_eqb (length bytes) 0 (λ e. omega arith)) in
       let last : first + count - 1 ≡ page_of (addr + length bytes - 1) = omega arith in
       ap (λ b. cond b [] (range_with_len (cell_of first) (cell_of (page_of (addr + length bytes - 1)) + 1 - cell_of first))) (ne_eqb (length bytes) 0 (λ e. omega arith))
       ∙ sym (ap (λ b. cond b [] (range_with_len (cell_of first) (cell_of (first + count - 1) + 1 - cell_of first))) (ne_eqb count 0 (λ e. omega arith))
@@ -128,7 +131,13 @@ module _ (parts : KernelParts) (machine : Machine) (state : KernelState) (st : K
       (mid : PageTables) (deals : List Deal) (to : SupplyState) (led : LeadsAlong SupplyGoes parts.supply deals to) where
     -- the touch was granted, and the bytes were stored
     pub ran-done : (range : FollowsRange first count mid deals None (sides_of state st.pages)) (new : PageTables)
-        → TablesStandFor new (record { leaves = range.follows.leaves; pages = with_bytes (with_pages state.world.parent.present first count) addr bytes; snapshots = st.pages; made = range.follows.made })
+        → TablesStandFor new (record {
+          leaves = range.follows.leaves;
+          pages = with_bytes
+              (with_pages state.world.parent.present first count) addr bytes;
+          snapshots = st.pages;
+          made = range.follows.made;
+        })
         → frames_in new.slots.items ≡ shares_in new.slots.items → to.out ≡ frames_of new → number_of new.snapshot ≡ kept_number parts.snapshot → slot_count new ≡ machine.slots
         → EventRan parts (record { areas = parts.areas; tables = new; supply = to; snapshot = parts.snapshot; last = parts.last }) machine (λ answers. written machine state answers addr bytes) Done
     ran-done range new stands even out number slots =
@@ -159,14 +168,16 @@ module _ (parts : KernelParts) (machine : Machine) (state : KernelState) (st : K
     -- a page was refused, and the pages are as before
     pub ran-no_frame : (refusal : FrameRefusal) (range : FollowsRange first count mid deals (Some refusal) (sides_of state st.pages))
         → frames_in mid.slots.items ≡ shares_in mid.slots.items → to.out ≡ frames_of mid → number_of mid.snapshot ≡ kept_number parts.snapshot → slot_count mid ≡ machine.slots
-        → EventRan parts (record { areas = parts.areas; tables = mid; supply = to; snapshot = parts.snapshot; last = parts.last }) machine (λ answers. written machine state answers addr bytes) (NoFrame refusal.at)
+        → EventRan parts (record { areas = parts.areas; tables = mid; supply = to; snapshot = parts.snapshot; last = parts.last }) machine
+        (λ answers. written machine state answers addr bytes) (NoFrame refusal.at)
     ran-no_frame refusal range even out number slots =
         let ends = written-is some granted room mid deals (Some refusal) range in
         let held = out-then some granted room mid deals (Some refusal) range to led mid _ range.follows.stands even out in
         record {
           deals = deals;
           led = led;
-          after = (touch_answered state (record granted_memory { present = with_bytes granted_memory.present addr bytes }) (Some refusal) (progress some granted room mid deals (Some refusal) range)).after;
+          after = (touch_answered state (record granted_memory { present = with_bytes granted_memory.present addr bytes })
+              (Some refusal) (progress some granted room mid deals (Some refusal) range)).after;
           ends = ends;
           stands = record {
             pages = st.pages;
@@ -186,7 +197,8 @@ module _ (parts : KernelParts) (machine : Machine) (state : KernelState) (st : K
         }
 
 -- where the cells of a range do not lack slots there is room
-pub room-there : (tables : PageTables) (sides : Sides) (cells : List ℕ) → TablesStandFor tables sides → lacks_slots (slot_count tables) sides.leaves cells ≡ false → HasRoom (slot_count tables) sides.leaves cells
+pub room-there : (tables : PageTables) (sides : Sides) (cells : List ℕ) → TablesStandFor tables sides
+    → lacks_slots (slot_count tables) sides.leaves cells ≡ false → HasRoom (slot_count tables) sides.leaves cells
 room-there tables sides cells st fits =
     let owned : count_by (λ slot. is_some slot.owner) tables.slots.items ≡ length sides.leaves = st.slots_of.counted in
     let few : count_by (λ slot. is_some slot.owner) tables.slots.items ≤ length tables.slots.items = count_by-le-length (λ slot. is_some slot.owner) tables.slots.items in
@@ -215,25 +227,31 @@ mapped-on memory start n perm =
     let areas = joined (with_area (record { first = start; pages = n; perm = perm }) memory.areas) in
     elim (taken memory.areas start n) as (λ o. or_refused Taken o (at_most_128 (record memory { areas = areas })) ≡ on_memory memory (or_refused Taken o (if_few areas))) [
       | Some page ↦ refl
-      | None ↦ elim (nat_le (length areas) 128) as (λ b. cond b (Ok (record memory { areas = areas })) (Err TooManyAreas) ≡ on_memory memory (cond b (Ok areas) (Err TooManyAreas))) [ true ↦ refl | false ↦ refl ]
+      | None ↦ elim (nat_le (length areas) 128) as (λ b. cond b (Ok (record memory { areas = areas })) (Err TooManyAreas)
+          ≡ on_memory memory (cond b (Ok areas) (Err TooManyAreas))) [ true ↦ refl | false ↦ refl ]
     ]
 
 module _ (parts : KernelParts) (machine : Machine) (state : KernelState) (st : KernelStands parts machine state) (first n : ℕ) (perm : Perm) where
   pub ran-unmapped : (refusal : Refusal) (areas : List Area) (outcome : Outcome) → areas_mapped parts.areas first n perm ≡ Err refusal → areas ≡ parts.areas → outcome ≡ refusal_outcome refusal
-      → EventRan parts (record { areas = areas; tables = parts.tables; supply = parts.supply; snapshot = parts.snapshot; last = parts.last }) machine (λ answers. mapped state answers first n perm) outcome
+      → EventRan parts (record { areas = areas; tables = parts.tables; supply = parts.supply; snapshot = parts.snapshot; last = parts.last }) machine
+      (λ answers. mapped state answers first n perm) outcome
   ran-unmapped refusal areas outcome e same told =
-      subst (λ areas. EventRan parts (record { areas = areas; tables = parts.tables; supply = parts.supply; snapshot = parts.snapshot; last = parts.last }) machine (λ answers. mapped state answers first n perm) outcome) (sym same)
+      subst (λ areas. EventRan parts (record { areas = areas; tables = parts.tables; supply = parts.supply; snapshot = parts.snapshot; last = parts.last }) machine
+      (λ answers. mapped state answers first n perm) outcome) (sym same)
       (subst (EventRan parts parts machine (λ answers. mapped state answers first n perm)) (sym told)
       (ran-unchanged parts machine state (λ answers. mapped state answers first n perm) (refusal_outcome refusal) st
-      (ap (λ t. areas_changed state t (begun state [])) (mapped-on state.world.parent first n perm ∙ ap (λ areas. on_memory state.world.parent (areas_mapped areas first n perm)) st.areas ∙ ap (on_memory state.world.parent) e))))
+      (ap (λ t. areas_changed state t (begun state []))
+      (mapped-on state.world.parent first n perm ∙ ap (λ areas. on_memory state.world.parent (areas_mapped areas first n perm)) st.areas ∙ ap (on_memory state.world.parent) e))))
 
   pub ran-mapped : (areas : List Area) → areas_mapped parts.areas first n perm ≡ Ok areas
-      → EventRan parts (record { areas = areas; tables = parts.tables; supply = parts.supply; snapshot = parts.snapshot; last = parts.last }) machine (λ answers. mapped state answers first n perm) Done
+      → EventRan parts (record { areas = areas; tables = parts.tables; supply = parts.supply; snapshot = parts.snapshot; last = parts.last }) machine
+      (λ answers. mapped state answers first n perm) Done
   ran-mapped areas e = record {
     deals = [];
     led = refl;
     after = (areas_changed state (Ok (record state.world.parent { areas = areas })) (begun state [])).after;
-    ends = ap (λ t. areas_changed state t (begun state [])) (mapped-on state.world.parent first n perm ∙ ap (λ areas. on_memory state.world.parent (areas_mapped areas first n perm)) st.areas ∙ ap (on_memory state.world.parent) e);
+    ends = ap (λ t. areas_changed state t (begun state []))
+        (mapped-on state.world.parent first n perm ∙ ap (λ areas. on_memory state.world.parent (areas_mapped areas first n perm)) st.areas ∙ ap (on_memory state.world.parent) e);
     stands = record {
       pages = st.pages;
       areas = refl;
@@ -276,8 +294,10 @@ none-lives None none = refl
 none-lives (Some tables) none = absurd (false≢true (none tables.number ∙ eq-eqb tables.number tables.number refl))
 
 -- a kernel begins without areas and pages, over a supply that has all frames
-pub opening-stands : (frames cells last : ℕ) (areas : List Area) → areas ≡ [] → (tables : PageTables) (policies : PolicySum) (supply : SupplyState) → supply ≡ opening_supply frames policies → TablesStandFor tables opening_sides
-    → slot_count tables ≡ cells → frames_of tables ≡ 0 → KernelStands (record { areas = areas; tables = tables; supply = supply; snapshot = None; last = last }) (record { frames = frames; slots = cells; limit = 1 }) (opening_state last)
+pub opening-stands : (frames cells last : ℕ) (areas : List Area) → areas ≡ [] → (tables : PageTables) (policies : PolicySum) (supply : SupplyState)
+    → supply ≡ opening_supply frames policies → TablesStandFor tables opening_sides
+    → slot_count tables ≡ cells → frames_of tables ≡ 0
+    → KernelStands (record { areas = areas; tables = tables; supply = supply; snapshot = None; last = last }) (record { frames = frames; slots = cells; limit = 1 }) (opening_state last)
 opening-stands frames cells last areas bare tables policies supply opens stands slots held =
     let law = frames-law tables.directory tables.snapshot tables.slots.items opening_sides stands in
     record {
@@ -289,7 +309,8 @@ opening-stands frames cells last areas bare tables policies supply opens stands 
       losses = refl;
       last = refl;
       counts = refl;
-      supply = subst (λ s. IsSupplied (record { frames = frames; slots = cells; limit = 1 }) (opening_state last) s) (sym opens) (supplied-opening (record { frames = frames; slots = cells; limit = 1 }) last policies);
+      supply = subst (λ s. IsSupplied (record { frames = frames; slots = cells; limit = 1 }) (opening_state last) s) (sym opens)
+          (supplied-opening (record { frames = frames; slots = cells; limit = 1 }) last policies);
       out = ap (λ s. s.out) opens ∙ sym held;
       even = omega (arith, law, held);
       slots = slots;

@@ -50,9 +50,9 @@ impl Kernel {
         Ok(())
     }
 
-    /// Touches the range of the bytes, and then stores them: a page that is absent takes its frames,
-    /// and one that a snapshot shares is copied first. What is refused stores nothing, and leaves
-    /// no page behind.
+    /// Touches the range of the bytes, and then stores them. An absent page takes its frames first,
+    /// and one that a snapshot shares is copied. What is refused stores nothing, and leaves
+    /// no new page behind.
     pub fn write(&mut self, addr: u64, bytes: &[u8]) -> Outcome
         requires some { 0 < length bytes.now }
         requires few { length bytes.now ≤ 4194304 }
