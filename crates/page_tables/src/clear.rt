@@ -124,9 +124,9 @@ impl PageTables {
     {
         let home = &mut self.slots[slot as usize];
         // A cell holds its share, before and after: what goes back is what the share falls by.
-        prove!(home.cell.held() <= u32::MAX);
+        home.cell.tell_share();
         home.cell.clear(first, count, allot);
-        prove!(home.cell.held() <= u32::MAX);
+        home.cell.tell_share();
         if home.cell.pages() == 0 {
             leave_slot(home);
             self.directory.remove(cell, allot);

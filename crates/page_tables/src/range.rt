@@ -27,10 +27,11 @@ pub struct FrameRefused {
 
 impl PageTables {
     /// Touches `count` pages from `first` on in rising order, as `pages_touched` of
-    /// `kernel_meaning` has it, and notes in `added`, a list of the caller's with room for all,
-    /// those that were absent. After a refusal those are gone again, with the tables that they
-    /// alone needed; copies and losses that came before stay, and both sides read as before. It
-    /// costs two look-ups for each page, and for a new cell a look through the slots.
+    /// `kernel_meaning` has it. After a refusal those that were absent are gone again, with the
+    /// tables that they alone needed; copies and losses that came before stay, and both sides read
+    /// as before. `added` is room of the caller's where the call notes what it may have to take
+    /// back, so that it takes no memory; what is in it afterwards means nothing. It costs two
+    /// look-ups for each page, and for a new cell a look through the slots.
     pub fn touch<A: Allot>(
         &mut self,
         first: u64,

@@ -60,9 +60,9 @@ impl PageTables {
     {
         let index = (page % CELL_PAGES) as u16;
         let home = &mut self.slots[slot as usize];
-        prove!(home.cell.held() <= u32::MAX);
+        home.cell.tell_share();
         let answer = home.cell.touch(index, allot);
-        prove!(home.cell.held() <= u32::MAX);
+        home.cell.tell_share();
         answer
     }
 
@@ -88,10 +88,10 @@ impl PageTables {
         }
         let index = (page % CELL_PAGES) as u16;
         let home = &mut self.slots[slot as usize];
-        prove!(home.cell.held() <= u32::MAX);
+        home.cell.tell_share();
         match home.cell.touch(index, allot) {
             Ok(()) => {
-                prove!(home.cell.held() <= u32::MAX);
+                home.cell.tell_share();
                 home.owner = Some(cell);
                 Ok(())
             }

@@ -17,8 +17,8 @@ use vm_base::Perm;
 const PAGE_BYTES: u64 = 4096;
 
 impl Kernel {
-    /// Maps pages as an area. Which areas there are does not decide whether a page takes a frame:
-    /// none is asked for.
+    /// Maps pages as an area, or says why not. No frame is asked for: a page takes its frames when
+    /// it is written first.
     pub fn map(&mut self, first: u64, pages: u64, perm: Perm) -> Outcome
         requires some { 0 < pages }
         requires within { first + pages ≤ 2 ^ 36 }

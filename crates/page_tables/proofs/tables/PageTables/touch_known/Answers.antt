@@ -77,5 +77,5 @@ returns-clause-even g c =
     let stood : StandsFor slot.cell account = slot-stands old.directory old.snapshot old.slots.items sides st cell c.args.slot slot here owned in
     let takes = c.touch-answer.ensures.made.follows account stood in
     even-slots old.slots.items c.args.slot slot (record { owner = slot.owner; cell = c.touch-answer.new.self }) here
-    (holds-own slot.cell account stood (λ account stands. sym c.held.ensures.held ∙ c.held.ensures.share account stands))
-    (holds-own c.touch-answer.new.self _ takes.stands (λ account stands. sym c.held-2.ensures.held ∙ c.held-2.ensures.share account stands))
+    (holds-own slot.cell account stood (λ account stands. c.tell_share.ensures account stands))
+    (holds-own c.touch-answer.new.self _ takes.stands (λ account stands. c.tell_share-2.ensures account stands))

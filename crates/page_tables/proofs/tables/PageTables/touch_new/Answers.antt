@@ -159,5 +159,5 @@ returns-in-Ok-touch-clause-even g c =
     let stood_here = stood old c.requires.stands.0 c.requires.stands.1.0 c.args.page c.args.slot slot c.requires.new here fits in
     let takes = c.in-Ok-touch.ensures.made.follows (account old c.requires.stands.0 c.requires.stands.1.0 c.args.page c.args.slot slot c.requires.new here fits) stood_here in
     even-slots old.slots.items c.args.slot slot (record { owner = Some (cell_of c.args.page); cell = c.touch.new.self }) here
-    (holds-own slot.cell _ stood_here (λ account stands. sym c.held.ensures.held ∙ c.held.ensures.share account stands))
-    (holds-own c.touch.new.self _ takes.stands (λ account stands. sym c.held-in-Ok-touch.ensures.held ∙ c.held-in-Ok-touch.ensures.share account stands))
+    (holds-own slot.cell _ stood_here (λ account stands. c.tell_share.ensures account stands))
+    (holds-own c.touch.new.self _ takes.stands (λ account stands. c.tell_share-in-Ok-touch.ensures account stands))
