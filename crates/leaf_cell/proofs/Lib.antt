@@ -25,3 +25,4 @@ pub mod Touched
 pub mod SameReads
 pub mod Without
 pub mod ClearMade
+pub mod ProtectMade

@@ -1,6 +1,6 @@
 -- The words of a table, and the places that they hold.
-use Rattle.std.proofs.Common.{◌≡◌, ◌≢◌, ℕ, zero, suc, ◌+◌, ◌-◌, ◌*◌, ◌^◌, ◌<◌, ◌≤◌, List, [], ◌++◌, length, take, drop, replicate, get_or, Option, Some, None, refl, sym, ◌∙◌, ap, arith, inl, inr, ◌⊎◌, append_assoc}
-use Rattle.std.specs.Prelude.{slice_set, slice_index, cond}
+use Rattle.std.proofs.Common.{◌≡◌, ◌≢◌, ℕ, zero, suc, ◌+◌, ◌-◌, ◌*◌, ◌^◌, ◌<◌, ◌≤◌, List, [], ◌∷◌, ◌++◌, length, take, drop, replicate, get_or, Option, Some, None, refl, sym, ◌∙◌, ap, arith, inl, inr, ◌⊎◌, append_assoc}
+use Rattle.std.specs.Prelude.{slice_set, slice_index, cond, Bool, true, false}
 use Rattle.std.proofs.Math.ListN.{get_or-append}
 use Rattle.std.proofs.Math.Seq.{get_or-append_right, drop-append_seam}
 use Rattle.std.proofs.lemmas.Bool.{cases_eq, cases_lt, ne_eqb}
@@ -159,3 +159,16 @@ pub place_in-entry : (word place : ℕ) → word ≡ entry_of place 1 → number
 place_in-entry word place is number =
     let not_zero : word ≡ 0 → ⊥ = λ zero. absurd (omega (arith, is, zero)) in
     ap (λ b. cond b None (Some (number_of word))) (ne_eqb word 0 not_zero) ∙ ap Some number
+
+-- the same where the entry also tells that the page may be written to
+pub place_in-present : (word place : ℕ) (is_writable : Bool) → word ≡ entry_of place (cond is_writable 3 1) → number_of word ≡ place → place_in word ≡ Some place
+place_in-present word place true is number =
+    let not_zero : word ≡ 0 → ⊥ = λ zero. absurd (omega (arith, is, zero)) in
+    ap (λ b. cond b None (Some (number_of word))) (ne_eqb word 0 not_zero) ∙ ap Some number
+place_in-present word place false is number = place_in-entry word place is number
+
+-- a table with the place at a page that it has there is as it was
+pub same-place : (places : List (Option ℕ)) (page place : ℕ) → version_at places page ≡ Some place → slice_set places page (Some place) ≡ places
+same-place [] page place there = refl
+same-place (o ∷ places) zero place there = ap (λ p. p ∷ places) (sym there)
+same-place (o ∷ places) (suc page) place there = ap (λ ps. o ∷ ps) (same-place places page place there)

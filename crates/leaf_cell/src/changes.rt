@@ -13,7 +13,8 @@ ghost use Rattle.leaf_cell.specs.Standing.{MadeAct};
 ghost use Rattle.leaf_cell.specs.States.{refused_count};
 
 use crate::cell::Cell;
-use crate::leaf_table::LeafTable;
+use crate::leaf_table::{CELL_PAGES, LeafTable};
+use crate::protect::allow_range;
 use crate::release::release_leaf;
 use crate::snapshot::{Snapshot, SnapshotLeaf};
 use vm_base::{Allot, Frame, Mode, Refused, Want};
@@ -38,6 +39,8 @@ impl Cell {
     {
         match allot.take(Want::Leaf) {
             Ok(frame) => {
+                // Two tables name the frames from now on.
+                allow_range(&mut self.parent, &self.snapshot, 0, CELL_PAGES, false);
                 self.snapshot = Some(new_snapshot(number, frame, &self.parent));
                 Ok(())
             }

@@ -1,10 +1,11 @@
 //! A leaf table: the places of the frames of 512 pages, in a frame of its own.
-ghost use Rattle.std.specs.Prelude.{◌≡◌, ◌<◌, ◌*◌, ◌+◌, ◌≤◌, slice_set, Some, None, length, replicate, count_by, is_some};
+ghost use Rattle.std.specs.Prelude.{◌≡◌, ◌<◌, ◌*◌, ◌+◌, ◌≤◌, slice_set, Some, None, length, replicate, count_by, is_some, cond};
 ghost use Rattle.byteorder.specs.Endian.{little_bytes};
 ghost use Rattle.vm_base.specs.FlatMemory.{zero_page, spliced};
 ghost use Rattle.kernel_meaning.specs.Leaves.{no_versions, version_at, with_version, without_versions, has_present};
 ghost use Rattle.leaf_cell.specs.Places.{word_at, place_in, with_word, without_words};
 
+use bitflags::Flags;
 use byteorder::{ByteOrder, LittleEndian};
 use std::marker::Model;
 use vm_base::{Bits, Frame, entry_parts, entry_word};
@@ -57,6 +58,18 @@ impl LeafTable {
         ensures { self.new ≡ with_version self.old page place }
     {
         put_word(&mut self.frame, page, entry_word(place, Bits::PRESENT));
+    }
+
+    /// Whether a page may be written to, as its entry says from now on. Where it is absent nothing
+    /// changes.
+    pub(crate) fn allow(&mut self, page: u16, is_writable: bool)
+        requires { page < CELL_PAGES }
+        ensures { self.new ≡ self.old }
+    {
+        if let Some(place) = self.get(page) {
+            let word = entry_word(place, page_bits(is_writable));
+            put_word(&mut self.frame, page, word);
+        }
     }
 
     /// No page of a range is there from now on.
@@ -112,6 +125,17 @@ impl LeafTable {
     /// The frame that the table was in.
     pub(crate) fn into_frame(self) -> Frame {
         self.frame
+    }
+}
+
+/// What the entry of a page says beside its place.
+fn page_bits(is_writable: bool) -> Bits
+    ensures { result.0 ≡ cond is_writable 3 1 }
+{
+    if is_writable {
+        Bits::PRESENT.union(Bits::WRITE)
+    } else {
+        Bits::PRESENT
     }
 }
 

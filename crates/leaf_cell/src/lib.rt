@@ -13,6 +13,7 @@ mod laws;
 mod leaf_table;
 mod lookups;
 mod pages;
+mod protect;
 mod release;
 mod snapshot;
 #[cfg(test)]

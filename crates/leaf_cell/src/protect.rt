@@ -1,0 +1,56 @@
+//! What the parent's pages may be used for.
+ghost use Rattle.std.specs.Prelude.{◌≡◌, ◌+◌, ◌≤◌, None, true};
+ghost use Rattle.kernel_meaning.specs.Leaves.{has_present};
+ghost use Rattle.kernel_meaning.specs.CellAccount.{Protect};
+ghost use Rattle.leaf_cell.specs.CellView.{AreUnjoined};
+ghost use Rattle.leaf_cell.specs.Standing.{MadeAct};
+
+use crate::cell::Cell;
+use crate::leaf_table::{CELL_PAGES, LeafTable};
+use crate::lookups::names_place;
+use crate::snapshot::Snapshot;
+use vm_base::{Allot, Perm};
+
+impl Cell {
+    /// Gives the parent's pages of a range a permission. Their entries tell it: a page may be
+    /// written to where writing is allowed and no snapshot's own table names its frame. No page
+    /// comes, goes or changes, and nothing is asked of the allot.
+    pub fn protect<A: Allot>(&mut self, first: u16, pages: u16, perm: Perm, allot: &mut A)
+        requires range { first + pages ≤ CELL_PAGES }
+        requires unjoined { has_present self.old.leaves.parent first pages ≡ true → AreUnjoined self.old.leaves.kept }
+        ensures made { MadeAct A.goes (A.state allot.old) (A.state allot.new) (Protect first pages perm) self.old self.new None }
+        ensures cell { self.new ≡ self.old }
+        ensures allot { allot.new ≡ allot.old }
+    {
+        let _ = allot;
+        let is_writable = perm == Perm::ReadWrite;
+        allow_range(
+            &mut self.parent,
+            &self.snapshot,
+            first,
+            pages,
+            is_writable,
+        );
+    }
+}
+
+/// Whether the pages of a range may be written to, but for those that a snapshot's own table names.
+pub(crate) fn allow_range(
+    parent: &mut Option<LeafTable>,
+    snapshot: &Option<Snapshot>,
+    first: u16,
+    pages: u16,
+    is_writable: bool,
+)
+    requires { first + pages ≤ CELL_PAGES }
+    ensures { parent.new ≡ parent.old }
+{
+    if let Some(table) = parent {
+        for page in first..first + pages {
+            if let Some(place) = table.get(page) {
+                let is_alone = !names_place(snapshot, page, place);
+                table.allow(page, is_writable && is_alone);
+            }
+        }
+    }
+}
