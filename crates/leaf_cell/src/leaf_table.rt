@@ -52,12 +52,12 @@ impl LeafTable {
         place_of(word_of(self.frame.bytes(), page))
     }
 
-    /// The page's frame is at this place from now on.
+    /// The page's frame is at this place from now on, and may be written to.
     pub(crate) fn set(&mut self, page: u16, place: u32)
         requires { page < CELL_PAGES }
         ensures { self.new ≡ with_version self.old page place }
     {
-        put_word(&mut self.frame, page, entry_word(place, Bits::PRESENT));
+        put_word(&mut self.frame, page, entry_word(place, page_bits(true)));
     }
 
     /// Whether a page may be written to, as its entry says from now on. Where it is absent nothing

@@ -1,5 +1,5 @@
 //! What the parent's pages may be used for.
-ghost use Rattle.std.specs.Prelude.{◌≡◌, ◌+◌, ◌≤◌, None, true};
+ghost use Rattle.std.specs.Prelude.{◌≡◌, ◌+◌, ◌<◌, ◌≤◌, None, true};
 ghost use Rattle.kernel_meaning.specs.Leaves.{has_present};
 ghost use Rattle.kernel_meaning.specs.CellAccount.{Protect};
 ghost use Rattle.leaf_cell.specs.CellView.{AreUnjoined};
@@ -31,6 +31,14 @@ impl Cell {
             pages,
             is_writable,
         );
+    }
+
+    /// The page may be written to, where no snapshot's own table names its frame.
+    pub(crate) fn allow_page(&mut self, page: u16)
+        requires { page < CELL_PAGES }
+        ensures { self.new ≡ self.old }
+    {
+        allow_range(&mut self.parent, &self.snapshot, page, 1, true);
     }
 }
 

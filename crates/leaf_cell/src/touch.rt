@@ -40,6 +40,7 @@ impl Cell {
         match place_in(&self.parent, page) {
             Some(place) => {
                 self.touch_present(page, place, allot);
+                self.allow_page(page);
                 Ok(())
             }
             None => self.touch_absent(page, allot),
