@@ -191,3 +191,10 @@ without-other parent (Some it) frames n none = by (it.number == n) refl none
     by : (b : Bool) → (it.number == n) ≡ b → is_some (cond b (Some (kept_value no_versions it)) None) ≡ false → (cell_value parent (Some it) frames).leaves ≡ without_snapshot n (cell_value parent (Some it) frames).leaves
     by true is none = absurd (false≢true (sym none))
     by false is none = ap (λ b. record (cell_value parent (Some it) frames).leaves { kept = cond (not b) (kept_value (table_places parent) it ∷ []) [] }) (sym is)
+
+-- the snapshot that is found has the number that was looked for
+pub number-of : (it : Snapshot) (n : ℕ) → is_some (kept_by (kept_values no_versions (Some it)) n) ≡ true → it.number ≡ n
+number-of it n found = elim (cases_eq it.number n) [
+  | inl same ↦ same
+  | inr apart ↦ absurd (false≢true (sym (ap (λ b. is_some (cond b (Some (kept_value no_versions it)) None)) (ne_eqb it.number n apart)) ∙ found))
+]

@@ -26,3 +26,4 @@ pub mod SameReads
 pub mod Without
 pub mod ClearMade
 pub mod ProtectMade
+pub mod LeafLost

@@ -39,7 +39,7 @@ named-lost test at page version (it ∷ others) (inl here) = inl (by (test it) h
     by false h = h
 named-lost test at page version (it ∷ others) (inr later) = inr (named-lost test at page version others later)
 
-live-lost : (test : Kept → Bool) (at page version : ℕ) (cell : CellLeaves) → IsLive (with_leaf_where test (Lost at) cell) page version → IsLive cell page version
+pub live-lost : (test : Kept → Bool) (at page version : ℕ) (cell : CellLeaves) → IsLive (with_leaf_where test (Lost at) cell) page version → IsLive cell page version
 live-lost test at page version cell (inl there) = inl there
 live-lost test at page version cell (inr named) = inr (named-lost test at page version cell.kept named)
 
@@ -96,7 +96,7 @@ module _ {State : Type 0} (goes : State → Deal → State → Type 0) (from to 
       }
 
   -- as many frames go back as the share shrinks by
-  less : share (cell_value parent (Some it) frames).leaves ≡ share (cell_value parent (Some (lost_at at it)) new).leaves + released.count
+  pub less : share (cell_value parent (Some it) frames).leaves ≡ share (cell_value parent (Some (lost_at at it)) new).leaves + released.count
   less = omega (
     arith,
     released.taken,
@@ -105,6 +105,14 @@ module _ {State : Type 0} (goes : State → Deal → State → Type 0) (from to 
     sum_by-cons (λ k. cond (is_own k.leaf) 1 0) (kept_value no_versions it) [],
     sum_by-cons (λ k. cond (is_own k.leaf) 1 0) (kept_value no_versions (lost_at at it)) [],
   )
+
+  -- whatever snapshot is found has lost the cell
+  pub only-lost : (n : ℕ) (kept : Kept) → kept_by (cell_value parent (Some (lost_at at it)) new).leaves.kept n ≡ Some kept → is_lost kept.leaf ≡ true
+  only-lost n kept found = by (it.number == n) found
+    where
+      by : (b : Bool) → cond b (Some (kept_value (table_places parent) (lost_at at it))) None ≡ Some kept → is_lost kept.leaf ≡ true
+      by true e = ap (λ o. is_lost (unwrap_or o kept).leaf) (sym e)
+      by false e = absurd (false≢true (ap is_some e))
 
   module _ (page place : ℕ) (small : page < 512) (there : version_at (table_places parent) page ≡ Some place)
       (named : is_named (cell_value parent (Some it) frames).leaves page place ≡ true) (unjoined : AreUnjoined (kept_values (table_places parent) (Some it))) where
@@ -116,14 +124,6 @@ module _ {State : Type 0} (goes : State → Deal → State → Type 0) (from to 
 
     abbrev lost_deals : List Deal
     lost_deals = Denied want.Page at ∷ replicate released.count Returned
-
-    -- whatever snapshot is found has lost the cell
-    only-lost : (n : ℕ) (kept : Kept) → kept_by after.leaves.kept n ≡ Some kept → is_lost kept.leaf ≡ true
-    only-lost n kept found = by (it.number == n) found
-      where
-        by : (b : Bool) → cond b (Some (kept_value (table_places parent) (lost_at at it))) None ≡ Some kept → is_lost kept.leaf ≡ true
-        by true e = ap (λ o. is_lost (unwrap_or o kept).leaf) (sym e)
-        by false e = absurd (false≢true (ap is_some e))
 
     -- the snapshot names the page
     it_names : names_version page place (kept_value (table_places parent) it) ≡ true

@@ -1,5 +1,5 @@
 -- What a protect of some pages made, where no leaf is joined: nothing, and the account has that act.
-use Rattle.std.proofs.Common.{◌≡◌, ℕ, [], None, refl, sym, ◌∙◌, ap}
+use Rattle.std.proofs.Common.{◌≡◌, ℕ, [], None, refl, ◌∙◌, ap}
 use Rattle.std.specs.Prelude.{Bool, true, false, cond}
 use Rattle.vm_base.specs.declared.permission.Perm.{Perm}
 use Rattle.vm_base.specs.Deals.{Deal}

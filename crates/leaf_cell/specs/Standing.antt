@@ -1,12 +1,12 @@
 -- When a cell stands for an account, and what a call over an allot tells.
-use Rattle.std.specs.Prelude.{◌≡◌, ℕ, ◌<◌, false, List, Option, Some, IsSome, Result, OnOk, IfErr}
+use Rattle.std.specs.Prelude.{◌≡◌, ℕ, ◌<◌, false, List, Option, Some, None, IsSome, Result, OnOk, IfErr}
 use Rattle.std.specs.FinMap.{get}
 use Rattle.std.specs.Option.{option_and_then}
 use Rattle.vm_base.specs.declared.refusals.Lost.{Lost as Loss}
 use Rattle.vm_base.specs.Deals.{Deal, LeadsAlong}
-use Rattle.kernel_meaning.specs.Requests.{answers_of}
+use Rattle.kernel_meaning.specs.Requests.{answers_of, opening_requests}
 use Rattle.kernel_meaning.specs.Leaves.{Kept, is_lost, kept_by}
-use Rattle.kernel_meaning.specs.CellActs.{Course}
+use Rattle.kernel_meaning.specs.CellActs.{Course, opening_course}
 use Rattle.kernel_meaning.specs.CellAccount.{CellAct, CellAccount, course_of, state_after}
 use Rattle.leaf_cell.specs.declared.snapshot.LeafState.TheVariants as state
 use Rattle.leaf_cell.specs.CellView.{CellView, parent_page, kept_page, part_of}
@@ -53,3 +53,23 @@ pub record MadeAct {State : Type 0} (goes : State → Deal → State → Type 0)
   pub deals : List Deal
   pub led : LeadsAlong goes from deals to
   pub follows : (account : CellAccount) → StandsFor old account → TakesAccount act old new deals refused account
+
+-- what a part of an act ran, behind the requests of an account and with these deals' answers
+abbrev pub part_behind : (Course → Course) → CellAccount → List Deal → Course
+part_behind part account deals = part (opening_course account.state.leaves (opening_requests account.made (answers_of deals)))
+
+-- the account in the midst of an act: leaves and requests as the course has them, and the pages of both sides as before
+abbrev pub account_amid : CellAccount → Course → CellAccount
+account_amid account course = record { state = record account.state { leaves = course.cell }; made = course.requests.made }
+
+-- a part of an act took an account that the cell stood for to the one that it stands for: it made these deals, and no refusal ended it
+pub record TakesPart (part : Course → Course) (old new : CellView) (deals : List Deal) (account : CellAccount) : Type 0 where
+  pub stands : StandsFor new (account_amid account (part_behind part account deals))
+  pub asked : (part_behind part account deals).requests.deals ≡ deals
+  pub ended : (part_behind part account deals).refused ≡ None
+
+-- a call made a part of an act: its deals led from one state of the allot to the other, and it took each account that the cell stood for through this part
+pub record MadePart {State : Type 0} (goes : State → Deal → State → Type 0) (from to : State) (part : Course → Course) (old new : CellView) : Type 0 where
+  pub deals : List Deal
+  pub led : LeadsAlong goes from deals to
+  pub follows : (account : CellAccount) → StandsFor old account → TakesPart part old new deals account

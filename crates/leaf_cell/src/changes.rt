@@ -14,6 +14,7 @@ ghost use Rattle.leaf_cell.specs.States.{refused_count};
 
 use crate::cell::Cell;
 use crate::leaf_table::{CELL_PAGES, LeafTable};
+use crate::lookups::is_snapshot;
 use crate::protect::allow_range;
 use crate::release::release_leaf;
 use crate::snapshot::{Snapshot, SnapshotLeaf};
@@ -63,16 +64,6 @@ impl Cell {
                 release_leaf(snapshot.leaf, &self.parent, &mut self.frames, allot);
             }
         }
-    }
-}
-
-/// Whether the snapshot has this number.
-fn is_snapshot(snapshot: &Option<Snapshot>, number: u32) -> bool
-    ensures { result ≡ is_some (kept_by (kept_values no_versions snapshot.now) number) }
-{
-    match snapshot {
-        Some(snapshot) => snapshot.number == number,
-        None => false,
     }
 }
 

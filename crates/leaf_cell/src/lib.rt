@@ -9,6 +9,7 @@
 mod cell;
 mod changes;
 mod clear;
+mod joined;
 mod laws;
 mod leaf_table;
 mod lookups;

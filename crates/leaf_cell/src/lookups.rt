@@ -1,7 +1,7 @@
 //! Where the pages of a cell are.
 ghost use Rattle.std.specs.Prelude.{◌≡◌, ◌+◌, ◌<◌, ◌≤◌, length, count_by, is_some, take, drop, cond, [], Some, Ok, Err, OnOk, IfOk, IfErr, nat_eq};
 ghost use Rattle.std.specs.Option.{option_map, option_eq};
-ghost use Rattle.kernel_meaning.specs.Leaves.{version_at, has_present, no_versions, is_own, Joined};
+ghost use Rattle.kernel_meaning.specs.Leaves.{version_at, has_present, no_versions, kept_by, is_own, Joined};
 ghost use Rattle.leaf_cell.specs.CellView.{bytes_in, part_of};
 ghost use Rattle.leaf_cell.specs.Inside.{table_places, snapshot_places, own_places, leaf_value, kept_values};
 ghost use Rattle.leaf_cell.specs.States.{unless_lost, leaf_state as leaf_state_of};
@@ -47,6 +47,16 @@ pub(crate) fn snapshot_place(
         SnapshotLeaf::Own(table) => Ok(table.get(page)),
         SnapshotLeaf::Joined => Ok(place_in(parent, page)),
         SnapshotLeaf::Lost(at) => Err(Lost { at: *at }),
+    }
+}
+
+/// Whether the snapshot has this number.
+pub(crate) fn is_snapshot(snapshot: &Option<Snapshot>, number: u32) -> bool
+    ensures { result ≡ is_some (kept_by (kept_values no_versions snapshot.now) number) }
+{
+    match snapshot {
+        Some(snapshot) => snapshot.number == number,
+        None => false,
     }
 }
 

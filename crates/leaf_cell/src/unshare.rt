@@ -84,7 +84,7 @@ fn copied_place(frames: &[Option<Frame>], place: u32, frame: Frame) -> Frame
 
 /// The snapshot loses the cell at this count: its own table and the frames that it alone names go
 /// back.
-fn lose_leaf<A: Allot>(
+pub(crate) fn lose_leaf<A: Allot>(
     snapshot: &mut Option<Snapshot>,
     parent: &Option<LeafTable>,
     frames: &mut Vec<Option<Frame>>,

@@ -1,22 +1,13 @@
-use Rattle.std.proofs.Common.{◌≡◌, ◌∙◌, ℕ, sym, subst, ap, Some, None, inl, inr}
-use Rattle.std.specs.Prelude.{is_some, true, cond}
-use Rattle.std.proofs.lemmas.Bool.{cases_eq, ne_eqb, false≢true}
+use Rattle.std.proofs.Common.{◌≡◌, ◌∙◌, sym, subst, ap, Some, None}
+use Rattle.std.specs.Prelude.{is_some}
 use Rattle.kernel_meaning.specs.Leaves.{no_versions, kept_by}
 use Rattle.kernel_meaning.specs.CellAccount.{Drop as DropAct}
-use Rattle.leaf_cell.specs.declared.snapshot.Snapshot.{Snapshot}
-use Rattle.leaf_cell.specs.Inside.{AreInside, leaf_value, kept_value, kept_values, cell_value}
+use Rattle.leaf_cell.specs.Inside.{AreInside, leaf_value, kept_values, cell_value}
 use Rattle.leaf_cell.specs.Releasing.{own_if}
 use Rattle.leaf_cell.specs.Standing.{MadeAct}
 use Rattle.leaf_cell.proofs.InsideFacts.{parent_at_home, own_at_home}
-use Rattle.leaf_cell.proofs.DropMade.{inside-dropped, made-dropped, made-unmet, without-other}
+use Rattle.leaf_cell.proofs.DropMade.{inside-dropped, made-dropped, made-unmet, without-other, number-of}
 use Rattle.leaf_cell.proofs.cell.Cell.drop_snap.Goals as goal
-
--- the snapshot that is found has the number that was looked for
-number-of : (it : Snapshot) (n : ℕ) → is_some (kept_by (kept_values no_versions (Some it)) n) ≡ true → it.number ≡ n
-number-of it n found = elim (cases_eq it.number n) [
-  | inl same ↦ same
-  | inr apart ↦ absurd (false≢true (sym (ap (λ b. is_some (cond b (Some (kept_value no_versions it)) None)) (ne_eqb it.number n apart)) ∙ found))
-]
 
 pub release_leaf-requires-clause-home : goal.release_leaf-requires-clause-home
 release_leaf-requires-clause-home g c = own_at_home c.self.inside.parent (Some c.in-Some.snapshot) c.self.inside.frames.items

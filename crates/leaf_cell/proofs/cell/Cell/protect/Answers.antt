@@ -1,7 +1,6 @@
 use Rattle.std.proofs.Common.{◌≡◌, ◌∙◌, sym, ap, subst, None}
 use Rattle.kernel_meaning.specs.CellAccount.{Protect}
 use Rattle.leaf_cell.specs.Standing.{MadeAct}
-use Rattle.leaf_cell.specs.CellView.{CellView}
 use Rattle.leaf_cell.specs.Inside.{cell_value}
 use Rattle.leaf_cell.proofs.ProtectMade.{made-protected}
 use Rattle.leaf_cell.proofs.cell.Cell.protect.Goals as goal
