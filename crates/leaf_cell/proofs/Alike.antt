@@ -6,7 +6,7 @@ use Rattle.std.proofs.lemmas.Bool.{cases_eq}
 use Rattle.std.proofs.lemmas.List.{get_or-set_same, get_or-set_other}
 use Rattle.kernel_meaning.specs.Leaves.{version_at, with_version, is_lost, Kept, CellLeaves}
 use Rattle.kernel_meaning.specs.CellActs.{with_parent_version}
-use Rattle.leaf_cell.specs.Renaming.{AreKeptAlike, IsNamedBy, IsLive, IsRenaming}
+use Rattle.leaf_cell.specs.Renaming.{IsKeptAlike, AreKeptAlike, IsNamedBy, IsLive, IsRenaming}
 use Rattle.leaf_cell.proofs.Renamed.{with_name, with_name-here, with_name-other_page, with_name-other_version, renamed-with_version, renamed-with_name, version_at-renamed}
 
 -- snapshots that do not name the version that is named anew stay alike
@@ -92,3 +92,14 @@ module _ (name : ℕ → ℕ → ℕ) (view meant : CellLeaves) (page version pl
     kept = kept-with_name name page version place view.kept meant.kept (λ named. fresh version (inr named) refl) alike.kept;
     apart = new_apart;
   }
+
+-- one snapshot is there where one is here
+pub record OneAlike (name : ℕ → ℕ → ℕ) (here : Kept) (meant : List Kept) : Type 0 where
+  pub it : Kept
+  pub only : meant ≡ it ∷ []
+  pub alike : IsKeptAlike name here it
+
+pub one-alike : (name : ℕ → ℕ → ℕ) (here : Kept) (meant : List Kept) → AreKeptAlike name (here ∷ []) meant → OneAlike name here meant
+one-alike name here [] alike = absurd alike
+one-alike name here (it ∷ []) alike = record { it = it; only = refl; alike = alike.0 }
+one-alike name here (it ∷ (other ∷ others)) alike = absurd alike.1

@@ -97,11 +97,10 @@ module _ (view : CellView) (account : CellAccount) (stands : StandsFor view acco
   pub fork-denied : (seat at : ℕ) → TakesAccount (Fork n Eager seat) view view (Denied want.Leaf at ∷ []) (Some at) account
   fork-denied seat at = record { stands = stands-made view account (account.made + 1) stands (omega arith); asked = refl; ended = refl }
 
--- the order of the cell afterwards
-pub inside-forked : (parent : Option Versions) (snapshot : Option Snapshot) (frames : List (Option FrameView)) (it : Snapshot) → AreInside parent snapshot frames
-    → kept_values (table_places parent) snapshot ≡ [] → it.leaf ≡ code.Own (table_places parent) → AreInside parent (Some it) frames
-inside-forked parent (Some other) frames it inside alone leaf = absurd (not_nil (kept_value (table_places parent) other) [] alone)
-inside-forked parent None frames it inside alone leaf =
+-- the order of a cell whose snapshot gets a table of its own
+pub inside-own : (parent : Option Versions) (snapshot : Option Snapshot) (frames : List (Option FrameView)) (it : Snapshot) → AreInside parent snapshot frames
+    → own_places snapshot ≡ no_versions → it.leaf ≡ code.Own (table_places parent) → AreInside parent (Some it) frames
+inside-own parent snapshot frames it inside without leaf =
     let own : own_places (Some it) ≡ table_places parent = ap (λ l. own_places (Some (record it { leaf = l }))) leaf in
     record {
       room = inside.room;
@@ -109,12 +108,18 @@ inside-forked parent None frames it inside alone leaf =
       own_home = λ page place small named. inside.parent_home page place small (ap (λ vs. version_at vs page) (sym own) ∙ named);
       named = λ page place small home there. elim (inside.named page place small home there) [
         | inl named ↦ inl named
-        | inr named ↦ none_is_not_some (version_at no_versions page) place (version_at-none page) named
+        | inr named ↦ none_is_not_some (version_at no_versions page) place (version_at-none page) (ap (λ vs. version_at vs page) (sym without) ∙ named)
       ];
       used = inside.used;
       parent_size = inside.parent_size;
       own_size = ap length own ∙ inside.parent_size;
     }
+
+-- the order of the cell afterwards
+pub inside-forked : (parent : Option Versions) (snapshot : Option Snapshot) (frames : List (Option FrameView)) (it : Snapshot) → AreInside parent snapshot frames
+    → kept_values (table_places parent) snapshot ≡ [] → it.leaf ≡ code.Own (table_places parent) → AreInside parent (Some it) frames
+inside-forked parent (Some other) frames it inside alone leaf = absurd (not_nil (kept_value (table_places parent) other) [] alone)
+inside-forked parent None frames it inside alone leaf = inside-own parent None frames it inside refl leaf
 
 -- a forked cell as contracts see it
 pub forked-view : (parent : Option Versions) (snapshot : Option Snapshot) (frames : List (Option FrameView)) (it : Snapshot) (n : ℕ)

@@ -5,7 +5,7 @@ use Rattle.std.proofs.lemmas.Bool.{false≢true}
 use Rattle.vm_base.specs.Deals.{Deal, Returned}
 use Rattle.vm_base.specs.Frames.{FrameView}
 use Rattle.kernel_meaning.specs.Requests.{No}
-use Rattle.kernel_meaning.specs.Leaves.{Versions, no_versions, version_at, Lost, Kept, CellLeaves, with_leaf, share}
+use Rattle.kernel_meaning.specs.Leaves.{Versions, no_versions, version_at, Lost, CellLeaves, with_leaf, share}
 use Rattle.kernel_meaning.specs.CellActs.{with_leaf_where, is_number, leaf_copy_answered}
 use Rattle.kernel_meaning.specs.CellAccount.{CellAccount}
 use Rattle.leaf_cell.specs.declared.snapshot.Snapshot.{Snapshot}
@@ -13,23 +13,13 @@ use Rattle.leaf_cell.specs.CellView.{CellView}
 use Rattle.leaf_cell.specs.Inside.{AreInside, table_places, snapshot_places, leaf_value, kept_value, cell_value}
 use Rattle.leaf_cell.specs.Losing.{lost_at, without_leaf, IsLost}
 use Rattle.leaf_cell.specs.Releasing.{IsLeafReleased, own_if}
-use Rattle.leaf_cell.specs.Renaming.{IsKeptAlike, AreKeptAlike, IsRenaming}
+use Rattle.leaf_cell.specs.Renaming.{AreKeptAlike, IsRenaming}
 use Rattle.leaf_cell.specs.Standing.{StandsFor, TakesPart, MadePart}
+use Rattle.leaf_cell.proofs.Alike.{OneAlike, one-alike}
 use Rattle.leaf_cell.proofs.Renamed.{eqb-refl}
 use Rattle.leaf_cell.proofs.SameShare.{share-alike}
 use Rattle.leaf_cell.proofs.DropMade.{bytes-kept}
 use Rattle.leaf_cell.proofs.LossMade.{live-lost, less, only-lost}
-
--- one snapshot is there where one is here
-pub record OneAlike (name : ℕ → ℕ → ℕ) (here : Kept) (meant : List Kept) : Type 0 where
-  pub it : Kept
-  pub only : meant ≡ it ∷ []
-  pub alike : IsKeptAlike name here it
-
-pub one-alike : (name : ℕ → ℕ → ℕ) (here : Kept) (meant : List Kept) → AreKeptAlike name (here ∷ []) meant → OneAlike name here meant
-one-alike name here [] alike = absurd alike
-one-alike name here (it ∷ []) alike = record { it = it; only = refl; alike = alike.0 }
-one-alike name here (it ∷ (other ∷ others)) alike = absurd alike.1
 
 module _ {State : Type 0} (goes : State → Deal → State → Type 0) (from to : State) (parent : Option Versions) (it : Snapshot) (frames new : List (Option FrameView)) (at : ℕ)
     (inside : AreInside parent (Some it) frames)

@@ -27,3 +27,4 @@ pub mod Without
 pub mod ClearMade
 pub mod ProtectMade
 pub mod LeafLost
+pub mod LeafOwned

@@ -1,12 +1,14 @@
 -- What is read of a cell's snapshots.
-use Rattle.std.specs.Prelude.{ℕ, if◌then◌else◌, List, Option, Some, None, Result, Ok, Err}
+use Rattle.std.specs.Prelude.{ℕ, Bool, false, if◌then◌else◌, List, Option, Some, None, Result, Ok, Err}
 use Rattle.std.specs.Option.{option_map}
 use Rattle.std.specs.List.{slice_get}
 use Rattle.vm_base.specs.declared.fork_mode.Mode.{Mode}
 use Rattle.vm_base.specs.declared.refusals.Refused.{Refused as RefusedRequest}
-use Rattle.kernel_meaning.specs.Leaves.{Leaf, Own, Joined, Lost, Kept, kept_by, is_async}
+use Rattle.kernel_meaning.specs.Leaves.{Leaf, Own, Joined, Lost, Kept, Versions, kept_by, is_async, is_joined}
 use Rattle.leaf_cell.specs.declared.snapshot.LeafState.{LeafState}
 use Rattle.leaf_cell.specs.declared.snapshot.LeafState.TheVariants as state
+use Rattle.leaf_cell.specs.declared.snapshot.Snapshot.{Snapshot}
+use Rattle.leaf_cell.specs.declared.snapshot.SnapshotLeaf.TheVariants as code
 use Rattle.leaf_cell.specs.CellView.{CellView, kept_page, part_of}
 
 -- the state of a leaf, joined by an async fork or by another
@@ -43,3 +45,12 @@ snapshot_part view number page at n = kept_part view (kept_by view.leaves.kept n
 abbrev pub refused_count : Result (Unit {0}) RefusedRequest → Option ℕ
 refused_count (Ok done) = None
 refused_count (Err refused) = Some refused.at
+
+-- a snapshot has the cell by the parent's leaf table
+abbrev pub has_joined : Option Kept → Bool
+has_joined None = false
+has_joined (Some kept) = is_joined kept.leaf
+
+-- a snapshot whose leaf table names these places and is its own
+abbrev pub with_own : Versions → Snapshot → Snapshot
+with_own places snapshot = record { number = snapshot.number; mode = snapshot.mode; leaf = code.Own places }

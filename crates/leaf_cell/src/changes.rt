@@ -2,7 +2,6 @@
 ghost use Rattle.std.specs.Prelude.{◌≡◌, ◌+◌, ◌≤◌, ℕ, [], true, is_some, None, IfErr, OnErr, OnOk};
 ghost use Rattle.vm_base.specs.declared.fork_mode.Mode.TheVariants as mode;
 ghost use Rattle.vm_base.specs.Counts.{next_count};
-ghost use Rattle.vm_base.specs.FlatMemory.{zero_page};
 ghost use Rattle.leaf_cell.specs.declared.snapshot.SnapshotLeaf.TheVariants as leaf;
 ghost use Rattle.leaf_cell.specs.Inside.{table_places, kept_values};
 ghost use Rattle.kernel_meaning.specs.Leaves.{has_pages, kept_by, no_versions, Own};
@@ -69,18 +68,23 @@ impl Cell {
 
 /// A snapshot with a table of its own, which names what the parent's does.
 fn new_snapshot(number: u32, frame: Frame, parent: &Option<LeafTable>) -> Snapshot
-    requires { frame.bytes ≡ zero_page }
     ensures number { result.number ≡ number }
     ensures mode { result.mode ≡ mode.Eager }
     ensures leaf { result.leaf ≡ leaf.Own (table_places parent.now) }
 {
-    let mut table = LeafTable::new(frame);
-    if let Some(parent) = parent {
-        table.copy_from(parent);
-    }
     Snapshot {
         number,
         mode: Mode::Eager,
-        leaf: SnapshotLeaf::Own(table),
+        leaf: SnapshotLeaf::Own(own_table(frame, parent)),
+    }
+}
+
+/// A table in this frame that names what the parent's does.
+pub(crate) fn own_table(frame: Frame, parent: &Option<LeafTable>) -> LeafTable
+    ensures { result ≡ table_places parent.now }
+{
+    match parent {
+        Some(table) => table.copy_in(frame),
+        None => LeafTable::empty_in(frame),
     }
 }

@@ -44,6 +44,15 @@ impl LeafTable {
         LeafTable { frame }
     }
 
+    /// A table without a page, in any frame.
+    pub(crate) fn empty_in(frame: Frame) -> LeafTable
+        ensures { result ≡ no_versions }
+    {
+        let mut zeros = frame;
+        *zeros.bytes_mut() = [0; 4096];
+        LeafTable::new(zeros)
+    }
+
     /// The place of the frame of a page.
     pub(crate) fn get(&self, page: u16) -> Option<u32>
         requires { page < CELL_PAGES }
@@ -80,11 +89,13 @@ impl LeafTable {
         clear_words(&mut self.frame, first, pages);
     }
 
-    /// Names the same frames as another table.
-    pub(crate) fn copy_from(&mut self, other: &LeafTable)
-        ensures { self.new ≡ other.now }
+    /// A table in this frame that names the same frames.
+    pub(crate) fn copy_in(&self, frame: Frame) -> LeafTable
+        ensures { result ≡ self.now }
     {
-        copy_bytes(&mut self.frame, &other.frame);
+        let mut copy = frame;
+        copy_bytes(&mut copy, &self.frame);
+        LeafTable { frame: copy }
     }
 
     /// As many entries as the frame has room for, which is one for each page.
