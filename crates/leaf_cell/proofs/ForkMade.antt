@@ -1,15 +1,16 @@
--- What an eager fork made.
-use Rattle.std.proofs.Common.{◌≡◌, ℕ, ◌+◌, ◌<◌, List, [], ◌∷◌, length, Option, Some, None, refl, sym, ◌∙◌, ap, subst, arith, inl, inr}
+-- What a fork made.
+use Rattle.std.proofs.Common.{◌≡◌, ℕ, ◌+◌, ◌<◌, ◌≤◌, List, [], ◌∷◌, length, Option, Some, None, refl, sym, ◌∙◌, ap, subst, arith, inl, inr}
 use Rattle.std.specs.Prelude.{is_some, Bool, true, false, cond, unwrap_or, ◌==◌}
 use Rattle.std.specs.Option.{option_and_then}
 use Rattle.std.specs.FinMap.{get, insert}
 use Rattle.std.proofs.lemmas.Bool.{cases_eq, ne_eqb, false≢true}
-use Rattle.vm_base.specs.declared.fork_mode.Mode.TheVariants.{Eager}
+use Rattle.vm_base.specs.declared.fork_mode.Mode.{Mode}
+use Rattle.vm_base.specs.declared.fork_mode.Mode.TheVariants.{Eager, OnDemand, Async}
 use Rattle.vm_base.specs.declared.frame_request.Want.TheVariants as want
 use Rattle.vm_base.specs.Deals.{Granted, Denied}
 use Rattle.vm_base.specs.Frames.{FrameView}
 use Rattle.vm_base.proofs.NumberedMaps.{get_inserted_here}
-use Rattle.kernel_meaning.specs.Leaves.{Versions, no_versions, version_at, Own, Kept, CellLeaves, kept_by, with_kept}
+use Rattle.kernel_meaning.specs.Leaves.{Versions, no_versions, version_at, Leaf, Own, Joined, Kept, CellLeaves, kept_by, with_kept}
 use Rattle.kernel_meaning.specs.CellAccount.{Fork, CellAccount}
 use Rattle.leaf_cell.specs.declared.snapshot.Snapshot.{Snapshot}
 use Rattle.leaf_cell.specs.declared.snapshot.SnapshotLeaf.TheVariants as code
@@ -34,11 +35,11 @@ not_nil it others e = absurd (false≢true (ap is_nil (sym (sym e))))
     is_nil [] = true
     is_nil (x ∷ xs) = false
 
--- the snapshot of an eager fork
-abbrev pub fork_of : ℕ → Versions → Kept
-fork_of n places = record { number = n; mode = Eager; versions = places; leaf = Own }
+module _ (mode : Mode) (leaf : Leaf) (view : CellView) (account : CellAccount) (stands : StandsFor view account) (n : ℕ) (alone : view.leaves.kept ≡ []) where
+  -- the snapshot of the fork
+  abbrev fork_of : ℕ → Versions → Kept
+  fork_of number places = record { number = number; mode = mode; versions = places; leaf = leaf }
 
-module _ (view : CellView) (account : CellAccount) (stands : StandsFor view account) (n : ℕ) (alone : view.leaves.kept ≡ []) where
   none_meant : account.state.leaves.kept ≡ []
   none_meant = alike-none stands.name account.state.leaves.kept (subst (λ kept. AreKeptAlike stands.name kept account.state.leaves.kept) alone stands.leaves.kept)
 
@@ -75,27 +76,53 @@ module _ (view : CellView) (account : CellAccount) (stands : StandsFor view acco
     | inr apart ↦ absurd (false≢true (ap is_some (sym (ap (λ b. cond b (Some (fork_of n view.leaves.parent)) None) (ne_eqb n number apart)) ∙ found)))
   ]
 
-  stands_forked : StandsFor view_forked (record {
+  pub stands_forked : (made : ℕ) → account.made ≤ made → StandsFor view_forked (record {
     state = record {
       leaves = record account.state.leaves { kept = with_kept (fork_of n account.state.leaves.parent) account.state.leaves.kept };
       pages = account.state.pages;
       snapshots = insert account.state.snapshots n account.state.pages;
     };
-    made = account.made + 1;
+    made = made;
   })
-  stands_forked = record {
+  stands_forked made later = record {
     name = stands.name;
     leaves = subst (λ kept. IsRenaming stands.name view_forked.leaves (record account.state.leaves { kept = kept })) (sym meant_kept) renaming;
-    made = λ page version live. omega (arith, stands.made page version (lived page version (subst (λ kept. IsLive (record account.state.leaves { kept = kept }) page version) meant_kept live)));
+    made = λ page version live. omega (arith, later, stands.made page version (lived page version (subst (λ kept. IsLive (record account.state.leaves { kept = kept }) page version) meant_kept live)));
     pages = stands.pages;
     snapshots = λ number page kept found unlost small. forked_one number page kept found small;
   }
 
-  pub fork-granted : (seat : ℕ) → TakesAccount (Fork n Eager seat) view view_forked (Granted want.Leaf ∷ []) None account
-  fork-granted seat = record { stands = stands_forked; asked = refl; ended = refl }
+-- a cell with the one snapshot of a fork
+abbrev pub view_of_fork : Mode → Leaf → ℕ → CellView → CellView
+view_of_fork mode leaf n view = record view {
+  leaves = record view.leaves { kept = record { number = n; mode = mode; versions = view.leaves.parent; leaf = leaf } ∷ [] };
+}
+
+module _ (view : CellView) (account : CellAccount) (stands : StandsFor view account) (n : ℕ) where
+  pub fork-granted : view.leaves.kept ≡ [] → (seat : ℕ) → TakesAccount (Fork n Eager seat) view (view_of_fork Eager Own n view) (Granted want.Leaf ∷ []) None account
+  fork-granted alone seat = record { stands = stands_forked Eager Own view account stands n alone (account.made + 1) (omega arith); asked = refl; ended = refl }
 
   pub fork-denied : (seat at : ℕ) → TakesAccount (Fork n Eager seat) view view (Denied want.Leaf at ∷ []) (Some at) account
   fork-denied seat at = record { stands = stands-made view account (account.made + 1) stands (omega arith); asked = refl; ended = refl }
+
+  pub fork-lazy : view.leaves.kept ≡ [] → (mode : Mode) → (mode ≡ Eager → ⊥) → (seat : ℕ) → TakesAccount (Fork n mode seat) view (view_of_fork mode Joined n view) [] None account
+  fork-lazy alone Eager lazy seat = absurd (lazy refl)
+  fork-lazy alone OnDemand lazy seat = record { stands = stands_forked OnDemand Joined view account stands n alone account.made (omega arith); asked = refl; ended = refl }
+  fork-lazy alone Async lazy seat = record { stands = stands_forked Async Joined view account stands n alone account.made (omega arith); asked = refl; ended = refl }
+
+-- the order of a cell whose one snapshot has the parent's table
+pub inside-lazy : (parent : Option Versions) (snapshot : Option Snapshot) (frames : List (Option FrameView)) (n : ℕ) (mode : Mode) → AreInside parent snapshot frames
+    → kept_values (table_places parent) snapshot ≡ [] → AreInside parent (Some (record { number = n; mode = mode; leaf = code.Joined })) frames
+inside-lazy parent (Some other) frames n mode inside alone = absurd (not_nil (kept_value (table_places parent) other) [] alone)
+inside-lazy parent None frames n mode inside alone = record {
+  room = inside.room;
+  parent_home = inside.parent_home;
+  own_home = inside.own_home;
+  named = inside.named;
+  used = inside.used;
+  parent_size = inside.parent_size;
+  own_size = inside.own_size;
+}
 
 -- the order of a cell whose snapshot gets a table of its own
 pub inside-own : (parent : Option Versions) (snapshot : Option Snapshot) (frames : List (Option FrameView)) (it : Snapshot) → AreInside parent snapshot frames
@@ -124,5 +151,5 @@ inside-forked parent None frames it inside alone leaf = inside-own parent None f
 -- a forked cell as contracts see it
 pub forked-view : (parent : Option Versions) (snapshot : Option Snapshot) (frames : List (Option FrameView)) (it : Snapshot) (n : ℕ)
     → it.number ≡ n → it.mode ≡ Eager → it.leaf ≡ code.Own (table_places parent)
-    → record (cell_value parent snapshot frames) { leaves = record (cell_value parent snapshot frames).leaves { kept = fork_of n (table_places parent) ∷ [] } } ≡ cell_value parent (Some it) frames
+    → view_of_fork Eager Own n (cell_value parent snapshot frames) ≡ cell_value parent (Some it) frames
 forked-view parent snapshot frames it n number mode leaf = λ i. cell_value parent (Some (record { number = sym number i; mode = sym mode i; leaf = sym leaf i })) frames

@@ -1,13 +1,14 @@
-//! Leaves that are the parent's, and become a snapshot's own or are lost.
-ghost use Rattle.std.specs.Prelude.{◌≡◌, ◌+◌, ◌≤◌, [], None, true};
+//! Leaves that are the parent's: how they come to be so, become a snapshot's own, and are lost.
+ghost use Rattle.std.specs.Prelude.{ℕ, ◌≡◌, ◌+◌, ◌≤◌, [], None, true};
 ghost use Rattle.std.specs.Option.{option_map};
+ghost use Rattle.vm_base.specs.declared.fork_mode.Mode.TheVariants as modes;
 ghost use Rattle.kernel_meaning.specs.Requests.{Yes, No};
-ghost use Rattle.kernel_meaning.specs.Leaves.{kept_by, Own};
-ghost use Rattle.kernel_meaning.specs.CellActs.{leaf_copy_answered, with_leaf_where, is_number};
-ghost use Rattle.kernel_meaning.specs.CellAccount.{CellAccount};
+ghost use Rattle.kernel_meaning.specs.Leaves.{has_pages, kept_by, Own, Joined};
+ghost use Rattle.kernel_meaning.specs.CellActs.{leaf_copy_answered, with_fork, with_leaf_where, is_number};
+ghost use Rattle.kernel_meaning.specs.CellAccount.{CellAccount, Fork};
 ghost use Rattle.leaf_cell.specs.CellView.{held_of};
 ghost use Rattle.leaf_cell.specs.Losing.{IsLost, has_leaf};
-ghost use Rattle.leaf_cell.specs.Standing.{StandsFor, TakesPart, MadePart};
+ghost use Rattle.leaf_cell.specs.Standing.{StandsFor, TakesAccount, TakesPart, MadePart};
 ghost use Rattle.leaf_cell.specs.States.{has_joined, with_own};
 ghost use Rattle.leaf_cell.specs.Inside.{table_places};
 
@@ -18,9 +19,26 @@ use crate::lookups::is_snapshot;
 use crate::protect::allow_range;
 use crate::snapshot::{Snapshot, SnapshotLeaf};
 use crate::unshare::lose_leaf;
-use vm_base::{Allot, Frame};
+use vm_base::{Allot, Frame, Mode};
 
 impl Cell {
+    /// Gives a snapshot the cell as the parent has it now, by the parent's leaf table: shared, by
+    /// an on-demand fork, or marked, by an async one. Nothing is asked for or copied.
+    pub fn set_lazy(&mut self, number: u32, mode: Mode)
+        requires lazy { mode ≡ modes.Eager → ⊥ }
+        requires present { has_pages self.old.leaves.parent ≡ true }
+        requires alone { self.old.leaves.kept ≡ [] }
+        ensures forked { (seat : ℕ) (account : CellAccount) → StandsFor self.old account → TakesAccount (Fork number mode seat) self.old self.new [] None account }
+        ensures cell { self.new ≡ record self.old { leaves = with_fork number mode Joined self.old.leaves } }
+        ensures held { held_of self.new ≡ held_of self.old }
+    {
+        self.snapshot = Some(Snapshot {
+            number,
+            mode,
+            leaf: SnapshotLeaf::Joined,
+        });
+    }
+
     /// A leaf that is the parent's becomes the snapshot's own, in this frame. It names the frames
     /// that it named before.
     pub fn own_leaf(&mut self, number: u32, frame: Frame)

@@ -32,5 +32,5 @@ pub returns-in-Err-clause-made : goal.returns-in-Err-clause-made
 returns-in-Err-clause-made g c = λ seat. record {
   deals = Denied want.Leaf c.in-Err.refused.at ∷ [];
   led = (g.A.Allot.state c.take.new.self, (c.in-Err.ensures.denied, refl));
-  follows = λ account stands. fork-denied c.args.self.now account stands c.args.number c.requires.alone seat c.in-Err.refused.at;
+  follows = λ account stands. fork-denied c.args.self.now account stands c.args.number seat c.in-Err.refused.at;
 }
