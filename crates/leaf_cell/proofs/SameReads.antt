@@ -9,7 +9,7 @@ use Rattle.kernel_meaning.specs.CellAccount.{CellAccount}
 use Rattle.leaf_cell.specs.CellView.{CellView, AreUnjoined, kept_page, part_of}
 use Rattle.leaf_cell.specs.Renaming.{renamed_from, renamed, AreKeptAlike, IsNamedBy}
 use Rattle.leaf_cell.specs.Standing.{StandsFor, IsSnapRead, snapshot_page}
-use Rattle.leaf_cell.specs.States.{unless_lost, kept_part, snapshot_part}
+use Rattle.leaf_cell.specs.States.{has_leaf_where, unless_lost, kept_part, snapshot_part}
 use Rattle.leaf_cell.specs.Touching.{IsAlone}
 use Rattle.leaf_cell.proofs.AbsentPages.{has_present-more}
 use Rattle.leaf_cell.proofs.Renamed.{version_at-renamed}
@@ -120,3 +120,19 @@ module _ (view : CellView) (account : CellAccount) (stands : StandsFor view acco
         let same : found.0 ≡ mine.0 = stands.leaves.apart page found.0 mine.0 (inr found.1.0) (inl mine.1.0) (found.1.1 ∙ sym mine.1.1) in
         alone.unnamed found.0 (mine.1.0 ∙ ap Some (sym same)) found.1.0;
   }
+
+-- a snapshot has a leaf of some kind here where it has one there
+leaf-alike : (name : ℕ → ℕ → ℕ) (test : Leaf → Bool) (n : ℕ) (view meant : List Kept) → AreKeptAlike name view meant → has_leaf_where test (kept_by view n) ≡ has_leaf_where test (kept_by meant n)
+leaf-alike name test n [] [] alike = refl
+leaf-alike name test n [] (o ∷ os) alike = absurd alike
+leaf-alike name test n (i ∷ is) [] alike = absurd alike
+leaf-alike name test n (i ∷ is) (o ∷ os) alike =
+    ap (λ number. has_leaf_where test (cond (number == n) (Some i) (kept_by is n))) alike.0.number ∙ by (o.number == n) (leaf-alike name test n is os alike.1)
+  where
+    by : (b : Bool) → has_leaf_where test (kept_by is n) ≡ has_leaf_where test (kept_by os n) → has_leaf_where test (cond b (Some i) (kept_by is n)) ≡ has_leaf_where test (cond b (Some o) (kept_by os n))
+    by true rest = ap test alike.0.leaf
+    by false rest = rest
+
+pub leaf-stands : (test : Leaf → Bool) (view : CellView) (account : CellAccount) → StandsFor view account → (n : ℕ)
+    → has_leaf_where test (kept_by view.leaves.kept n) ≡ has_leaf_where test (kept_by account.state.leaves.kept n)
+leaf-stands test view account stands n = leaf-alike stands.name test n view.leaves.kept account.state.leaves.kept stands.leaves.kept

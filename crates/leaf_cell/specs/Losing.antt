@@ -1,5 +1,5 @@
 -- What the loss of a cell leaves.
-use Rattle.std.specs.Prelude.{◌≡◌, ℕ, ◌<◌, Bool, false, not, if◌then◌else◌, List, map, Option, Some, None}
+use Rattle.std.specs.Prelude.{◌≡◌, ℕ, ◌<◌, false, if◌then◌else◌, List, map, Option, Some}
 use Rattle.vm_base.specs.Deals.{Deal}
 use Rattle.vm_base.specs.Frames.{FrameView}
 use Rattle.kernel_meaning.specs.Leaves.{Versions, no_versions, Lost, Kept, CellLeaves, is_lost, kept_by}
@@ -22,11 +22,6 @@ pub record IsLoss {State : Type 0} (goes : State → Deal → State → Type 0) 
   pub was : old ≡ Some it
   pub becomes : new ≡ Some (lost_at at it)
   pub released : IsLeafReleased goes from to (snapshot_places no_versions it.leaf) places (own_if (leaf_value it.leaf)) frames left
-
--- a snapshot has the cell, and has not lost it
-abbrev pub has_leaf : Option Kept → Bool
-has_leaf None = false
-has_leaf (Some kept) = not (is_lost kept.leaf)
 
 -- a snapshot as contracts see it once it has lost the cell: it names no page any more
 abbrev pub without_leaf : ℕ → Kept → Kept

@@ -1,10 +1,10 @@
 -- What is read of a cell's snapshots.
-use Rattle.std.specs.Prelude.{ℕ, Bool, false, if◌then◌else◌, List, Option, Some, None, Result, Ok, Err}
+use Rattle.std.specs.Prelude.{ℕ, Bool, false, not, if◌then◌else◌, List, Option, Some, None, Result, Ok, Err}
 use Rattle.std.specs.Option.{option_map}
 use Rattle.std.specs.List.{slice_get}
 use Rattle.vm_base.specs.declared.fork_mode.Mode.{Mode}
 use Rattle.vm_base.specs.declared.refusals.Refused.{Refused as RefusedRequest}
-use Rattle.kernel_meaning.specs.Leaves.{Leaf, Own, Joined, Lost, Kept, Versions, kept_by, is_async, is_joined}
+use Rattle.kernel_meaning.specs.Leaves.{Leaf, Own, Joined, Lost, Kept, Versions, kept_by, is_async, is_joined, is_lost}
 use Rattle.leaf_cell.specs.declared.snapshot.LeafState.{LeafState}
 use Rattle.leaf_cell.specs.declared.snapshot.LeafState.TheVariants as state
 use Rattle.leaf_cell.specs.declared.snapshot.Snapshot.{Snapshot}
@@ -46,10 +46,18 @@ abbrev pub refused_count : Result (Unit {0}) RefusedRequest → Option ℕ
 refused_count (Ok done) = None
 refused_count (Err refused) = Some refused.at
 
--- a snapshot has the cell by the parent's leaf table
+-- a snapshot has the cell, with a leaf that passes a test
+abbrev pub has_leaf_where : (Leaf → Bool) → Option Kept → Bool
+has_leaf_where test None = false
+has_leaf_where test (Some kept) = test kept.leaf
+
+-- it has not lost the cell
+abbrev pub has_leaf : Option Kept → Bool
+has_leaf kept = has_leaf_where (λ leaf. not (is_lost leaf)) kept
+
+-- its leaf table is the parent's
 abbrev pub has_joined : Option Kept → Bool
-has_joined None = false
-has_joined (Some kept) = is_joined kept.leaf
+has_joined kept = has_leaf_where is_joined kept
 
 -- a snapshot whose leaf table names these places and is its own
 abbrev pub with_own : Versions → Snapshot → Snapshot

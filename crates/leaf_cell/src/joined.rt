@@ -7,9 +7,9 @@ ghost use Rattle.kernel_meaning.specs.Leaves.{has_pages, kept_by, Own, Joined};
 ghost use Rattle.kernel_meaning.specs.CellActs.{leaf_copy_answered, with_fork, with_leaf_where, is_number};
 ghost use Rattle.kernel_meaning.specs.CellAccount.{CellAccount, Fork};
 ghost use Rattle.leaf_cell.specs.CellView.{held_of};
-ghost use Rattle.leaf_cell.specs.Losing.{IsLost, has_leaf};
+ghost use Rattle.leaf_cell.specs.Losing.{IsLost};
 ghost use Rattle.leaf_cell.specs.Standing.{StandsFor, TakesAccount, TakesPart, MadePart};
-ghost use Rattle.leaf_cell.specs.States.{has_joined, with_own};
+ghost use Rattle.leaf_cell.specs.States.{has_leaf, has_joined, with_own};
 ghost use Rattle.leaf_cell.specs.Inside.{table_places};
 
 use crate::cell::Cell;

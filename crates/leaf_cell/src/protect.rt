@@ -24,13 +24,7 @@ impl Cell {
     {
         let _ = allot;
         let is_writable = perm == Perm::ReadWrite;
-        allow_range(
-            &mut self.parent,
-            &self.snapshot,
-            first,
-            pages,
-            is_writable,
-        );
+        allow_range(&mut self.parent, &self.snapshot, first, pages, is_writable);
     }
 
     /// The page may be written to, where no snapshot's own table names its frame.

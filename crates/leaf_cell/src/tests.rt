@@ -4,7 +4,7 @@ ghost use Rattle.std.specs.Prelude.{⊤, ℕ};
 use crate::{Cell, LeafState};
 use std::alloc::Global;
 use std::test::Fail;
-use vm_base::{Allot, Frame, Lost, NoMemory, Refused, Want};
+use vm_base::{Allot, Frame, Lost, Mode, NoMemory, Perm, Refused, Want};
 
 /// So many frames.
 #[derive(Drop)]
@@ -142,5 +142,61 @@ fn a_write_after_the_fork_is_not_in_the_snapshot(rt: HostRuntime) -> Result<(), 
     for left in 0..3 {
         assert!(rt; write_around_a_fork(rt.alloc(), left)?.is_none());
     }
+    Ok(())
+}
+
+/// What the leaf of an async fork goes through.
+#[derive(Drop)]
+struct Course {
+    // The leaf after the fork, after it got a table of its own, and after its loss, and the frames
+    // in the cell then.
+    states: [LeafState; 3],
+    held: [u32; 3],
+    parent: [u8; 2],
+    out: u64,
+}
+
+fn lose_a_lazy_leaf(alloc: Global) -> Result<Option<Course>, NoMemory> {
+    let mut supply = Supply {
+        alloc,
+        left: 3,
+        out: 0,
+        refused: 0,
+    };
+    let mut cell = Cell::new(alloc)?;
+    let Ok(()) = cell.touch(3, &mut supply) else {
+        return Ok(None);
+    };
+    cell.store(3, 0, b"ab");
+    cell.set_lazy(1, Mode::Async);
+    let forked = (cell.state(1), cell.held());
+    let Ok(frame) = supply.take(Want::Leaf) else {
+        return Ok(None);
+    };
+    cell.own_leaf(1, frame);
+    let owned = (cell.state(1), cell.held());
+    cell.protect(0, 512, Perm::Read, &mut supply);
+    cell.lose(1, 7, &mut supply);
+    let mut parent = [0; 2];
+    cell.read(3, 0, &mut parent);
+    Ok(Some(Course {
+        states: [forked.0, owned.0, cell.state(1)],
+        held: [forked.1, owned.1, cell.held()],
+        parent,
+        out: supply.out,
+    }))
+}
+
+#[test]
+fn a_joined_leaf_is_owned_and_then_lost(rt: HostRuntime) -> Result<(), Fail> {
+    let course = lose_a_lazy_leaf(rt.alloc())?;
+    let Some(course) = course else {
+        panic!(rt; "three frames are enough");
+    };
+    let states = [LeafState::Marked, LeafState::Own, LeafState::Lost(7)];
+    assert_eq!(rt; course.states, states);
+    assert_eq!(rt; course.held, [2, 3, 2]);
+    assert_eq!(rt; &course.parent, b"ab");
+    assert_eq!(rt; course.out, 2);
     Ok(())
 }

@@ -12,6 +12,6 @@ returns-in-Some c =
     ap (λ frame. places_of frame.bytes) c.put_word.ensures
     ∙ places_of-with_word c.self.inside.frame.bytes c.args.page c.entry_word-word.result c.self.invariant c.requires c.entry_word-word.type_inv
     ∙ ap (slice_set (places_of c.self.inside.frame.bytes) c.args.page)
-      (place_in-present c.entry_word-word.result c.in-Some.place c.args.is_writable (c.entry_word-word.ensures.word ∙ ap (entry_of c.in-Some.place) c.page_bits.ensures) c.entry_word-word.ensures.number)
+    (place_in-present c.entry_word-word.result c.in-Some.place c.args.is_writable (c.entry_word-word.ensures.word ∙ ap (entry_of c.in-Some.place) c.page_bits.ensures) c.entry_word-word.ensures.number)
     ∙ same-place (places_of c.self.inside.frame.bytes) c.args.page c.in-Some.place there
     ∙ c.self.view_is
