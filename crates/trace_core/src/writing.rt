@@ -93,7 +93,7 @@ pub struct NoArea {
 }
 
 // What an event answers when the areas refuse it.
-fn outcome_of(fault: AreaFault) -> Outcome
+pub(crate) fn outcome_of(fault: AreaFault) -> Outcome
     ensures { result ≡ refusal_outcome (refusal_of fault) }
 {
     match fault {
