@@ -7,3 +7,4 @@ pub mod SuppliedRuns
 pub mod Worked
 pub mod Writes
 pub mod AreaChanges
+pub mod AreaSteps
