@@ -1,12 +1,14 @@
 -- The area at a page, and the lowest page of a range that areas hold or do not.
 use Rattle.std.proofs.Common.{◌≡◌, ℕ, ◌+◌, ◌-◌, ◌<◌, ◌≤◌, zero, suc, max, Bool, List, [], ◌∷◌, length, drop, drop-cons, get_or, cond, ltb, leb, not, Some, None, Option, refl, sym, ◌∙◌, ap, subst, arith, inl, inr, true, false}
-use Rattle.std.specs.Prelude.{◌&&◌, is_some}
+use Rattle.std.specs.Prelude.{◌&&◌, ◌^◌, is_some, unwrap_or, IfSome}
 use Rattle.std.specs.List.Sorted.{IsPartitionedBy, IsPartitionPoint}
-use Rattle.std.proofs.lemmas.Bool.{cases_lt, cases_eq, cases_Bool, cond-true, cond-false, lt-ltb, le-ltb, le-leb, leb-true, leb-false, and_from, and_left, and_right}
+use Rattle.std.proofs.lemmas.Bool.{cases_lt, cases_eq, cases_Bool, cond-true, cond-false, lt-ltb, le-ltb, le-leb, leb-true, leb-false, and_from, and_left, and_right, false≢true}
+use Rattle.std.proofs.lemmas.List.Elements.{All-head, All-tail}
 use Rattle.vm_base.specs.FlatMemory.{Area, holds, area_of}
 use Rattle.vm_base.specs.FlatStep.{lowest, taken, outside}
-use Rattle.area_list.proofs.Order.{IsFrom}
-use Rattle.area_list.proofs.Permissions.{holds_inside, holds_before, holds_behind}
+use Rattle.area_list.specs.AreaList.{AreWithin, IsAreaList, IsFound}
+use Rattle.area_list.proofs.Order.{IsFrom, IsFrom-in_order}
+use Rattle.area_list.proofs.Permissions.{holds_inside, holds_before, holds_behind, holds_parts}
 
 -- ---- the lowest number of a range that passes a test
 pub lowest_found : (n : ℕ) (test : ℕ → Bool) (first page : ℕ) → first ≤ page → page < first + n → test page ≡ true → ((q : ℕ) → first ≤ q → q < page → test q ≡ false) → lowest test first n ≡ Some page
@@ -211,3 +213,43 @@ found_before page low point areas d from some bound parted =
     area_at_point page low (point - 1) areas d from (omega (arith, some))
     (λ i e lt. leb-true (get_or areas i e).first page (parted.0 i e (omega arith) (omega (arith, some))))
     (λ i e le lt. leb-false (get_or areas i e).first page (parted.1 i e (omega (arith, some)) lt))
+
+-- ---- what is known of the area that is found
+
+-- the area lies behind a page, as all do
+record IsFoundFrom (low : ℕ) (areas : List Area) (page : ℕ) (a : Area) : Type 0 where
+  above : low ≤ a.first
+  found : IsFound areas page a
+
+found_from : (low : ℕ) (areas : List Area) (page : ℕ) (a : Area) → IsFrom low areas → AreWithin areas → area_of areas page ≡ Some a → IsFoundFrom low areas page a
+found_from low [] page a from within is = absurd (false≢true (ap is_some is))
+found_from low (b ∷ areas) page a from within is = elim (cases_Bool (holds b page)) [
+  | inl held ↦
+      let same : b ≡ a = ap (λ o. unwrap_or o b) (sym (area_held b areas page held) ∙ is) in
+      let parts : (b.first ≤ page) × (page < b.first + b.pages) = holds_parts b page held in
+      subst (IsFoundFrom low (b ∷ areas) page) same (record {
+        above = from.0;
+        found = record {
+          reached = parts.0;
+          ahead = parts.1;
+          within = All-head (λ area. area.first + area.pages ≤ 2 ^ 36) b areas within;
+          all = λ other le lt. area_held b areas other (holds_inside b other le lt);
+        };
+      })
+  | inr passed ↦
+      let rest : IsFoundFrom (b.first + b.pages) areas page a =
+      found_from (b.first + b.pages) areas page a from.2 (All-tail (λ area. area.first + area.pages ≤ 2 ^ 36) b areas within) (sym (area_passed b areas page passed) ∙ is) in
+      record {
+        above = omega (arith, rest.above, from.0);
+        found = record {
+          reached = rest.found.reached;
+          ahead = rest.found.ahead;
+          within = rest.found.within;
+          all = λ other le lt. area_passed b areas other (holds_behind b other (omega (arith, rest.above, le))) ∙ rest.found.all other le lt;
+        };
+      }
+]
+
+pub area_found : (areas : List Area) (page : ℕ) (found : Option Area) → IsAreaList areas → found ≡ area_of areas page → IfSome found (IsFound areas page)
+area_found areas page None form is = tt
+area_found areas page (Some a) form is = (found_from 0 areas page a (IsFrom-in_order areas form.in_order) form.within (sym is)).found

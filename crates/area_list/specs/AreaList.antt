@@ -1,5 +1,5 @@
 -- Lists of areas: their form, and the permission that they give each page.
-use Rattle.std.specs.Prelude.{◌≡◌, ℕ, Bool, ◌+◌, ◌≤◌, ◌^◌, List, length, Option, if◌then◌else◌, nat_le, nat_lt, ◌&&◌}
+use Rattle.std.specs.Prelude.{◌≡◌, ℕ, Bool, ◌+◌, ◌≤◌, ◌<◌, ◌^◌, List, length, Option, Some, if◌then◌else◌, nat_le, nat_lt, ◌&&◌}
 use Rattle.std.specs.List.{All}
 use Rattle.std.specs.Option.{option_map}
 use Rattle.vm_base.specs.declared.permission.Perm.{Perm}
@@ -14,6 +14,13 @@ pub record IsAreaList (areas : List Area) : Type 0 where
   pub in_order : AreInOrder areas
   pub few : length areas ≤ 128
   pub within : AreWithin areas
+
+-- the page lies in this area, which goes not beyond page 2^36, and each page of the area lies in it too
+pub record IsFound (areas : List Area) (page : ℕ) (area : Area) : Type 0 where
+  pub reached : area.first ≤ page
+  pub ahead : page < area.first + area.pages
+  pub within : area.first + area.pages ≤ 2 ^ 36
+  pub all : (other : ℕ) → area.first ≤ other → other < area.first + area.pages → area_of areas other ≡ Some area
 
 -- what a page may be used for, if it lies in an area
 abbrev pub permission_at : List Area → ℕ → Option Perm

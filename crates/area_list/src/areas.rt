@@ -1,7 +1,7 @@
 //! The list of areas.
-ghost use Rattle.std.specs.Prelude.{◌≡◌, ◌+◌, ◌<◌, ◌≤◌, ◌^◌, [], Some, None, OnOk};
+ghost use Rattle.std.specs.Prelude.{◌≡◌, ◌+◌, ◌<◌, ◌≤◌, ◌^◌, [], Some, None, IfSome, OnOk};
 ghost use Rattle.vm_base.specs.FlatMemory.{area_of};
-ghost use Rattle.area_list.specs.AreaList.{IsAreaList, Sets};
+ghost use Rattle.area_list.specs.AreaList.{IsAreaList, IsFound, Sets};
 ghost use Rattle.area_list.specs.Calls.{areas_mapped, areas_unmapped, areas_protected, if_few};
 ghost use Rattle.area_list.specs.Pieces.{pieces, IsOver};
 ghost use Rattle.vm_base.specs.FlatStep.{joined};
@@ -71,7 +71,8 @@ impl Areas {
     /// The area that holds a page. The number of steps grows with the logarithm of the number of
     /// areas.
     pub fn find(&self, page: u64) -> Option<Area>
-        ensures { result ≡ area_of self.now page }
+        ensures area { result ≡ area_of self.now page }
+        ensures found { IfSome result (IsFound self.now page) }
     {
         area_at(self.list(), page)
     }

@@ -1,7 +1,6 @@
 -- A write ends as the definitions have it: refused by the areas, for want of slots, or behind its requests for frames.
 use Rattle.std.proofs.Common.{◌≡◌, ℕ, ◌+◌, ◌-◌, ◌*◌, ◌<◌, ◌≤◌, List, [], length, Option, Some, None, Result, Ok, Err, cond, refl, sym, ◌∙◌, ap, subst, arith, append-nil}
 use Rattle.std.specs.Prelude.{true, false}
-use Rattle.std.specs.Prelude.{nat_le}
 use Rattle.std.specs.List.{range_with_len}
 use Rattle.std.specs.Ordering.{nat_cmp}
 use Rattle.std.specs.FinMap.{empty, get-empty}
@@ -10,7 +9,7 @@ use Rattle.vm_base.specs.Deals.{Deal, LeadsAlong}
 use Rattle.vm_base.specs.Places.{page_of, page_count, cell_of, cells_of_range}
 use Rattle.vm_base.specs.FlatMemory.{Area, FlatMemory, bytes_at}
 use Rattle.kernel_meaning.specs.Leaves.{holds_number}
-use Rattle.vm_base.specs.FlatStep.{Refusal, OutsideAreas, ReadOnly, Taken, TooManyAreas, map_of, read_of, taken, joined, with_area, at_most_128, outside, unwritable, or_refused, touch_of, stored, with_pages, with_bytes}
+use Rattle.vm_base.specs.FlatStep.{Refusal, OutsideAreas, ReadOnly, read_of, outside, unwritable, or_refused, touch_of, stored, with_pages, with_bytes}
 use Rattle.kernel_meaning.specs.Requests.{Answer, answers_of}
 use Rattle.kernel_meaning.specs.FrameLaw.{held_frames, lacks_slots, used_cells, cells_without_slot}
 use Rattle.kernel_meaning.specs.EventRequests.{Progress, FrameRefusal, pages_touched}
@@ -30,12 +29,10 @@ use Rattle.trace_events.specs.declared.outcome.Outcome.{Outcome}
 use Rattle.trace_events.specs.declared.outcome.Outcome.TheVariants.{Done, CellsFull, NoFrame}
 use Rattle.trace_core.specs.SupplyState.{SupplyState, SupplyGoes, opening_supply}
 use Rattle.vm_base.specs.declared.frame_request.Asker.TheVariants.{Parent}
-use Rattle.vm_base.specs.declared.permission.Perm.{Perm}
 use Rattle.kernel_meaning.specs.RefusedRequests.{PolicySum}
-use Rattle.area_list.specs.Calls.{areas_mapped, on_memory, if_few}
 use Rattle.page_tables.specs.declared.tables.SnapshotTables.{SnapshotTables}
 use Rattle.trace_core.specs.KernelState.{Machine, KernelState, opening_state}
-use Rattle.trace_core.specs.EventMeaning.{EventEnd, begun, only_answers, areas_changed, mapped, refusal_outcome, touch_judged, touch_answered, written}
+use Rattle.trace_core.specs.EventMeaning.{EventEnd, begun, only_answers, refusal_outcome, touch_judged, touch_answered, written}
 use Rattle.trace_events.specs.declared.event.Event.TheVariants.{Write}
 use Rattle.trace_core.specs.Supplied.{IsSupplied}
 use Rattle.trace_core.proofs.AnswerLemmas.{no_request_has_led}
@@ -46,6 +43,10 @@ use Rattle.trace_core.specs.KernelStanding.{KernelParts, KernelStands, EventRan,
 pub ran-unchanged : (parts : KernelParts) (machine : Machine) (state : KernelState) (end : List Answer → EventEnd) (outcome : Outcome) → KernelStands parts machine state
     → end [] ≡ only_answers state outcome → EventRan parts parts machine end outcome
 ran-unchanged parts machine state end outcome st ends = record { deals = []; led = refl; after = state; ends = ends; stands = st }
+
+-- where as many frames are out as the page tables hold, they are those of the frame law
+pub out-then : (out : ℕ) (new : PageTables) (sides : Sides) → TablesStandFor new sides → frames_in new.slots.items ≡ shares_in new.slots.items → out ≡ frames_of new → out ≡ held_frames sides.leaves
+out-then out new sides stands even same = same ∙ (let law = frames-law new.directory new.snapshot new.slots.items sides stands in omega (arith, law, even))
 
 module _ (parts : KernelParts) (machine : Machine) (state : KernelState) (st : KernelStands parts machine state) (addr : ℕ) (bytes : List ℕ) where
   abbrev first : ℕ
@@ -117,11 +118,6 @@ module _ (parts : KernelParts) (machine : Machine) (state : KernelState) (st : K
 
     -- behind the touch of a range, with a supply that its deals led here
     module _ (to : SupplyState) (led : LeadsAlong SupplyGoes parts.supply deals to) where
-      -- and page tables that hold what is out
-      module _ (new : PageTables) (sides : Sides) (stands : TablesStandFor new sides) (even : frames_in new.slots.items ≡ shares_in new.slots.items) (out : to.out ≡ frames_of new) where
-        pub out-then : to.out ≡ held_frames sides.leaves
-        out-then = out ∙ (let law = frames-law new.directory new.snapshot new.slots.items sides stands in omega (arith, law, even))
-
       pub supplied-then : (end : EventEnd) → written machine state (answers_of deals) addr bytes ≡ end → end.deals ≡ deals → to.out ≡ held_frames end.after.leaves → IsSupplied machine end.after to
       supplied-then end ends makes held = subst (λ e. IsSupplied machine e.after to) ends
           (supplied-parent machine parts.supply.policies [] state (Write addr bytes) deals parts.supply to refl refl st.supply (no_request_has_led machine.frames parts.supply.policies) led
@@ -142,7 +138,7 @@ module _ (parts : KernelParts) (machine : Machine) (state : KernelState) (st : K
         → EventRan parts (record { areas = parts.areas; tables = new; supply = to; snapshot = parts.snapshot; last = parts.last }) machine (λ answers. written machine state answers addr bytes) Done
     ran-done range new stands even out number slots =
         let ends = written-is some granted room mid deals None range in
-        let held = out-then some granted room mid deals None range to led new _ stands even out in
+        let held = out-then to.out new _ stands even out in
         record {
           deals = deals;
           led = led;
@@ -172,7 +168,7 @@ module _ (parts : KernelParts) (machine : Machine) (state : KernelState) (st : K
         (λ answers. written machine state answers addr bytes) (NoFrame refusal.at)
     ran-no_frame refusal range even out number slots =
         let ends = written-is some granted room mid deals (Some refusal) range in
-        let held = out-then some granted room mid deals (Some refusal) range to led mid _ range.follows.stands even out in
+        let held = out-then to.out mid _ range.follows.stands even out in
         record {
           deals = deals;
           led = led;
@@ -219,55 +215,7 @@ moved-alike a b c d moved same = omega (arith, moved, same)
 pub moved-even : (a b c d : ℕ) → a + b ≡ c + d → a ≡ c → d ≡ b
 moved-even a b c d moved same = omega (arith, moved, same)
 
--- ---- mapping, reading, and the start
-
--- a mapping changes the areas of a memory as it changes their list, or is refused alike
-mapped-on : (memory : FlatMemory) (start n : ℕ) (perm : Perm) → map_of memory start n perm ≡ on_memory memory (areas_mapped memory.areas start n perm)
-mapped-on memory start n perm =
-    let areas = joined (with_area (record { first = start; pages = n; perm = perm }) memory.areas) in
-    elim (taken memory.areas start n) as (λ o. or_refused Taken o (at_most_128 (record memory { areas = areas })) ≡ on_memory memory (or_refused Taken o (if_few areas))) [
-      | Some page ↦ refl
-      | None ↦ elim (nat_le (length areas) 128) as (λ b. cond b (Ok (record memory { areas = areas })) (Err TooManyAreas)
-          ≡ on_memory memory (cond b (Ok areas) (Err TooManyAreas))) [ true ↦ refl | false ↦ refl ]
-    ]
-
-module _ (parts : KernelParts) (machine : Machine) (state : KernelState) (st : KernelStands parts machine state) (first n : ℕ) (perm : Perm) where
-  pub ran-unmapped : (refusal : Refusal) (areas : List Area) (outcome : Outcome) → areas_mapped parts.areas first n perm ≡ Err refusal → areas ≡ parts.areas → outcome ≡ refusal_outcome refusal
-      → EventRan parts (record { areas = areas; tables = parts.tables; supply = parts.supply; snapshot = parts.snapshot; last = parts.last }) machine
-      (λ answers. mapped state answers first n perm) outcome
-  ran-unmapped refusal areas outcome e same told =
-      subst (λ areas. EventRan parts (record { areas = areas; tables = parts.tables; supply = parts.supply; snapshot = parts.snapshot; last = parts.last }) machine
-      (λ answers. mapped state answers first n perm) outcome) (sym same)
-      (subst (EventRan parts parts machine (λ answers. mapped state answers first n perm)) (sym told)
-      (ran-unchanged parts machine state (λ answers. mapped state answers first n perm) (refusal_outcome refusal) st
-      (ap (λ t. areas_changed state t (begun state []))
-      (mapped-on state.world.parent first n perm ∙ ap (λ areas. on_memory state.world.parent (areas_mapped areas first n perm)) st.areas ∙ ap (on_memory state.world.parent) e))))
-
-  pub ran-mapped : (areas : List Area) → areas_mapped parts.areas first n perm ≡ Ok areas
-      → EventRan parts (record { areas = areas; tables = parts.tables; supply = parts.supply; snapshot = parts.snapshot; last = parts.last }) machine
-      (λ answers. mapped state answers first n perm) Done
-  ran-mapped areas e = record {
-    deals = [];
-    led = refl;
-    after = (areas_changed state (Ok (record state.world.parent { areas = areas })) (begun state [])).after;
-    ends = ap (λ t. areas_changed state t (begun state []))
-        (mapped-on state.world.parent first n perm ∙ ap (λ areas. on_memory state.world.parent (areas_mapped areas first n perm)) st.areas ∙ ap (on_memory state.world.parent) e);
-    stands = record {
-      pages = st.pages;
-      areas = refl;
-      tables = st.tables;
-      number = st.number;
-      memories = st.memories;
-      losses = refl;
-      last = st.last;
-      counts = st.counts;
-      supply = record { frames = st.supply.frames; held = st.supply.held; asker = st.supply.asker; refused = st.supply.refused; pending = st.supply.pending };
-      out = st.out;
-      even = st.even;
-      slots = st.slots;
-      limit = st.limit;
-    };
-  }
+-- ---- reading, and the start
 
 module _ (parts : KernelParts) (machine : Machine) (state : KernelState) (st : KernelStands parts machine state) (addr n : ℕ) where
   read_with : List Area → Result (List ℕ) Refusal

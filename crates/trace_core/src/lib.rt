@@ -9,6 +9,7 @@
 
 mod kernel;
 mod laws;
+mod mappings;
 mod supply;
 #[cfg(test)]
 mod tests;

@@ -1,8 +1,7 @@
 //! The calls of the parent: an area mapped, and bytes read and written.
-ghost use Rattle.std.specs.Prelude.{◌≡◌, ◌+◌, ◌<◌, ◌≤◌, ◌^◌, length, is_some, IfErr};
+ghost use Rattle.std.specs.Prelude.{◌≡◌, ◌+◌, ◌<◌, ◌≤◌, ◌^◌, not, length, IfErr};
 ghost use Rattle.vm_base.specs.Places.{page_of, page_count};
-ghost use Rattle.vm_base.specs.FlatMemory.{area_of};
-ghost use Rattle.vm_base.specs.FlatStep.{outside, unwritable, is_read_only, read_of};
+ghost use Rattle.vm_base.specs.FlatStep.{is_writable, outside, unwritable, read_of};
 ghost use Rattle.area_list.specs.Answers.{refusal_of};
 ghost use Rattle.trace_core.specs.KernelState.{Machine, KernelState};
 ghost use Rattle.trace_core.specs.EventMeaning.{refusal_outcome, mapped, written};
@@ -93,7 +92,7 @@ pub struct NoArea {
 }
 
 // What an event answers when the areas refuse it.
-fn outcome_of(fault: AreaFault) -> Outcome
+pub(crate) fn outcome_of(fault: AreaFault) -> Outcome
     ensures { result ≡ refusal_outcome (refusal_of fault) }
 {
     match fault {
@@ -114,43 +113,46 @@ pub(crate) fn page_count(addr: u64, len: u64) -> u64
     (addr + len - 1) / PAGE_BYTES + 1 - addr / PAGE_BYTES
 }
 
-/// The lowest page of a range that lies in no area.
+/// The lowest page of a range that lies in no area. It goes from area to area.
 pub(crate) fn first_outside(areas: &Areas, first: u64, count: u64) -> Option<u64>
     requires { first + count ≤ 2 ^ 36 }
     ensures { result ≡ outside areas.now first count }
 {
-    for page in first..first + count {
-        if !is_mapped(areas, page) {
-            return Some(page);
+    let end = first + count;
+    let mut page = first;
+    while page < end {
+        match areas.find(page) {
+            Some(area) => page = area.first + area.pages,
+            None => return Some(page),
         }
     }
     None
 }
 
-/// The lowest page of a range that may only be read.
+/// The lowest page of a range that may only be read. It goes from area to area, and page by page
+/// only where there is none: whoever calls has looked for such pages before.
 pub(crate) fn first_read_only(areas: &Areas, first: u64, count: u64) -> Option<u64>
     requires { first + count ≤ 2 ^ 36 }
     ensures { result ≡ unwritable areas.now first count }
 {
-    for page in first..first + count {
-        if is_read_only(areas, page) {
-            return Some(page);
+    let end = first + count;
+    let mut page = first;
+    while page < end {
+        match areas.find(page) {
+            Some(area) => {
+                if is_read_only(area.perm) {
+                    return Some(page);
+                }
+                page = area.first + area.pages;
+            }
+            None => page += 1,
         }
     }
     None
 }
 
-fn is_mapped(areas: &Areas, page: u64) -> bool
-    ensures { result ≡ is_some (area_of areas.now page) }
+fn is_read_only(perm: Perm) -> bool
+    ensures { result ≡ not (is_writable perm) }
 {
-    areas.find(page).is_some()
-}
-
-fn is_read_only(areas: &Areas, page: u64) -> bool
-    ensures { result ≡ is_read_only (area_of areas.now page) }
-{
-    match areas.find(page) {
-        Some(area) => matches!(area.perm, Perm::Read),
-        None => false,
-    }
+    matches!(perm, Perm::Read)
 }

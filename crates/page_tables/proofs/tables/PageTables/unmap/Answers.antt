@@ -1,4 +1,4 @@
-use Rattle.std.proofs.Common.{◌≡◌, ◌+◌, ◌-◌, ◌*◌, ◌≤◌, ◌<◌, Some, subst, sym, ◌∙◌, refl, arith, inl, inr}
+use Rattle.std.proofs.Common.{◌≡◌, ℕ, ◌+◌, ◌-◌, ◌*◌, ◌≤◌, ◌<◌, Some, subst, sym, ◌∙◌, refl, arith, inl, inr}
 use Rattle.std.proofs.lemmas.Bool.{cases_lt}
 use Rattle.kernel_meaning.specs.FrameLaw.{cell_at}
 use Rattle.table_levels.specs.Cells.{first_from}
@@ -6,14 +6,18 @@ use Rattle.page_tables.specs.declared.tables.PageTables.{PageTables}
 use Rattle.page_tables.specs.Sides.{Sides}
 use Rattle.page_tables.specs.Clearing.{has_some, IsOutOf}
 use Rattle.page_tables.specs.Standing.{TablesStandFor}
-use Rattle.page_tables.specs.Held.{frames_of}
+use Rattle.page_tables.specs.Held.{frames_of, frames_in, shares_in}
 use Rattle.page_tables.proofs.FirstCell.{IsFirstFrom, first-none, first-some}
 use Rattle.page_tables.proofs.UnmapSteps.{GoesOnFrom, unmap-begins, unmap-goes-on, unmap-ends}
 use Rattle.page_tables.proofs.tables.PageTables.unmap.Goals as goal
 
+-- frames and shares moved alike at first, and then once more
+evener : (frames shares mid-frames mid-shares new-frames new-shares : ℕ) → frames + mid-shares ≡ shares + mid-frames → mid-frames + new-shares ≡ mid-shares + new-frames → frames + new-shares ≡ shares + new-frames
+evener frames shares mid-frames mid-shares new-frames new-shares first then = omega (arith, first, then)
+
 pub loop-cell-init : goal.loop-cell-init
 loop-cell-init g c =
-    (refl, (omega arith, omega (arith, c.requires.range)), unmap-begins g.A.Allot.goes (g.A.Allot.state c.args.allot.now) c.args.first c.args.count c.args.self.now, refl, c.requires.untold, refl, refl)
+    (refl, (omega arith, omega (arith, c.requires.range)), unmap-begins g.A.Allot.goes (g.A.Allot.state c.args.allot.now) c.args.first c.args.count c.args.self.now, refl, c.requires.untold, refl, refl, omega arith, refl)
 
 pub unmap_cell-requires-clause-within : goal.unmap_cell-requires-clause-within
 unmap_cell-requires-clause-within g c =
@@ -60,6 +64,9 @@ loop-cell-preserved g c =
       c.unmap_cell.ensures.untold,
       c.unmap_cell.ensures.slots ∙ c.loop-cell.invariant.5,
       c.unmap_cell.ensures.unrefused ∙ c.loop-cell.invariant.6,
+      evener (frames_in c.args.self.now.slots.items) (shares_in c.args.self.now.slots.items) (frames_in now.slots.items) (shares_in now.slots.items) (frames_in new.slots.items) (shares_in new.slots.items)
+          c.loop-cell.invariant.7 c.unmap_cell.ensures.even,
+      c.unmap_cell.ensures.snapshot ∙ c.loop-cell.invariant.8,
     )
 
 pub returns-then-from-end-clause-made : goal.returns-then-from-end-clause-made
