@@ -9,6 +9,7 @@
 
 mod kernel;
 mod laws;
+mod snapshots;
 mod supply;
 #[cfg(test)]
 mod tests;
@@ -16,5 +17,6 @@ mod writing;
 
 pub use kernel::{Kernel, Standing};
 pub use laws::a_supply_answers_as_it_may;
+pub use snapshots::SnapshotFault;
 pub use supply::Supply;
 pub use writing::NoArea;
