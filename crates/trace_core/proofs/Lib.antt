@@ -6,3 +6,5 @@ pub mod RunLemmas
 pub mod SuppliedRuns
 pub mod Worked
 pub mod Writes
+pub mod OneSnapshot
+pub mod Copies
