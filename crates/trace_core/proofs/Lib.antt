@@ -8,3 +8,4 @@ pub mod Worked
 pub mod Writes
 pub mod OneSnapshot
 pub mod Copies
+pub mod SnapshotReads
