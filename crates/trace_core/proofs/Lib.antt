@@ -9,3 +9,6 @@ pub mod Writes
 pub mod OneSnapshot
 pub mod Copies
 pub mod SnapshotReads
+pub mod WholeEvents
+pub mod Drops
+pub mod Forks

@@ -1,17 +1,23 @@
-use Rattle.std.proofs.Common.{rules, ◌≡◌, ◌+◌, ◌<◌, ◌≤◌, ◌^◌, length, ℕ, ◌-◌, ◌*◌, ◌/◌, ◌%◌, Bool, true, false, nat_eq, nat_lt, List, [], ◌∷◌, ◌++◌, slice_index_or, slice_set, bit_and, bit_or, Fits, w8, w32, w64, Bor, MutBor}
-use Rattle.vm_base.specs.declared.fork_mode.Mode.TheVariants.{Eager}
-use Rattle.vm_base.specs.TwoSides.{snap_read_of}
-use Rattle.kernel_meaning.specs.Leaves.{holds_number}
-use Rattle.trace_core.specs.KernelState.{Machine, KernelState}
-use Rattle.trace_core.specs.EventMeaning.{fork_end, copy_end_of, drop_end}
-use Rattle.trace_core.specs.KernelStanding.{KernelStands, EventRan, kept_number}
-use Rattle.trace_core.specs.SnapshotAnswers.{snap_read_answer, KeepsUnlessLost}
+use Rattle.std.proofs.Common.{sym, ◌∙◌}
+use Rattle.trace_core.specs.KernelStanding.{sides_of}
+use Rattle.trace_core.proofs.Drops.{ran-undropped, ran-dropped}
+use Rattle.trace_core.proofs.OneSnapshot.{number-is}
+use Rattle.trace_core.proofs.Writes.{moved-alike, moved-even}
 use Rattle.trace_core.proofs.kernel.Kernel.drop_snapshot.Goals as goal
 
 -- src/snapshots.rt:68:13
 pub returns-then-not-is_live : goal.returns-then-not-is_live
-returns-then-not-is_live g c = ?
+returns-then-not-is_live g c = record { ran = λ machine state st. ran-undropped _ machine state st c.args.number (sym c.is_live.ensures ∙ c.if-not-is_live.true) }
 
 -- src/snapshots.rt:62:5
 pub returns : goal.returns
-returns g c = ?
+returns g c = record {
+  ran = λ machine state st.
+      let live = sym c.is_live.ensures ∙ c.if-not-is_live.false in
+      let made = c.drop_snapshot.ensures.made c.args.number (st.number ∙ number-is _ c.args.number live) in
+      ran-dropped _ machine state st c.args.number live c.drop_snapshot.new.self made.deals (made.follows (sides_of state st.pages) st.tables) _ made.led
+      (moved-even _ _ _ _ c.drop_snapshot.ensures.even st.even)
+      (moved-alike _ _ _ _ c.drop_snapshot.ensures.held st.out)
+      c.drop_snapshot.ensures.gone
+      (c.drop_snapshot.ensures.slots ∙ st.slots);
+}
