@@ -1,7 +1,7 @@
 -- A copy of a snapshot whose leaves are its own: there is nothing to copy, or the cell is lost, and no request is made.
-use Rattle.std.proofs.Common.{◌≡◌, ℕ, List, [], ◌∷◌, Option, Some, None, cond, refl, sym, ◌∙◌, ap, subst}
-use Rattle.std.specs.Prelude.{Bool, true, false, ◌==◌, ◌&&◌}
-use Rattle.std.specs.FinMap.{contains_key, insert, get}
+use Rattle.std.proofs.Common.{◌≡◌, ℕ, List, [], ◌∷◌, Some, cond, refl, sym, ◌∙◌, ap}
+use Rattle.std.specs.Prelude.{true, false, ◌==◌, ◌&&◌}
+use Rattle.std.specs.FinMap.{contains_key}
 use Rattle.std.proofs.lemmas.Bool.{cond-true, cond-false}
 use Rattle.leaf_cell.specs.CellView.{AreUnjoined}
 use Rattle.leaf_cell.specs.States.{leaf_state, state_of}
@@ -9,14 +9,14 @@ use Rattle.leaf_cell.specs.declared.snapshot.LeafState.{LeafState}
 use Rattle.leaf_cell.specs.declared.snapshot.LeafState.TheVariants as state
 use Rattle.vm_base.specs.declared.frame_request.Want.TheVariants as want
 use Rattle.kernel_meaning.specs.Requests.{Answer}
-use Rattle.kernel_meaning.specs.Leaves.{Leaf, Own, Joined, Lost, Kept, kept_by, is_joined, is_async, is_marked, holds_number}
-use Rattle.kernel_meaning.specs.CellActs.{Course, CopyEnd, copied_as, copy_answered, copy_end_as, answer_end, leaf_end, asking, coming_answer}
+use Rattle.kernel_meaning.specs.Leaves.{Leaf, Own, Joined, Lost, Kept, kept_by, is_joined, is_async, holds_number}
+use Rattle.kernel_meaning.specs.CellActs.{Course, copied_as, copy_answered, copy_end_as, answer_end, leaf_end, asking, coming_answer}
 use Rattle.kernel_meaning.specs.FrameLaw.{cell_at}
-use Rattle.kernel_meaning.specs.EventRequests.{Progress, course_at, with_course, snapshot_copied, copy_end_at}
+use Rattle.kernel_meaning.specs.EventRequests.{course_at, with_course, snapshot_copied, copy_end_at}
 use Rattle.trace_events.specs.declared.outcome.Outcome.{Outcome}
 use Rattle.trace_events.specs.declared.outcome.Outcome.TheVariants as outcome
 use Rattle.trace_core.specs.KernelState.{Machine, KernelState}
-use Rattle.trace_core.specs.EventMeaning.{begun, copy_outcome, copy_end_of, only_answers, with_progress, snapshot_counted, is_live}
+use Rattle.trace_core.specs.EventMeaning.{begun, copy_outcome, copy_end_of, with_progress, snapshot_counted, is_live}
 use Rattle.trace_core.specs.KernelStanding.{KernelParts, KernelStands, EventRan, kept_number}
 use Rattle.trace_core.proofs.OneSnapshot.{live-is, counted-is, insert-same, same-cell}
 use Rattle.trace_core.proofs.Writes.{ran-unchanged}

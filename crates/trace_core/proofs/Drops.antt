@@ -1,5 +1,5 @@
 -- A drop: no such snapshot lives, or it goes with what it alone holds.
-use Rattle.std.proofs.Common.{◌≡◌, ℕ, List, [], Option, None, refl, sym, ◌∙◌, ap, subst}
+use Rattle.std.proofs.Common.{◌≡◌, ℕ, List, [], None, refl, sym, ◌∙◌, ap, subst}
 use Rattle.std.specs.Prelude.{true, false}
 use Rattle.std.specs.FinMap.{remove}
 use Rattle.std.proofs.lemmas.Bool.{cond-true, cond-false}

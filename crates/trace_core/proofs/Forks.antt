@@ -1,23 +1,20 @@
 -- A fork: a snapshot lives already, a frame was refused, or the snapshot has the parent's areas and pages.
 use Rattle.std.proofs.Common.{◌≡◌, ℕ, List, [], Option, Some, None, cond, refl, sym, ◌∙◌, ap, subst}
-use Rattle.std.specs.Prelude.{Bool, true, false, nat_le, is_some}
-use Rattle.std.specs.Ordering.{nat_cmp}
-use Rattle.std.specs.FinMap.{FinMap, empty, insert, len}
+use Rattle.std.specs.Prelude.{true, nat_le, is_some}
+use Rattle.std.specs.FinMap.{empty, insert, len}
 use Rattle.std.proofs.lemmas.Bool.{cond-true, cond-false}
-use Rattle.std.proofs.lemmas.Bool.{false≢true}
 use Rattle.vm_base.specs.declared.fork_mode.Mode.TheVariants.{Eager}
 use Rattle.vm_base.specs.Deals.{Deal, LeadsAlong}
 use Rattle.vm_base.specs.FlatMemory.{Area, PageMap}
 use Rattle.kernel_meaning.specs.Requests.{answers_of}
 use Rattle.kernel_meaning.specs.FrameLaw.{held_frames}
-use Rattle.kernel_meaning.specs.EventRequests.{Progress, FrameRefusal, snapshot_forked}
+use Rattle.kernel_meaning.specs.EventRequests.{FrameRefusal, snapshot_forked}
 use Rattle.page_tables.specs.declared.tables.PageTables.{PageTables}
 use Rattle.page_tables.specs.Held.{frames_of, frames_in, shares_in}
 use Rattle.page_tables.specs.Forking.{FollowsAt, snapshots_with}
 use Rattle.page_tables.specs.Standing.{number_of, slot_count}
 use Rattle.trace_events.specs.declared.event.Event.TheVariants.{Fork}
 use Rattle.trace_events.specs.declared.outcome.Outcome.TheVariants.{Done, NoFrame, TooMany}
-use Rattle.trace_core.specs.declared.kernel.SnapshotAreas.{SnapshotAreas}
 use Rattle.trace_core.specs.SupplyState.{SupplyState, SupplyGoes}
 use Rattle.trace_core.specs.Supplied.{IsSupplied}
 use Rattle.trace_core.specs.KernelState.{Machine, KernelState}
@@ -28,11 +25,6 @@ use Rattle.trace_core.proofs.OneSnapshot.{lives-len, get-inserted}
 use Rattle.trace_core.proofs.SuppliedRuns.{supplied-parent}
 use Rattle.trace_core.proofs.WholeEvents.{progress_behind, runs-whole, all-held}
 use Rattle.trace_core.proofs.Writes.{ran-unchanged}
-
--- where there is nothing
-pub nothing-there : {X : Type 0} (o : Option X) → is_some o ≡ false → o ≡ None
-nothing-there None none = refl
-nothing-there (Some x) none = absurd (false≢true (sym none))
 
 module _ (parts : KernelParts) (machine : Machine) (state : KernelState) (st : KernelStands parts machine state) (n : ℕ) where
   -- as many live as may, where one does

@@ -1,13 +1,13 @@
 -- The one snapshot that may live, as the maps of the world have it; and a cell that becomes what it is.
-use Rattle.std.proofs.Common.{◌≡◌, ◌≢◌, ℕ, ◌+◌, List, Option, Some, None, cond, eqb, refl, sym, ◌∙◌, ap, subst, arith, inl, inr}
-use Rattle.std.specs.Prelude.{Bool, true, false, not, ◌==◌, T, is_some, filter, unwrap_or}
+use Rattle.std.proofs.Common.{◌≡◌, ℕ, ◌+◌, Option, Some, None, cond, eqb, refl, sym, ◌∙◌, ap, arith, inl, inr}
+use Rattle.std.specs.Prelude.{Bool, true, false, not, ◌==◌, is_some, filter, unwrap_or}
 use Rattle.std.specs.Ordering.{nat_cmp, eq_by_cmp}
 use Rattle.std.specs.Cmp.{nat_cmp_total}
 use Rattle.std.specs.FinMap.{FinMap, empty, get, insert, remove, len, contains_key, same_map, find, put, nat_cmp-IsAntisymmetric, get-empty, get-insert, get-remove, len-empty, len-insert}
 use Rattle.std.specs.FinMap.Entries.{find-put, is_sorted-put, find-where_key, is_sorted-where_key, same_entries}
 use Rattle.std.proofs.lemmas.Bool.{cases_Bool, cases_eq, cond-true, cond-false, eq-eqb, ne_eqb, false≢true}
 use Rattle.std.proofs.lemmas.Bool.Decides.{nat_tests}
-use Rattle.vm_base.specs.FlatMemory.{Area, PageMap, FlatMemory}
+use Rattle.vm_base.specs.FlatMemory.{PageMap, FlatMemory}
 use Rattle.kernel_meaning.specs.Leaves.{holds_number, unused_cell}
 use Rattle.kernel_meaning.specs.FrameLaw.{Leaves, cell_at, with_cell, is_used}
 use Rattle.page_tables.specs.Standing.{AreKept}
@@ -48,6 +48,11 @@ insert-same m k there = same_map nat_cmp_total nat_cmp-IsAntisymmetric _ m (λ q
     whole (Some v) there = refl
 
 -- ---- the snapshot that lives
+
+-- where there is nothing
+pub nothing-there : {X : Type 0} (o : Option X) → is_some o ≡ false → o ≡ None
+nothing-there None none = refl
+nothing-there (Some x) none = absurd (false≢true (sym none))
 
 some-is : {X : Type 0} (v : X) (a b : Bool) → a ≡ b → is_some (cond a (Some v) None) ≡ b
 some-is v true b same = same

@@ -1,11 +1,10 @@
 -- A read of a snapshot: none lives, its areas refuse, a cell is lost, or the bytes at its fork.
-use Rattle.std.proofs.Common.{◌≡◌, ◌≢◌, ℕ, List, Option, Some, None, Result, Ok, Err, eqb, refl, sym, ◌∙◌, ap, subst, arith}
-use Rattle.std.specs.Prelude.{Bool, true, false, is_some, ◌==◌}
-use Rattle.std.specs.Ordering.{nat_cmp}
-use Rattle.std.specs.FinMap.{FinMap, get, contains_key}
-use Rattle.std.proofs.lemmas.Bool.{ne_eqb, false≢true}
+use Rattle.std.proofs.Common.{◌≡◌, ◌≢◌, ℕ, List, Option, Some, None, Result, Ok, Err, sym, ◌∙◌, ap, subst}
+use Rattle.std.specs.Prelude.{false}
+use Rattle.std.specs.FinMap.{get}
+use Rattle.std.proofs.lemmas.Bool.{ne_eqb}
 use Rattle.vm_base.specs.Places.{page_of, page_count, cells_of_range}
-use Rattle.vm_base.specs.FlatMemory.{FlatMemory, PageMap, bytes_at}
+use Rattle.vm_base.specs.FlatMemory.{PageMap, bytes_at}
 use Rattle.vm_base.specs.FlatStep.{outside}
 use Rattle.vm_base.specs.TwoSides.{SnapRefusal, NotLive, OutsideSnapshot, CellLost, first_loss, kept_read_of, or_snap_refused, snap_read_of}
 use Rattle.kernel_meaning.specs.Leaves.{holds_number}
@@ -13,16 +12,12 @@ use Rattle.page_tables.specs.Accesses.{lost_in_range}
 use Rattle.trace_core.specs.declared.kernel.SnapshotAreas.{SnapshotAreas}
 use Rattle.trace_core.specs.KernelState.{Machine, KernelState}
 use Rattle.trace_core.specs.KernelStanding.{KernelParts, KernelStands, kept_memories, kept_number}
-use Rattle.trace_core.proofs.OneSnapshot.{live-is, get-inserted}
-
-not-there : {X : Type 0} (o : Option X) → is_some o ≡ false → o ≡ None
-not-there None none = refl
-not-there (Some x) none = absurd (false≢true (sym none))
+use Rattle.trace_core.proofs.OneSnapshot.{nothing-there, live-is, get-inserted}
 
 module _ (parts : KernelParts) (machine : Machine) (state : KernelState) (st : KernelStands parts machine state) (n addr size : ℕ) where
   unread : holds_number (kept_number parts.snapshot) n ≡ false → snap_read_of state.world n addr size ≡ Err NotLive
   unread gone = ap (λ o. kept_read_of o state.world.losses n addr size)
-      (not-there (get state.world.snapshots n) (live-is parts.snapshot st.pages state.world.snapshots st.memories n ∙ gone))
+      (nothing-there (get state.world.snapshots n) (live-is parts.snapshot st.pages state.world.snapshots st.memories n ∙ gone))
 
   -- no snapshot lives
   pub unread-none : parts.snapshot ≡ None → snap_read_of state.world n addr size ≡ Err NotLive

@@ -1,5 +1,5 @@
 -- An event with the answers of its own deals to come, and the frames that are out behind it.
-use Rattle.std.proofs.Common.{◌≡◌, ℕ, List, [], Option, refl, sym, ◌∙◌, ap, arith, append-nil}
+use Rattle.std.proofs.Common.{◌≡◌, ℕ, List, [], Option, sym, ◌∙◌, ap, arith, append-nil}
 use Rattle.vm_base.specs.Deals.{Deal}
 use Rattle.kernel_meaning.specs.Requests.{answers_of}
 use Rattle.kernel_meaning.specs.FrameLaw.{Leaves, held_frames}

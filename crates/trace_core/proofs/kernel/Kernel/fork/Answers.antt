@@ -2,7 +2,8 @@ use Rattle.std.proofs.Common.{sym, ◌∙◌}
 use Rattle.kernel_meaning.specs.EventRequests.{FrameRefusal}
 use Rattle.std.specs.Prelude.{None}
 use Rattle.trace_core.specs.KernelStanding.{sides_of}
-use Rattle.trace_core.proofs.Forks.{nothing-there, ran-too-many, ran-unforked, ran-forked}
+use Rattle.trace_core.proofs.Forks.{ran-too-many, ran-unforked, ran-forked}
+use Rattle.trace_core.proofs.OneSnapshot.{nothing-there}
 use Rattle.trace_core.proofs.Writes.{moved-alike, moved-even}
 use Rattle.trace_core.proofs.kernel.Kernel.fork.Goals as goal
 
