@@ -8,3 +8,9 @@ pub mod Worked
 pub mod Writes
 pub mod AreaChanges
 pub mod AreaSteps
+pub mod OneSnapshot
+pub mod Copies
+pub mod SnapshotReads
+pub mod WholeEvents
+pub mod Drops
+pub mod Forks

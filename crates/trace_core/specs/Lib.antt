@@ -6,3 +6,4 @@ pub mod KernelState
 pub mod EventMeaning
 pub mod RunMeaning
 pub mod Supplied
+pub mod SnapshotAnswers

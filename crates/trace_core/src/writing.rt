@@ -13,7 +13,7 @@ use trace_events::Outcome;
 use vm_base::Perm;
 
 /// Bytes in a page.
-const PAGE_BYTES: u64 = 4096;
+pub(crate) const PAGE_BYTES: u64 = 4096;
 
 impl Kernel {
     /// Maps pages as an area, or says why not. No frame is asked for: a page takes its frames when

@@ -1,0 +1,123 @@
+//! The calls about the snapshot: forked from the parent, copied, read and dropped.
+ghost use Rattle.std.specs.Prelude.{◌≡◌, ◌+◌, ◌<◌, ◌≤◌, ◌^◌, length};
+ghost use Rattle.vm_base.specs.declared.fork_mode.Mode.TheVariants.{Eager};
+ghost use Rattle.vm_base.specs.TwoSides.{snap_read_of};
+ghost use Rattle.kernel_meaning.specs.Leaves.{holds_number};
+ghost use Rattle.trace_core.specs.KernelState.{Machine, KernelState};
+ghost use Rattle.trace_core.specs.EventMeaning.{fork_end, copy_end_of, drop_end};
+ghost use Rattle.trace_core.specs.KernelStanding.{KernelStands, EventRan, kept_number};
+ghost use Rattle.trace_core.specs.SnapshotAnswers.{snap_read_answer, KeepsUnlessLost};
+
+use crate::kernel::{Kernel, SnapshotAreas, Standing};
+use crate::writing::{PAGE_BYTES, first_outside, page_count};
+use leaf_cell::LeafState;
+use trace_events::Outcome;
+
+impl Kernel {
+    /// Forks the snapshot of this number, which has the parent's areas and pages as they are now.
+    /// It asks for the tables of the snapshot's directory, and for a leaf table for each cell in
+    /// which the parent has a page. One snapshot may live at a time. After a refusal there is none,
+    /// and what was granted has gone back.
+    pub fn fork(&mut self, number: u32) -> Outcome
+        requires stands { (machine : Machine) × ((state : KernelState) × KernelStands (⟦<Kernel as Standing>⟧.parts self.old) machine state) }
+        ensures ran { (machine : Machine) (state : KernelState) → KernelStands (⟦<Kernel as Standing>⟧.parts self.old) machine state
+            → EventRan (⟦<Kernel as Standing>⟧.parts self.old) (⟦<Kernel as Standing>⟧.parts self.new) machine (λ answers. fork_end machine state answers number Eager) result }
+    {
+        if self.snapshot.is_some() {
+            return Outcome::TooMany;
+        }
+        match self.tables.fork(number, &mut self.supply) {
+            Ok(()) => {
+                self.snapshot = Some(SnapshotAreas {
+                    number,
+                    areas: self.areas.copy(),
+                    refused: 0,
+                });
+                self.last = number;
+                Outcome::Done
+            }
+            Err(refused) => Outcome::NoFrame(refused.at),
+        }
+    }
+
+    /// Copies what the snapshot shares with the parent at a cell, both by their numbers. An eager
+    /// fork shares no leaf table, so there is nothing to copy, and no frame is asked for; but a
+    /// cell that the snapshot has lost is told.
+    pub fn copy(&mut self, number: u32, cell: u32) -> Outcome
+        requires cell { cell < 2 ^ 27 }
+        requires stands { (machine : Machine) × ((state : KernelState) × KernelStands (⟦<Kernel as Standing>⟧.parts self.old) machine state) }
+        ensures ran { (machine : Machine) (state : KernelState) → KernelStands (⟦<Kernel as Standing>⟧.parts self.old) machine state
+            → EventRan (⟦<Kernel as Standing>⟧.parts self.old) (⟦<Kernel as Standing>⟧.parts self.new) machine (λ answers. copy_end_of state answers number cell) result }
+    {
+        if !is_live(&self.snapshot, number) {
+            return Outcome::NoSnap;
+        }
+        match self.tables.state(number, cell) {
+            LeafState::Lost(at) => Outcome::Lost(at),
+            _ => Outcome::Nothing,
+        }
+    }
+
+    /// Drops the snapshot of this number, and gives back what it alone holds.
+    pub fn drop_snapshot(&mut self, number: u32) -> Outcome
+        requires stands { (machine : Machine) × ((state : KernelState) × KernelStands (⟦<Kernel as Standing>⟧.parts self.old) machine state) }
+        ensures ran { (machine : Machine) (state : KernelState) → KernelStands (⟦<Kernel as Standing>⟧.parts self.old) machine state
+            → EventRan (⟦<Kernel as Standing>⟧.parts self.old) (⟦<Kernel as Standing>⟧.parts self.new) machine (λ answers. drop_end state answers number) result }
+    {
+        if !is_live(&self.snapshot, number) {
+            return Outcome::NoSnap;
+        }
+        self.tables.drop_snapshot(&mut self.supply);
+        self.snapshot = None;
+        Outcome::Done
+    }
+
+    /// Reads a range of the snapshot of this number as it was at its fork. A lost cell is met only
+    /// behind those below it, so some of the buffer may be filled then.
+    pub fn snap_read(&self, number: u32, addr: u64, buf: &mut [u8]) -> Result<(), SnapshotFault>
+        requires some { 0 < length buf.old }
+        requires range { addr + length buf.old ≤ 2 ^ 48 }
+        requires stands { (machine : Machine) × ((state : KernelState) × KernelStands (⟦<Kernel as Standing>⟧.parts self.now) machine state) }
+        ensures read { (machine : Machine) (state : KernelState) → KernelStands (⟦<Kernel as Standing>⟧.parts self.now) machine state
+            → snap_read_of state.world number addr (length buf.old) ≡ snap_read_answer result buf.new }
+        ensures kept { KeepsUnlessLost result buf.old buf.new }
+    {
+        let Some(kept) = &self.snapshot else {
+            return Err(SnapshotFault::NotLive);
+        };
+        if kept.number != number {
+            return Err(SnapshotFault::NotLive);
+        }
+        let first = addr / PAGE_BYTES;
+        let count = page_count(addr, buf.len() as u64);
+        if let Some(page) = first_outside(&kept.areas, first, count) {
+            return Err(SnapshotFault::NoArea(page));
+        }
+        match self.tables.snap_read(number, addr, buf) {
+            Ok(()) => Ok(()),
+            Err(lost) => Err(SnapshotFault::Lost(lost.at)),
+        }
+    }
+}
+
+/// A snapshot can't be read there.
+#[derive(Clone, Copy, Debug, PartialEq, Eq)]
+pub enum SnapshotFault {
+    /// No snapshot of that number lives.
+    NotLive,
+    /// The lowest page of the range that lay in no area at the fork.
+    NoArea(u64),
+    /// The snapshot has lost a cell of the range: the parent's count of refused requests when it
+    /// lost the lowest one.
+    Lost(u64),
+}
+
+// Whether the snapshot of this number lives.
+fn is_live(snapshot: &Option<SnapshotAreas>, number: u32) -> bool
+    ensures { result ≡ holds_number (kept_number snapshot.now) number }
+{
+    match snapshot {
+        Some(kept) => kept.number == number,
+        None => false,
+    }
+}
