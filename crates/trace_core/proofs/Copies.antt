@@ -16,7 +16,7 @@ use Rattle.kernel_meaning.specs.EventRequests.{course_at, with_course, snapshot_
 use Rattle.trace_events.specs.declared.outcome.Outcome.{Outcome}
 use Rattle.trace_events.specs.declared.outcome.Outcome.TheVariants as outcome
 use Rattle.trace_core.specs.KernelState.{Machine, KernelState}
-use Rattle.trace_core.specs.EventMeaning.{begun, copy_outcome, copy_end_of, with_progress, snapshot_counted, is_live}
+use Rattle.trace_core.specs.EventMeaning.{begun, copy_outcome, copy_end_of, only_answers, with_progress, snapshot_counted, is_live}
 use Rattle.trace_core.specs.KernelStanding.{KernelParts, KernelStands, EventRan, kept_number}
 use Rattle.trace_core.proofs.OneSnapshot.{live-is, counted-is, insert-same, same-cell}
 use Rattle.trace_core.proofs.Writes.{ran-unchanged}
@@ -101,3 +101,16 @@ module _ (parts : KernelParts) (machine : Machine) (state : KernelState) (st : K
           limit = st.limit;
         };
       }
+
+  -- whatever answers come, a copy makes no deal
+  pub no-deals : (answers : List Answer) → (copy_end_of state answers n cell).deals ≡ []
+  no-deals answers =
+      let own : AreUnjoined (cell_at state.leaves cell).kept = st.tables.kept.unjoined cell in
+      let nothing : snapshot_copied n cell (begun state answers) ≡ begun state answers =
+      ap (λ course. with_course cell course (begun state answers)) (uncopied n (course_at cell (begun state answers)) (cell_at state.leaves cell).kept own)
+      ∙ ap (λ leaves. record (begun state answers) { leaves = leaves }) (same-cell state.leaves st.tables.kept cell) in
+      elim (is_live state.world n) as (λ b. (cond b (record {
+        outcome = copy_outcome (copy_end_at n cell (begun state answers));
+        deals = (snapshot_copied n cell (begun state answers)).requests.deals;
+        after = with_progress state (snapshot_counted state.world n (snapshot_copied n cell (begun state answers)).requests.deals) (snapshot_copied n cell (begun state answers));
+      }) (only_answers state outcome.NoSnap)).deals ≡ []) [ true ↦ ap (λ p. p.requests.deals) nothing | false ↦ refl ]

@@ -14,3 +14,4 @@ pub mod SnapshotReads
 pub mod WholeEvents
 pub mod Drops
 pub mod Forks
+pub mod RunSteps

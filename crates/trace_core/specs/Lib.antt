@@ -6,4 +6,5 @@ pub mod KernelState
 pub mod EventMeaning
 pub mod RunMeaning
 pub mod Supplied
+pub mod KernelRun
 pub mod SnapshotAnswers

@@ -7,10 +7,12 @@
 //! each refused as the pool's policies allow. README.md goes on.
 #![tactic(auto)]
 
+mod accounts;
 mod kernel;
 mod laws;
 mod mappings;
 mod snapshots;
+mod step;
 mod supply;
 #[cfg(test)]
 mod tests;

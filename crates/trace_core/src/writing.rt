@@ -1,5 +1,5 @@
 //! The calls of the parent: an area mapped, and bytes read and written.
-ghost use Rattle.std.specs.Prelude.{◌≡◌, ◌+◌, ◌<◌, ◌≤◌, ◌^◌, not, length, IfErr};
+ghost use Rattle.std.specs.Prelude.{◌≡◌, ◌+◌, ◌<◌, ◌≤◌, ◌^◌, not, length, IfErr, replicate, IfOk, OnErr};
 ghost use Rattle.vm_base.specs.Places.{page_of, page_count};
 ghost use Rattle.vm_base.specs.FlatStep.{is_writable, outside, unwritable, read_of};
 ghost use Rattle.area_list.specs.Answers.{refusal_of};
@@ -9,8 +9,9 @@ ghost use Rattle.trace_core.specs.KernelStanding.{KernelStands, EventRan, read_a
 
 use crate::kernel::{Kernel, Standing};
 use area_list::{AreaFault, Areas};
+use std::alloc::Global;
 use trace_events::Outcome;
-use vm_base::Perm;
+use vm_base::{NoMemory, Perm};
 
 /// Bytes in a page.
 pub(crate) const PAGE_BYTES: u64 = 4096;
@@ -81,6 +82,26 @@ impl Kernel {
             }
             Err(refused) => Outcome::NoFrame(refused.at),
         }
+    }
+
+    /// Writes one byte at each address of a range. After `NoMemory` nothing has happened.
+    pub fn fill(
+        &mut self,
+        alloc: Global,
+        addr: u64,
+        len: u32,
+        byte: u8,
+    ) -> Result<Outcome, NoMemory>
+        requires some { 0 < len }
+        requires few { len ≤ 4194304 }
+        requires range { addr + len ≤ 2 ^ 48 }
+        requires stands { (machine : Machine) × ((state : KernelState) × KernelStands (⟦<Kernel as Standing>⟧.parts self.old) machine state) }
+        ensures ran { IfOk result (λ outcome. (machine : Machine) (state : KernelState) → KernelStands (⟦<Kernel as Standing>⟧.parts self.old) machine state
+            → EventRan (⟦<Kernel as Standing>⟧.parts self.old) (⟦<Kernel as Standing>⟧.parts self.new) machine (λ answers. written machine state answers addr (replicate len byte)) outcome) }
+        ensures kept { OnErr result (⟦<Kernel as Standing>⟧.parts self.new ≡ ⟦<Kernel as Standing>⟧.parts self.old) }
+    {
+        let bytes = vec![in alloc; byte; len as usize]?;
+        Ok(self.write(addr, &bytes))
     }
 }
 

@@ -1,0 +1,112 @@
+//! One event of a run after another.
+ghost use Rattle.std.specs.Prelude.{◌≡◌, ℕ, ◌+◌, ◌<◌, ◌≤◌, ◌^◌, List, [], ◌∷◌, ◌++◌, IfOk, OnErr, Err};
+ghost use Rattle.trace_events.specs.declared.event.Event.{Event};
+ghost use Rattle.trace_events.specs.declared.event.Event.TheVariants as event;
+ghost use Rattle.trace_events.specs.declared.outcome.Outcome.{Outcome};
+ghost use Rattle.trace_events.specs.EventBounds.{IsWithinBounds};
+ghost use Rattle.kernel_meaning.specs.RefusedRequests.{PolicySum};
+ghost use Rattle.trace_core.specs.KernelState.{Machine, KernelState};
+ghost use Rattle.trace_core.specs.EventMeaning.{snap_read_outcome};
+ghost use Rattle.trace_core.specs.SnapshotAnswers.{snap_refusal};
+ghost use Rattle.trace_core.specs.KernelStanding.{KernelStands};
+ghost use Rattle.trace_core.specs.KernelRun.{Ran, HasRun};
+
+use crate::kernel::{Kernel, Standing};
+use crate::snapshots::SnapshotFault;
+use std::alloc::Global;
+use trace_events::{Event, Outcome};
+use vm_base::{Bytes, NoMemory};
+
+impl Kernel {
+    /// Runs an event whose fields lie within their bounds. After `NoMemory` nothing has happened.
+    pub fn step(&mut self, alloc: Global, event: &Event) -> Result<Outcome, NoMemory>
+        requires within { IsWithinBounds event.now }
+        requires stands { (machine : Machine) × ((state : KernelState) × KernelStands (⟦<Kernel as Standing>⟧.parts self.old) machine state) }
+        ensures ran { IfOk result (Ran (⟦<Kernel as Standing>⟧.parts self.old) (⟦<Kernel as Standing>⟧.parts self.new) event.now) }
+
+        // A run goes on by this event and its answer, whatever was run before.
+        ensures run { IfOk result (λ outcome. (machine : Machine) (last : ℕ) (policies : PolicySum) (events : List Event) (outcomes : List Outcome)
+            → HasRun (⟦<Kernel as Standing>⟧.parts self.old) machine last policies events outcomes
+            → HasRun (⟦<Kernel as Standing>⟧.parts self.new) machine last policies (events ++ event.now ∷ []) (outcomes ++ outcome ∷ [])) }
+        ensures kept { OnErr result (⟦<Kernel as Standing>⟧.parts self.new ≡ ⟦<Kernel as Standing>⟧.parts self.old) }
+    {
+        self.run_event(alloc, event)
+    }
+
+    fn run_event(&mut self, alloc: Global, event: &Event) -> Result<Outcome, NoMemory>
+        requires within { IsWithinBounds event.now }
+        requires stands { (machine : Machine) × ((state : KernelState) × KernelStands (⟦<Kernel as Standing>⟧.parts self.old) machine state) }
+        ensures ran { IfOk result (Ran (⟦<Kernel as Standing>⟧.parts self.old) (⟦<Kernel as Standing>⟧.parts self.new) event.now) }
+        ensures kept { OnErr result (⟦<Kernel as Standing>⟧.parts self.new ≡ ⟦<Kernel as Standing>⟧.parts self.old) }
+    {
+        match event {
+            Event::Map { first, pages, perm } => Ok(self.map(*first, *pages, *perm)),
+            Event::Unmap { first, pages } => Ok(self.unmap(*first, *pages)),
+            Event::Protect { first, pages, perm } => Ok(self.protect(*first, *pages, *perm)),
+            Event::Read { addr, len } => self.read_event(alloc, *addr, *len),
+            Event::Write { addr, bytes } => Ok(self.write(*addr, bytes.as_slice())),
+            Event::Fill { addr, len, byte } => self.fill(alloc, *addr, *len, *byte),
+            Event::Fork { number, .. } => Ok(self.fork(*number)),
+            Event::Copy { number, cell } => Ok(self.copy(*number, *cell)),
+            Event::Drop { number } => Ok(self.drop_snapshot(*number)),
+            Event::SnapRead { number, addr, len } => {
+                self.snap_read_event(alloc, *number, *addr, *len)
+            }
+            Event::Frames => Ok(self.frames()),
+            Event::ListAreas => self.list_areas(alloc),
+            Event::Refuse { nth } => Ok(self.refuse(*nth)),
+        }
+    }
+
+    fn read_event(&self, alloc: Global, addr: u64, len: u32) -> Result<Outcome, NoMemory>
+        requires some { 0 < len }
+        requires range { addr + len ≤ 2 ^ 48 }
+        requires stands { (machine : Machine) × ((state : KernelState) × KernelStands (⟦<Kernel as Standing>⟧.parts self.now) machine state) }
+        ensures ran { IfOk result (Ran (⟦<Kernel as Standing>⟧.parts self.now) (⟦<Kernel as Standing>⟧.parts self.now) (event.Read addr len)) }
+    {
+        let mut buf = vec![in alloc; 0; len as usize]?;
+        match self.read(addr, &mut buf) {
+            Ok(()) => bytes_outcome(alloc, &buf),
+            Err(refused) => Ok(Outcome::NoArea(refused.page)),
+        }
+    }
+
+    fn snap_read_event(
+        &self,
+        alloc: Global,
+        number: u32,
+        addr: u64,
+        len: u32,
+    ) -> Result<Outcome, NoMemory>
+        requires some { 0 < len }
+        requires range { addr + len ≤ 2 ^ 48 }
+        requires stands { (machine : Machine) × ((state : KernelState) × KernelStands (⟦<Kernel as Standing>⟧.parts self.now) machine state) }
+        ensures ran { IfOk result (Ran (⟦<Kernel as Standing>⟧.parts self.now) (⟦<Kernel as Standing>⟧.parts self.now) (event.SnapRead number addr len)) }
+    {
+        let mut buf = vec![in alloc; 0; len as usize]?;
+        match self.snap_read(number, addr, &mut buf) {
+            Ok(()) => bytes_outcome(alloc, &buf),
+            Err(fault) => Ok(fault_outcome(fault)),
+        }
+    }
+}
+
+// The answer of a read.
+fn bytes_outcome(alloc: Global, bytes: &[u8]) -> Result<Outcome, NoMemory>
+    ensures { IfOk result (λ outcome. outcome ≡ Outcome.Bytes bytes.now) }
+{
+    let mut list = Bytes::new(alloc);
+    list.push_all(bytes)?;
+    Ok(Outcome::Bytes(list))
+}
+
+// The answer of a read of a snapshot that is refused.
+fn fault_outcome(fault: SnapshotFault) -> Outcome
+    ensures { result ≡ snap_read_outcome (Err (snap_refusal fault)) }
+{
+    match fault {
+        SnapshotFault::NotLive => Outcome::NoSnap,
+        SnapshotFault::NoArea(page) => Outcome::NoArea(page),
+        SnapshotFault::Lost(at) => Outcome::Lost(at),
+    }
+}
