@@ -69,16 +69,17 @@ module _ (parts : KernelParts) (machine : Machine) (state : KernelState) (st : K
   ran-refused_by_areas refusal areas outcome e same told =
       subst (λ areas. EventRan parts (record { areas = areas; tables = parts.tables; supply = parts.supply; snapshot = parts.snapshot; last = parts.last }) machine change_end outcome) (sym same)
       (subst (EventRan parts parts machine change_end) (sym told)
-      (ran-unchanged parts machine state change_end (refusal_outcome refusal) st (ap (λ t. areas_changed state t (act (begun state []))) e)))
+      (ran-unchanged parts machine state change_end (refusal_outcome refusal) st (λ answers. ap (λ t. areas_changed state t (act (begun state answers))) e)))
 
   -- only the areas are others
-  ran-areas_alone : (areas : List Area) → changed ≡ Ok (record state.world.parent { areas = areas }) → act (begun state []) ≡ begun state []
+  ran-areas_alone : (areas : List Area) → changed ≡ Ok (record state.world.parent { areas = areas }) → ((answers : List Answer) → act (begun state answers) ≡ begun state answers)
       → EventRan parts (record { areas = areas; tables = parts.tables; supply = parts.supply; snapshot = parts.snapshot; last = parts.last }) machine change_end Done
   ran-areas_alone areas e none = record {
     deals = [];
     led = refl;
     after = (areas_changed state (Ok (record state.world.parent { areas = areas })) (begun state [])).after;
-    ends = λ i. areas_changed state (e i) (none i);
+    ends = λ i. areas_changed state (e i) (none [] i);
+    further = λ rest. λ i. areas_changed state (e i) (none rest i);
     stands = record {
       pages = st.pages;
       areas = refl;
@@ -114,7 +115,7 @@ module _ (parts : KernelParts) (machine : Machine) (state : KernelState) (st : K
     ran-map_refused refusal areas outcome e same told = ran-refused_by_areas parts machine state st (map_of memory first n perm) (λ progress. progress) refusal areas outcome (map-is (Err refusal) e) same told
 
     pub ran-mapped : (areas : List Area) → areas_mapped parts.areas first n perm ≡ Ok areas → EventRan parts (with_areas areas) machine (λ answers. mapped state answers first n perm) Done
-    ran-mapped areas e = ran-areas_alone parts machine state st (map_of memory first n perm) (λ progress. progress) areas (map-is (Ok areas) e) refl
+    ran-mapped areas e = ran-areas_alone parts machine state st (map_of memory first n perm) (λ progress. progress) areas (map-is (Ok areas) e) (λ answers. refl)
 
     abbrev protect_end : List Answer → EventEnd
     protect_end answers = areas_changed state (protect_of memory first n perm) (pages_protected first n (begun state answers))
@@ -130,7 +131,7 @@ module _ (parts : KernelParts) (machine : Machine) (state : KernelState) (st : K
     -- no leaf is joined, so a protect makes no deal and leaves the leaves as they are
     pub ran-protected : (areas : List Area) → areas_protected parts.areas first n perm ≡ Ok areas → EventRan parts (with_areas areas) machine protect_end Done
     ran-protected areas e = ran-areas_alone parts machine state st (protect_of memory first n perm) (pages_protected first n) areas (protect-is (Ok areas) e)
-        ((protect-runs first n parts.tables (sides_of state st.pages) st.tables).runs [] [])
+        (λ answers. (protect-runs first n parts.tables (sides_of state st.pages) st.tables).runs [] answers)
 
   -- ---- unmaps
 
@@ -167,6 +168,7 @@ module _ (parts : KernelParts) (machine : Machine) (state : KernelState) (st : K
       led = led;
       after = unmapped.after;
       ends = unmapped-is;
+      further = λ rest. λ i. areas_changed state (unmap-is (Ok areas) changed i) (follows.runs.runs [] rest i);
       stands = record {
         pages = st.pages;
         areas = refl;

@@ -63,28 +63,34 @@ module _ (parts : KernelParts) (machine : Machine) (state : KernelState) (st : K
   -- no such snapshot lives
   pub ran-uncopied : holds_number (kept_number parts.snapshot) n ≡ false → EventRan parts parts machine (λ answers. copy_end_of state answers n cell) outcome.NoSnap
   ran-uncopied gone = ran-unchanged parts machine state (λ answers. copy_end_of state answers n cell) outcome.NoSnap st
-      (cond-false (is_live state.world n) _ _ (live-is parts.snapshot st.pages state.world.snapshots st.memories n ∙ gone))
+      (λ answers. cond-false (is_live state.world n) _ _ (live-is parts.snapshot st.pages state.world.snapshots st.memories n ∙ gone))
+
+  -- nothing is copied, whatever answers come
+  uncopied-at : (answers : List Answer) → snapshot_copied n cell (begun state answers) ≡ begun state answers
+  uncopied-at answers =
+      ap (λ course. with_course cell course (begun state answers)) (uncopied n (course_at cell (begun state answers)) (cell_at state.leaves cell).kept (st.tables.kept.unjoined cell))
+      ∙ ap (λ leaves. record (begun state answers) { leaves = leaves }) (same-cell state.leaves st.tables.kept cell)
 
   -- the cell is in this state
   pub ran-copy : holds_number (kept_number parts.snapshot) n ≡ true → (leaf : LeafState) → leaf ≡ state_of (kept_by (cell_at state.leaves cell).kept n)
       → (answer : Outcome) → state_outcome leaf ≡ answer → EventRan parts parts machine (λ answers. copy_end_of state answers n cell) answer
   ran-copy live leaf is answer tells =
-      let own : AreUnjoined (cell_at state.leaves cell).kept = st.tables.kept.unjoined cell in
-      let nothing : snapshot_copied n cell (begun state []) ≡ begun state [] =
-      ap (λ course. with_course cell course (begun state [])) (uncopied n (course_at cell (begun state [])) (cell_at state.leaves cell).kept own)
-      ∙ ap (λ leaves. record (begun state []) { leaves = leaves }) (same-cell state.leaves st.tables.kept cell) in
-      let end : copy_outcome (copy_end_at n cell (begun state [])) ≡ answer =
-      told n (coming_answer (course_at cell (begun state []))) (cell_at state.leaves cell).kept own ∙ ap state_outcome (sym is) ∙ tells in
+      let after : KernelState = with_progress state (snapshot_counted state.world n []) (begun state []) in
+      let end : (answers : List Answer) → copy_outcome (copy_end_at n cell (begun state answers)) ≡ answer =
+      λ answers. told n (coming_answer (course_at cell (begun state answers))) (cell_at state.leaves cell).kept (st.tables.kept.unjoined cell) ∙ ap state_outcome (sym is) ∙ tells in
+      let ends : (answers : List Answer) → copy_end_of state answers n cell ≡ record { outcome = answer; deals = []; after = after } =
+      λ answers. cond-true (is_live state.world n) _ _ (live-is parts.snapshot st.pages state.world.snapshots st.memories n ∙ live)
+      ∙ (λ i. record {
+        outcome = end answers i;
+        deals = (uncopied-at answers i).requests.deals;
+        after = with_progress state (snapshot_counted state.world n (uncopied-at answers i).requests.deals) (uncopied-at answers i);
+      }) in
       record {
         deals = [];
         led = refl;
-        after = with_progress state (snapshot_counted state.world n []) (begun state []);
-        ends = cond-true (is_live state.world n) _ _ (live-is parts.snapshot st.pages state.world.snapshots st.memories n ∙ live)
-            ∙ (λ i. record {
-              outcome = end i;
-              deals = (nothing i).requests.deals;
-              after = with_progress state (snapshot_counted state.world n (nothing i).requests.deals) (nothing i);
-            });
+        after = after;
+        ends = ends [];
+        further = ends;
         stands = record {
           pages = st.pages;
           areas = st.areas;
@@ -105,12 +111,8 @@ module _ (parts : KernelParts) (machine : Machine) (state : KernelState) (st : K
   -- whatever answers come, a copy makes no deal
   pub no-deals : (answers : List Answer) → (copy_end_of state answers n cell).deals ≡ []
   no-deals answers =
-      let own : AreUnjoined (cell_at state.leaves cell).kept = st.tables.kept.unjoined cell in
-      let nothing : snapshot_copied n cell (begun state answers) ≡ begun state answers =
-      ap (λ course. with_course cell course (begun state answers)) (uncopied n (course_at cell (begun state answers)) (cell_at state.leaves cell).kept own)
-      ∙ ap (λ leaves. record (begun state answers) { leaves = leaves }) (same-cell state.leaves st.tables.kept cell) in
       elim (is_live state.world n) as (λ b. (cond b (record {
         outcome = copy_outcome (copy_end_at n cell (begun state answers));
         deals = (snapshot_copied n cell (begun state answers)).requests.deals;
         after = with_progress state (snapshot_counted state.world n (snapshot_copied n cell (begun state answers)).requests.deals) (snapshot_copied n cell (begun state answers));
-      }) (only_answers state outcome.NoSnap)).deals ≡ []) [ true ↦ ap (λ p. p.requests.deals) nothing | false ↦ refl ]
+      }) (only_answers state outcome.NoSnap)).deals ≡ []) [ true ↦ ap (λ p. p.requests.deals) (uncopied-at answers) | false ↦ refl ]

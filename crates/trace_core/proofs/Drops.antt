@@ -30,7 +30,7 @@ module _ (parts : KernelParts) (machine : Machine) (state : KernelState) (st : K
   -- no such snapshot lives
   pub ran-undropped : holds_number (kept_number parts.snapshot) n ≡ false → EventRan parts parts machine (λ answers. drop_end state answers n) NoSnap
   ran-undropped gone = ran-unchanged parts machine state (λ answers. drop_end state answers n) NoSnap st
-      (cond-false (is_live state.world n) _ _ (live-is parts.snapshot st.pages state.world.snapshots st.memories n ∙ gone))
+      (λ answers. cond-false (is_live state.world n) _ _ (live-is parts.snapshot st.pages state.world.snapshots st.memories n ∙ gone))
 
   module _ (live : holds_number (kept_number parts.snapshot) n ≡ true) (new : PageTables) (deals : List Deal)
       (follows : FollowsAt (snapshot_dropped n) (snapshots_without n) new deals None (sides_of state st.pages)) where
@@ -55,6 +55,8 @@ module _ (parts : KernelParts) (machine : Machine) (state : KernelState) (st : K
           led = led;
           after = end.after;
           ends = dropped-is;
+          further = λ rest. cond-true (is_live state.world n) _ _ (live-is parts.snapshot st.pages state.world.snapshots st.memories n ∙ live)
+              ∙ ap (λ p. parent_end state (dropped state.world n) Done p) (follows.runs.runs [] rest);
           stands = record {
             pages = remove st.pages n;
             areas = st.areas;

@@ -1,15 +1,16 @@
 -- A fork: a snapshot lives already, a frame was refused, or the snapshot has the parent's areas and pages.
-use Rattle.std.proofs.Common.{◌≡◌, ℕ, List, [], Option, Some, None, cond, refl, sym, ◌∙◌, ap, subst}
+use Rattle.std.proofs.Common.{◌≡◌, ℕ, List, [], Option, Some, None, cond, refl, sym, ◌∙◌, ap, subst, ◌++◌}
 use Rattle.std.specs.Prelude.{true, nat_le, is_some}
 use Rattle.std.specs.FinMap.{empty, insert, len}
 use Rattle.std.proofs.lemmas.Bool.{cond-true, cond-false}
 use Rattle.vm_base.specs.declared.fork_mode.Mode.TheVariants.{Eager}
 use Rattle.vm_base.specs.Deals.{Deal, LeadsAlong}
 use Rattle.vm_base.specs.FlatMemory.{Area, PageMap}
-use Rattle.kernel_meaning.specs.Requests.{answers_of}
+use Rattle.kernel_meaning.specs.Requests.{Answer, answers_of}
 use Rattle.kernel_meaning.specs.FrameLaw.{held_frames}
 use Rattle.kernel_meaning.specs.EventRequests.{FrameRefusal, snapshot_forked}
 use Rattle.page_tables.specs.declared.tables.PageTables.{PageTables}
+use Rattle.page_tables.specs.Courses.{requests_between}
 use Rattle.page_tables.specs.Held.{frames_of, frames_in, shares_in}
 use Rattle.page_tables.specs.Forking.{FollowsAt, snapshots_with}
 use Rattle.page_tables.specs.Standing.{number_of, slot_count}
@@ -34,7 +35,7 @@ module _ (parts : KernelParts) (machine : Machine) (state : KernelState) (st : K
   -- a snapshot lives
   pub ran-too-many : is_some parts.snapshot ≡ true → EventRan parts parts machine (λ answers. fork_end machine state answers n Eager) TooMany
   ran-too-many lives = ran-unchanged parts machine state (λ answers. fork_end machine state answers n Eager) TooMany st
-      (cond-true (nat_le machine.limit (len state.world.snapshots)) _ _ (full-is ∙ ap (λ b. nat_le 1 (cond b 1 0)) lives))
+      (λ answers. cond-true (nat_le machine.limit (len state.world.snapshots)) _ _ (full-is ∙ ap (λ b. nat_le 1 (cond b 1 0)) lives))
 
   module _ (none : parts.snapshot ≡ None) (new : PageTables) (deals : List Deal) (refused : Option FrameRefusal)
       (follows : FollowsAt (snapshot_forked n Eager) (snapshots_with n) new deals refused (sides_of state st.pages)) (to : SupplyState) (led : LeadsAlong SupplyGoes parts.supply deals to)
@@ -45,6 +46,11 @@ module _ (parts : KernelParts) (machine : Machine) (state : KernelState) (st : K
     forked-is : fork_end machine state (answers_of deals) n Eager ≡ end
     forked-is = cond-false (nat_le machine.limit (len state.world.snapshots)) _ _ (full-is ∙ ap (λ o. nat_le 1 (cond (is_some o) 1 0)) none)
         ∙ ap (λ p. fork_answered state n p.refused p) (runs-whole (snapshot_forked n Eager) state deals follows.leaves follows.made refused follows.runs)
+
+    forked-behind : (rest : List Answer) → fork_end machine state (answers_of deals ++ rest) n Eager
+        ≡ fork_answered state n refused (record { leaves = follows.leaves; requests = requests_between follows.made rest deals; refused = refused })
+    forked-behind rest = cond-false (nat_le machine.limit (len state.world.snapshots)) _ _ (full-is ∙ ap (λ o. nat_le 1 (cond (is_some o) 1 0)) none)
+        ∙ ap (λ p. fork_answered state n p.refused p) (follows.runs.runs [] rest)
 
     held : to.out ≡ held_frames follows.leaves
     held = all-held to.out new _ follows.stands even out
@@ -65,6 +71,7 @@ module _ (parts : KernelParts) (machine : Machine) (state : KernelState) (st : K
     led = led;
     after = (end none new deals (Some refusal) follows to led even out slots).after;
     ends = forked-is none new deals (Some refusal) follows to led even out slots;
+    further = forked-behind none new deals (Some refusal) follows to led even out slots;
     stands = record {
       pages = st.pages;
       areas = st.areas;
@@ -97,6 +104,7 @@ module _ (parts : KernelParts) (machine : Machine) (state : KernelState) (st : K
         led = led;
         after = (end none new deals None follows to led even out slots).after;
         ends = forked-is none new deals None follows to led even out slots;
+        further = forked-behind none new deals None follows to led even out slots;
         stands = record {
           pages = insert st.pages n present;
           areas = st.areas;

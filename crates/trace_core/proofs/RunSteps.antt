@@ -8,7 +8,7 @@ use Rattle.vm_base.specs.declared.fork_mode.Mode.TheVariants.{Eager, OnDemand, A
 use Rattle.trace_events.specs.EventBounds.{is_fork_mode}
 use Rattle.vm_base.specs.declared.frame_request.Asker.TheVariants.{Parent}
 use Rattle.kernel_meaning.specs.FrameLaw.{held_frames}
-use Rattle.kernel_meaning.specs.Requests.{answers_of}
+use Rattle.kernel_meaning.specs.Requests.{Answer, answers_of}
 use Rattle.kernel_meaning.specs.RefusedRequests.{Request, PolicySum}
 use Rattle.trace_events.specs.declared.event.Event.{Event}
 use Rattle.trace_events.specs.declared.event.Event.TheVariants.{Copy, Frames, Read, Refuse, SnapRead}
@@ -43,10 +43,11 @@ ran-follows from new machine state event outcome parents plain st ran =
       deals = ran.deals;
       after = ran.after;
       is_event = record {
-        counted = (follows from.supply.policies [] (no_request_has_led machine.frames from.supply.policies)).is_event.counted;
+        counted = (follows from.supply.policies [] (no_request_has_led machine.frames from.supply.policies)).counted;
         deals_are = makes;
         answers = ap (λ e. e.outcome) ran.ends;
         leaves = ap (λ e. e.after) ran.ends;
+        further = ran.further;
       };
       led = λ opening requests led. (follows opening requests led).led;
       stands = ran.stands;
@@ -54,7 +55,7 @@ ran-follows from new machine state event outcome parents plain st ran =
 
 -- an event that makes no request and changes nothing
 pub told-follows : (parts : KernelParts) (machine : Machine) (state : KernelState) (event : Event) (outcome : Outcome) → asker_of event ≡ Parent → is_refuse event ≡ false
-    → KernelStands parts machine state → event_end machine state [] event ≡ only_answers state outcome → EventFollows parts parts machine state event outcome
+    → KernelStands parts machine state → ((answers : List Answer) → event_end machine state answers event ≡ only_answers state outcome) → EventFollows parts parts machine state event outcome
 told-follows parts machine state event outcome parents plain st ends =
     ran-follows parts parts machine state event outcome parents plain st (ran-unchanged parts machine state (λ answers. event_end machine state answers event) outcome st ends)
 
@@ -83,8 +84,8 @@ only-eager Async may = absurd (false≢true may)
 
 -- frames told as they are held and free
 pub frames-told : (machine : Machine) (state : KernelState) (held free : ℕ) → held ≡ held_frames state.leaves → free + held_frames state.leaves ≡ machine.frames
-    → event_end machine state [] Frames ≡ only_answers state (Held held free)
-frames-told machine state held free out left =
+    → (answers : List Answer) → event_end machine state answers Frames ≡ only_answers state (Held held free)
+frames-told machine state held free out left answers =
     let rest : machine.frames - held_frames state.leaves ≡ free = omega (arith, left) in
     λ i. only_answers state (Held (sym out i) (rest i))
 
@@ -101,7 +102,7 @@ pub refuse-follows : (parts : KernelParts) (machine : Machine) (state : KernelSt
 refuse-follows parts machine state nth some st = record {
   deals = [];
   after = record state { named = Some (state.made + nth) };
-  is_event = record { counted = tt; deals_are = refl; answers = refl; leaves = refl };
+  is_event = record { counted = tt; deals_are = refl; answers = refl; leaves = refl; further = λ rest. refl };
   led = λ opening requests led. subst (λ list. HaveLed machine.frames opening list parts.supply.policies) (sym (append-nil requests)) led;
   stands = record {
     pages = st.pages;
@@ -147,6 +148,7 @@ copy-follows from new machine state n cell outcome st ran =
         deals_are = ap (λ e. e.deals) ran.ends;
         answers = ap (λ e. e.outcome) ran.ends;
         leaves = ap (λ e. e.after) ran.ends;
+        further = ran.further;
       };
       led = λ opening requests led. subst (λ list. HaveLed machine.frames opening list new.supply.policies)
           (sym (ap (λ deals. requests ++ event_requests state (Copy n cell) deals) none ∙ append-nil requests))
@@ -157,12 +159,12 @@ copy-follows from new machine state n cell outcome st ran =
 -- reads, which are told as they are
 pub read-follows : (parts : KernelParts) (machine : Machine) (state : KernelState) (addr n : ℕ) (outcome : Outcome) → KernelStands parts machine state
     → read_outcome (read_of state.world.parent addr n) ≡ outcome → EventFollows parts parts machine state (Read addr n) outcome
-read-follows parts machine state addr n outcome st tells = told-follows parts machine state (Read addr n) outcome refl refl st (ap (only_answers state) tells)
+read-follows parts machine state addr n outcome st tells = told-follows parts machine state (Read addr n) outcome refl refl st (λ answers. ap (only_answers state) tells)
 
 pub snap_read-follows : (parts : KernelParts) (machine : Machine) (state : KernelState) (number addr n : ℕ) (outcome : Outcome) → KernelStands parts machine state
     → snap_read_outcome (snap_read_of state.world number addr n) ≡ outcome → EventFollows parts parts machine state (SnapRead number addr n) outcome
 snap_read-follows parts machine state number addr n outcome st tells =
-    told-follows parts machine state (SnapRead number addr n) outcome refl refl st (ap (only_answers state) tells)
+    told-follows parts machine state (SnapRead number addr n) outcome refl refl st (λ answers. ap (only_answers state) tells)
 
 -- where the memory for the bytes was there
 pub bytes-if-ok : {E : Type 0} (parts : KernelParts) (event : Event) (result : Result Outcome E) (bytes : List ℕ) → IfOk result (λ outcome. outcome ≡ Bytes bytes)

@@ -13,15 +13,15 @@ use Rattle.trace_core.specs.SupplyState.{SupplyState, SupplyGoes, opening_supply
 use Rattle.trace_core.specs.Answering.{AreCounted, made_after, pending_of, HaveLed, LeadOn}
 use Rattle.trace_core.specs.KernelState.{Machine, KernelState, opening_state}
 use Rattle.trace_core.specs.EventMeaning.{asker_of, copies_refused, refused_so_far}
-use Rattle.trace_core.specs.RunMeaning.{end_with, IsEvent, event_requests}
+use Rattle.trace_core.specs.RunMeaning.{end_with, event_requests}
 use Rattle.trace_core.specs.Supplied.{IsSupplied}
 use Rattle.trace_core.proofs.AnswerLemmas.{deals_lead_on}
 use Rattle.trace_core.proofs.EventCounts.{HasCounted, HasCopied, is_refuse, parent_counts, copy_counts}
 use Rattle.trace_core.proofs.RunLemmas.{pending_of-refuse}
 
--- what is shown of an event: it is one of the run, the supply stands in the state that it leaves, and its requests were answered as they may be
+-- what is shown of an event: its refusals carry its asker's count, the supply stands in the state that it leaves, and its requests were answered as they may be
 pub record Follows (machine : Machine) (opening : PolicySum) (requests : List Request) (state : KernelState) (event : Event) (deals : List Deal) (to : SupplyState) : Type 0 where
-  pub is_event : IsEvent machine state event deals (end_with machine state event deals).outcome (end_with machine state event deals).after
+  pub counted : AreCounted (refused_so_far state.world (asker_of event)) deals
   pub supplied : IsSupplied machine (end_with machine state event deals).after to
   pub led : HaveLed machine.frames opening (requests ++ event_requests state event deals) to.policies
 
@@ -47,13 +47,8 @@ supplied-parent machine opening requests state event deals from to parents plain
     (subst (λ frames. HaveLed frames opening requests from.policies) (sym supplied.frames) led) along in
     let counts : HasCounted state end = parent_counts machine state (answers_of deals) event parents plain in
     record {
-      is_event = record {
-        counted = subst (λ asker. AreCounted (refused_so_far state.world asker) deals) (sym parents)
-            (subst (λ count. AreCounted count deals) supplied.refused on.counted);
-        deals_are = makes;
-        answers = refl;
-        leaves = refl;
-      };
+      counted = subst (λ asker. AreCounted (refused_so_far state.world asker) deals) (sym parents)
+          (subst (λ count. AreCounted count deals) supplied.refused on.counted);
       supplied = record {
         frames = on.all ∙ supplied.frames;
         held = held;
@@ -81,7 +76,7 @@ supplied-copy machine opening requests state n cell deals from to supplied led a
     (subst (λ frames. HaveLed frames opening requests from.policies) (sym supplied.frames) led) along in
     let counts : HasCopied state n end = copy_counts state (answers_of deals) n cell in (
       record {
-        is_event = record { counted = on.counted; deals_are = makes; answers = refl; leaves = refl };
+        counted = on.counted;
         supplied = record {
           frames = on.all ∙ supplied.frames;
           held = held;

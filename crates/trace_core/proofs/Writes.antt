@@ -1,5 +1,5 @@
 -- A write ends as the definitions have it: refused by the areas, for want of slots, or behind its requests for frames.
-use Rattle.std.proofs.Common.{◌≡◌, ℕ, ◌+◌, ◌-◌, ◌*◌, ◌<◌, ◌≤◌, List, [], length, Option, Some, None, Result, Ok, Err, cond, refl, sym, ◌∙◌, ap, subst, arith, append-nil}
+use Rattle.std.proofs.Common.{◌≡◌, ℕ, ◌+◌, ◌-◌, ◌*◌, ◌<◌, ◌≤◌, List, ◌++◌, [], length, Option, Some, None, Result, Ok, Err, cond, refl, sym, ◌∙◌, ap, subst, arith, append-nil}
 use Rattle.std.specs.Prelude.{true, false}
 use Rattle.std.specs.List.{range_with_len}
 use Rattle.std.specs.Ordering.{nat_cmp}
@@ -41,8 +41,8 @@ use Rattle.trace_core.specs.KernelStanding.{KernelParts, KernelStands, EventRan,
 
 -- an event that makes no request and changes nothing
 pub ran-unchanged : (parts : KernelParts) (machine : Machine) (state : KernelState) (end : List Answer → EventEnd) (outcome : Outcome) → KernelStands parts machine state
-    → end [] ≡ only_answers state outcome → EventRan parts parts machine end outcome
-ran-unchanged parts machine state end outcome st ends = record { deals = []; led = refl; after = state; ends = ends; stands = st }
+    → ((answers : List Answer) → end answers ≡ only_answers state outcome) → EventRan parts parts machine end outcome
+ran-unchanged parts machine state end outcome st ends = record { deals = []; led = refl; after = state; ends = ends []; further = ends; stands = st }
 
 -- where as many frames are out as the page tables hold, they are those of the frame law
 pub out-then : (out : ℕ) (new : PageTables) (sides : Sides) → TablesStandFor new sides → frames_in new.slots.items ≡ shares_in new.slots.items → out ≡ frames_of new → out ≡ held_frames sides.leaves
@@ -61,7 +61,7 @@ module _ (parts : KernelParts) (machine : Machine) (state : KernelState) (st : K
   -- the areas refuse
   pub ran-refused : (refusal : Refusal) → touch ≡ Err refusal → EventRan parts parts machine (λ answers. written machine state answers addr bytes) (refusal_outcome refusal)
   ran-refused refusal e = ran-unchanged parts machine state (λ answers. written machine state answers addr bytes) (refusal_outcome refusal) st
-      (ap (λ t. touch_judged machine state [] addr (length bytes) (stored t addr bytes)) e)
+      (λ answers. ap (λ t. touch_judged machine state answers addr (length bytes) (stored t addr bytes)) e)
 
   abbrev granted_memory : FlatMemory
   granted_memory = record state.world.parent { present = with_pages state.world.parent.present first count }
@@ -98,7 +98,7 @@ module _ (parts : KernelParts) (machine : Machine) (state : KernelState) (st : K
   pub ran-full : 0 < length bytes → touch ≡ Ok granted_memory → lacks_slots machine.slots state.leaves (cells_of_pages first count) ≡ true
       → EventRan parts parts machine (λ answers. written machine state answers addr bytes) CellsFull
   ran-full some granted lacks = ran-unchanged parts machine state (λ answers. written machine state answers addr bytes) CellsFull st
-      (ap (λ t. touch_judged machine state [] addr (length bytes) (stored t addr bytes)) granted
+      (λ answers. ap (λ t. touch_judged machine state answers addr (length bytes) (stored t addr bytes)) granted
       ∙ cond-true (lacks_slots machine.slots state.leaves (cells_of_range addr (length bytes))) _ _ (ap (lacks_slots machine.slots state.leaves) (cells-same some) ∙ lacks))
 
   module _ (some : 0 < length bytes) (granted : touch ≡ Ok granted_memory) (room : lacks_slots machine.slots state.leaves (cells_of_pages first count) ≡ false)
@@ -115,6 +115,15 @@ module _ (parts : KernelParts) (machine : Machine) (state : KernelState) (st : K
         ap (λ t. touch_judged machine state (answers_of deals) addr (length bytes) (stored t addr bytes)) granted
         ∙ cond-false (lacks_slots machine.slots state.leaves (cells_of_range addr (length bytes))) _ _ (ap (lacks_slots machine.slots state.leaves) (cells-same some) ∙ room)
         ∙ ap (λ p. touch_answered state (record granted_memory { present = with_bytes granted_memory.present addr bytes }) p.refused p) range-progress
+
+    -- and looks at no answer behind theirs
+    pub written-behind : (rest : List Answer) → written machine state (answers_of deals ++ rest) addr bytes
+        ≡ touch_answered state (record granted_memory { present = with_bytes granted_memory.present addr bytes }) refused
+        (record { leaves = range.follows.leaves; requests = requests_between range.follows.made rest deals; refused = refused })
+    written-behind rest =
+        ap (λ t. touch_judged machine state (answers_of deals ++ rest) addr (length bytes) (stored t addr bytes)) granted
+        ∙ cond-false (lacks_slots machine.slots state.leaves (cells_of_range addr (length bytes))) _ _ (ap (lacks_slots machine.slots state.leaves) (cells-same some) ∙ room)
+        ∙ ap (λ p. touch_answered state (record granted_memory { present = with_bytes granted_memory.present addr bytes }) p.refused p) (range.follows.runs.runs [] rest)
 
     -- behind the touch of a range, with a supply that its deals led here
     module _ (to : SupplyState) (led : LeadsAlong SupplyGoes parts.supply deals to) where
@@ -144,6 +153,7 @@ module _ (parts : KernelParts) (machine : Machine) (state : KernelState) (st : K
           led = led;
           after = (touch_answered state (record granted_memory { present = with_bytes granted_memory.present addr bytes }) None (progress some granted room mid deals None range)).after;
           ends = ends;
+          further = written-behind some granted room mid deals None range;
           stands = record {
             pages = st.pages;
             areas = st.areas;
@@ -175,6 +185,7 @@ module _ (parts : KernelParts) (machine : Machine) (state : KernelState) (st : K
           after = (touch_answered state (record granted_memory { present = with_bytes granted_memory.present addr bytes })
               (Some refusal) (progress some granted room mid deals (Some refusal) range)).after;
           ends = ends;
+          further = written-behind some granted room mid deals (Some refusal) range;
           stands = record {
             pages = st.pages;
             areas = st.areas;

@@ -1,5 +1,5 @@
 -- When the parts of a kernel stand for the state of a run.
-use Rattle.std.specs.Prelude.{◌≡◌, ℕ, List, Option, Some, None, Result, Ok, Err}
+use Rattle.std.specs.Prelude.{◌≡◌, ℕ, List, ◌++◌, Option, Some, None, Result, Ok, Err}
 use Rattle.std.specs.Ordering.{nat_cmp}
 use Rattle.std.specs.FinMap.{FinMap, empty, insert, get}
 use Rattle.vm_base.specs.Deals.{Deal, LeadsAlong}
@@ -68,6 +68,8 @@ pub record EventRan (from new : KernelParts) (machine : Machine) (end : List Ans
   pub led : LeadsAlong SupplyGoes from.supply deals new.supply
   pub after : KernelState
   pub ends : end (answers_of deals) ≡ record { outcome = outcome; deals = deals; after = after }
+  -- no answer that comes behind them is looked at
+  pub further : (rest : List Answer) → end (answers_of deals ++ rest) ≡ record { outcome = outcome; deals = deals; after = after }
   pub stands : KernelStands new machine after
 
 -- what a read answers: the bytes that are in the buffer then, or the lowest page outside the areas

@@ -3,7 +3,7 @@ use Rattle.std.specs.Prelude.{◌≡◌, ℕ, if◌then◌else◌, List, [], ◌
 use Rattle.vm_base.specs.Deals.{Deal}
 use Rattle.trace_events.specs.declared.event.Event.{Event}
 use Rattle.trace_events.specs.declared.outcome.Outcome.{Outcome}
-use Rattle.kernel_meaning.specs.Requests.{answers_of}
+use Rattle.kernel_meaning.specs.Requests.{Answer, answers_of}
 use Rattle.kernel_meaning.specs.FrameLaw.{held_frames}
 use Rattle.kernel_meaning.specs.RefusedRequests.{Request, requests_of, answers_from, PolicySum, AreAnswered}
 use Rattle.trace_core.specs.Answering.{AreCounted}
@@ -20,6 +20,8 @@ pub record IsEvent (machine : Machine) (state : KernelState) (event : Event) (de
   pub deals_are : (end_with machine state event deals).deals ≡ deals
   pub answers : (end_with machine state event deals).outcome ≡ outcome
   pub leaves : (end_with machine state event deals).after ≡ after
+  -- no answer that comes behind theirs is looked at
+  pub further : (rest : List Answer) → event_end machine state (answers_of deals ++ rest) event ≡ record { outcome = outcome; deals = deals; after = after }
 
 -- the requests that an event made with these deals
 abbrev pub event_requests : KernelState → Event → List Deal → List Request

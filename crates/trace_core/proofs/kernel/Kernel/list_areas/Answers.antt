@@ -8,5 +8,5 @@ use Rattle.trace_core.proofs.kernel.Kernel.list_areas.Goals as goal
 pub returns-in-Ok : goal.returns-in-Ok
 returns-in-Ok g c = record {
   ran = λ machine state st. told-follows _ machine state ListAreas _ refl refl st
-      (ap (λ areas. only_answers state (AreaRow areas)) (st.areas ∙ sym (c.in-Ok.ensures ∙ c.list.ensures.areas)));
+      (λ answers. ap (λ areas. only_answers state (AreaRow areas)) (st.areas ∙ sym (c.in-Ok.ensures ∙ c.list.ensures.areas)));
 }
