@@ -15,3 +15,4 @@ pub mod WholeEvents
 pub mod Drops
 pub mod Forks
 pub mod RunSteps
+pub mod RefusedRuns

@@ -1,11 +1,11 @@
 -- A whole run of events: what they answer one after another, and which of their requests for frames are refused.
-use Rattle.std.specs.Prelude.{◌≡◌, ℕ, if◌then◌else◌, List, [], ◌∷◌, ◌++◌}
+use Rattle.std.specs.Prelude.{◌≡◌, ℕ, if◌then◌else◌, List, [], ◌∷◌, ◌++◌, ◌+◌}
 use Rattle.vm_base.specs.Deals.{Deal}
 use Rattle.trace_events.specs.declared.event.Event.{Event}
 use Rattle.trace_events.specs.declared.outcome.Outcome.{Outcome}
 use Rattle.kernel_meaning.specs.Requests.{Answer, answers_of}
 use Rattle.kernel_meaning.specs.FrameLaw.{held_frames}
-use Rattle.kernel_meaning.specs.RefusedRequests.{Request, requests_of, answers_from, PolicySum, AreAnswered}
+use Rattle.kernel_meaning.specs.RefusedRequests.{Request, requests_of, answers_behind, answers_from, PolicySum, AreAnswered}
 use Rattle.trace_core.specs.Answering.{AreCounted}
 use Rattle.trace_core.specs.KernelState.{Machine, KernelState, opening_state}
 use Rattle.trace_core.specs.EventMeaning.{EventEnd, event_end, asker_of, refused_so_far}
@@ -70,3 +70,29 @@ outcomes_by machine state refused (event ∷ events) =
 abbrev pub state_by : Machine → KernelState → List ℕ → List Event → KernelState
 state_by machine state refused [] = state
 state_by machine state refused (event ∷ events) = state_by machine (end_by machine state refused event).after refused events
+
+-- ---- the same whatever the number of answers
+
+-- an event ends so where the requests of the list are refused, however many answers stand behind those that it asks for
+pub record EndsBy (machine : Machine) (state : KernelState) (refused : List ℕ) (event : Event) (outcome : Outcome) (after : KernelState) : Type 0 where
+  pub asked : ℕ
+  pub ends : (n : ℕ) → let end = event_end machine state (answers_behind refused state.made (refused_so_far state.world (asker_of event)) (asked + n)) event in
+      (end.outcome ≡ outcome) × (end.after ≡ after)
+
+-- events one after another, where the requests of the list are refused
+abbrev pub IsRunBy : Machine → KernelState → List ℕ → List Event → List Outcome → KernelState → Type 0
+IsRunBy machine state refused [] [] after = after ≡ state
+IsRunBy machine state refused [] (outcome ∷ outcomes) after = ⊥
+IsRunBy machine state refused (event ∷ events) [] after = ⊥
+IsRunBy machine state refused (event ∷ events) (outcome ∷ outcomes) after =
+    (next : KernelState) × (EndsBy machine state refused event outcome next × IsRunBy machine next refused events outcomes after)
+
+-- a run is told by the list of its refused requests
+abbrev pub IsToldByRefused : Type 0
+IsToldByRefused = (machine : Machine) (last : ℕ) (policies : PolicySum) (events : List Event) (outcomes : List Outcome) (refused : List ℕ) (after : KernelState)
+    → IsRun machine last policies events outcomes refused after → IsRunBy machine (opening_state last) refused events outcomes after
+
+-- and by one list of refused requests there is one run
+abbrev pub IsOneByRefused : Type 0
+IsOneByRefused = (machine : Machine) (state : KernelState) (refused : List ℕ) (events : List Event) (outcomes others : List Outcome) (after other : KernelState)
+    → IsRunBy machine state refused events outcomes after → IsRunBy machine state refused events others other → (outcomes ≡ others) × (after ≡ other)

@@ -19,7 +19,7 @@ mod tests;
 mod writing;
 
 pub use kernel::{Kernel, Standing};
-pub use laws::a_supply_answers_as_it_may;
+pub use laws::{a_run_is_told_by_its_refused_requests, a_supply_answers_as_it_may};
 pub use snapshots::SnapshotFault;
 pub use supply::Supply;
 pub use writing::NoArea;
