@@ -9,6 +9,7 @@
 
 mod kernel;
 mod laws;
+mod step;
 mod supply;
 #[cfg(test)]
 mod tests;
