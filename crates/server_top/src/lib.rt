@@ -1,6 +1,6 @@
 //! The top calls of afkv.
 //!
-//! The main call is [`run_plain`]: `run_plain(alloc, &words, &mut input, &mut output, &mut files)`
+//! The main call is [`run_plain`]: `run_plain(alloc, &words, &mut input, &mut output, &mut files, policies)`
 //! runs the command that the words name and answers a [`Status`]. A caller may rely on it that
 //! what was written is what two flat memories, the second copied whole at the fork, make of the
 //! script that was read, or what one map makes of the requests; and that an image has the pairs at
@@ -10,12 +10,10 @@
 mod plain;
 mod replay;
 mod run;
-mod script;
 mod status;
 #[cfg(test)]
 mod tests;
 mod words;
 
 pub use plain::run_plain;
-pub use script::one_spelling;
 pub use status::Status;
