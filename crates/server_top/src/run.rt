@@ -13,7 +13,7 @@ ghost use Rattle.trace_core.specs.KernelState.{Machine, KernelState};
 ghost use Rattle.trace_core.specs.KernelStanding.{KernelStands};
 ghost use Rattle.trace_core.specs.KernelRun.{HasRun};
 ghost use Rattle.trace_core.specs.SupplyState.{policy_sum};
-ghost use Rattle.server_top.specs.RunPromise.{WroteLines, WroteSomeLines};
+ghost use Rattle.server_top.specs.RunPromise.{WroteLines, WroteSomeLines, machine_of};
 
 use frame_pool::{FramePolicy, Pool};
 use io_face::{Failed, Sink, write_all};
@@ -43,9 +43,11 @@ pub(crate) fn run_script<O: Sink>(
 ) -> Result<(), RunError>
     requires bounds { All IsWithinBounds (parts_of script.now).events }
     requires cells { (parts_of script.now).cells ≤ 512 }
-    ensures ok { OnOk result (WroteLines (parts_of script.now) (policy_sum (standing (map (λ policy. told policy) policies.items)))
+    ensures ok { OnOk result (WroteLines (parts_of script.now)
+        (policy_sum (standing (map (λ policy. told policy) policies.items)))
         (O.written output.old) (O.written output.new)) }
-    ensures err { OnErr result (WroteSomeLines (parts_of script.now) (policy_sum (standing (map (λ policy. told policy) policies.items)))
+    ensures err { OnErr result (WroteSomeLines (parts_of script.now)
+        (policy_sum (standing (map (λ policy. told policy) policies.items)))
         (O.written output.old) (O.written output.new)) }
     ensures faults { O.faults output.old ≤ O.faults output.new }
     ensures cause { IsErrOf result RunError.WriteFault → Rose (O.faults output.old) (O.faults output.new) }
@@ -59,9 +61,31 @@ pub(crate) fn run_script<O: Sink>(
         Ok(kernel) => kernel,
         Err(NoMemory) => return Err(RunError::NoMemory),
     };
+    run_events(alloc, &mut kernel, script, output)
+}
+
+/// Runs the events of a script on a kernel that has run none, and writes the line of each outcome.
+fn run_events<O: Sink>(
+    alloc: Global,
+    kernel: &mut Kernel,
+    script: &Script,
+    output: &mut O,
+) -> Result<(), RunError>
+    requires bounds { All IsWithinBounds (parts_of script.now).events }
+    requires begun { (policies : PolicySum)
+        × HasRun (⟦<Kernel as Standing>⟧.parts kernel.old) (machine_of (parts_of script.now)) 0 policies [] [] }
+    ensures ok { OnOk result ((policies : PolicySum)
+        → HasRun (⟦<Kernel as Standing>⟧.parts kernel.old) (machine_of (parts_of script.now)) 0 policies [] []
+        → WroteLines (parts_of script.now) policies (O.written output.old) (O.written output.new)) }
+    ensures err { OnErr result ((policies : PolicySum)
+        → HasRun (⟦<Kernel as Standing>⟧.parts kernel.old) (machine_of (parts_of script.now)) 0 policies [] []
+        → WroteSomeLines (parts_of script.now) policies (O.written output.old) (O.written output.new)) }
+    ensures faults { O.faults output.old ≤ O.faults output.new }
+    ensures cause { IsErrOf result RunError.WriteFault → Rose (O.faults output.old) (O.faults output.new) }
+{
     let mut lines = Bytes::new(alloc);
     for place in 0..script.len() {
-        push_line(alloc, &mut kernel, script.event(place), &mut lines)?;
+        push_line(alloc, kernel, script.event(place), &mut lines)?;
         if lines.as_slice().len() >= PIECE {
             write_lines(output, &lines)?;
             lines.clear();

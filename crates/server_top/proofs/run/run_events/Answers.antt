@@ -1,0 +1,54 @@
+-- The kernel has run the events so far, and their lines are written or wait, at each step and at each end.
+use Rattle.std.proofs.Common.{arith, ap, ◌∙◌, ◌+◌, take, refl, ◌≡◌, []}
+use Rattle.std.proofs.lemmas.List.{take_all}
+use Rattle.trace_text.specs.SoFar.{parts_of}
+use Rattle.server_top.specs.RunPromise.{machine_of}
+use Rattle.server_top.proofs.Written.{on_err, on_err_then, on_ok_then}
+use Rattle.server_top.proofs.Lines.{gone_nowhere, gone_further, gone_stands, gone_written, gone_renamed, lines_in_front, lines_in_part, all_lines}
+use Rattle.server_top.proofs.run.run_events.Goals as goal
+use Rattle.server_top.proofs.run.run_events.Goals.{then-as_slice-ge-PIECE+in_ok-write_lines, else-as_slice-ge-PIECE}
+
+pub loop-place-init : goal.loop-place-init
+loop-place-init g c = record {
+  gone = gone_renamed _ _ _ _ _ _ _ [] _ refl c.new-lines.ensures (gone_nowhere _ _ _);
+  faults = omega arith;
+}
+
+pub push_line-requires-clause-stands : goal.push_line-requires-clause-stands
+push_line-requires-clause-stands g c = gone_stands _ _ _ _ _ _ _ c.requires.begun c.loop-place.invariant.gone
+
+pub returns-in_err-push_line-clause-err : goal.returns-in_err-push_line-clause-err
+returns-in_err-push_line-clause-err g c =
+    on_err _ _ (lines_in_front _ _ (parts_of c.args.script.now) c.loop-place.place _ _ _ c.loop-place.invariant.gone)
+
+pub returns-in_err-write_lines-clause-err : goal.returns-in_err-write_lines-clause-err
+returns-in_err-write_lines-clause-err g c =
+    let gone = gone_further _ _ _ (machine_of (parts_of c.args.script.now)) (parts_of c.args.script.now).events c.loop-place.place c.event.result.now _ _ _ _
+    (omega arith) c.event.ensures c.in_ok-push_line.ensures.ran c.loop-place.invariant.gone in
+    on_err _ _ (lines_in_part _ _ (parts_of c.args.script.now) (c.loop-place.place + 1) _ _ _ _ gone c.in_err-write_lines.ensures.err)
+
+pub loop-place-preserved : goal.loop-place-preserved
+loop-place-preserved g c =
+    let gone = gone_further _ _ _ (machine_of (parts_of c.args.script.now)) (parts_of c.args.script.now).events c.loop-place.place c.event.result.now _ _ _ _
+    (omega arith) c.event.ensures c.in_ok-push_line.ensures.ran c.loop-place.invariant.gone in
+    record {
+      gone = elim c.if-as_slice-ge-PIECE.branch [
+        | then-as_slice-ge-PIECE+in_ok-write_lines w ↦
+            gone_renamed _ _ _ _ _ (g.O.Sink.written w.write_lines.new.output) _ [] _ (ap (λ o. g.O.Sink.written o) w.output-is) (w.lines-is ∙ w.clear.ensures)
+            (gone_written _ _ _ _ _ _ _ _ gone w.in_ok-write_lines.ensures.ok)
+        | else-as_slice-ge-PIECE w ↦ gone_renamed _ _ _ _ _ (g.O.Sink.written c.loop-place.output) _ c.push_line.new.lines _ (ap (λ o. g.O.Sink.written o) w.output-is) w.lines-is gone
+      ];
+      faults = elim c.if-as_slice-ge-PIECE.branch [
+        | then-as_slice-ge-PIECE+in_ok-write_lines w ↦ omega (arith, c.loop-place.invariant.faults, w.write_lines.ensures.faults, ap (λ o. g.O.Sink.faults o) w.output-is)
+        | else-as_slice-ge-PIECE w ↦ omega (arith, c.loop-place.invariant.faults, ap (λ o. g.O.Sink.faults o) w.output-is)
+      ];
+    }
+
+pub returns-clause-ok : goal.returns-clause-ok
+returns-clause-ok g c =
+    on_ok_then _ _ _ c.write_lines-2.ensures.ok
+    (all_lines _ _ (parts_of c.args.script.now) c.loop-place.place _ _ _ _ (take_all c.loop-place.place (parts_of c.args.script.now).events (omega arith)) c.loop-place.invariant.gone)
+
+pub returns-clause-err : goal.returns-clause-err
+returns-clause-err g c =
+    on_err_then _ _ _ c.write_lines-2.ensures.err (lines_in_part _ _ (parts_of c.args.script.now) c.loop-place.place _ _ _ _ c.loop-place.invariant.gone)
