@@ -42,8 +42,8 @@ pub(crate) const ROWS: [(&[u8], &[u8]); 16] = [
         b"ok\nok\nok\nheld 9 free 0\nnoframe 1\n00\n61\nok\nok\nheld 6 free 3\n",
     ),
     (
-        b"machine 64\nmap 100000 2 rw\nwrite 100000 6162\nfork 1 eager\nrefuse 1\nwrite 100000 7a\n\
-          read 100000 2\nsread 1 100000 2\nframes\ndrop 1\nframes\n",
+        b"machine 64\nmap 100000 2 rw\nwrite 100000 6162\nfork 1 eager\nrefuse 1\n\
+          write 100000 7a\nread 100000 2\nsread 1 100000 2\nframes\ndrop 1\nframes\n",
         b"ok\nok\nok\nok\nok\n7a62\nlost 1\nheld 8 free 56\nok\nheld 5 free 59\n",
     ),
     (
