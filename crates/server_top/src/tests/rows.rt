@@ -47,8 +47,8 @@ pub(crate) const ROWS: [(&[u8], &[u8]); 16] = [
         b"ok\nok\nok\nok\nok\n7a62\nlost 1\nheld 8 free 56\nok\nheld 5 free 59\n",
     ),
     (
-        b"machine 64\nmap 100000 2 rw\nwrite 100000 61\nfork 1 eager\ncopy 1 0\ncopy 2 0\nrefuse 1\n\
-          write 100000 62\ncopy 1 0\nsread 1 100000 1\n",
+        b"machine 64\nmap 100000 2 rw\nwrite 100000 61\nfork 1 eager\ncopy 1 0\ncopy 2 0\n\
+          refuse 1\nwrite 100000 62\ncopy 1 0\nsread 1 100000 1\n",
         b"ok\nok\nok\nnothing\nnosnap\nok\nok\nlost 1\nlost 1\n",
     ),
     (
