@@ -22,7 +22,15 @@ fn main(rt: HostRuntime) -> ExitCode {
             let mut input = InputStream::new(rt.stdin());
             let mut output = OutputStream::new(rt.stdout());
             let mut files = CurrentFolder::new(rt, alloc);
-            run_plain(alloc, &words, &mut input, &mut output, &mut files)
+            let policies = Vec::new(alloc);
+            run_plain(
+                alloc,
+                &words,
+                &mut input,
+                &mut output,
+                &mut files,
+                policies,
+            )
         }
         Err(NoMemory) => Status::NoMemory,
     };

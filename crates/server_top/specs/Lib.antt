@@ -1,9 +1,4 @@
-pub mod ScriptGrammar
-pub mod PrintedLines
-pub mod ScriptMeaning
 pub mod CommandWords
 pub mod RunPromise
 pub mod ReplayPromise
-pub mod ScriptRun
 pub mod ReplayRun
-pub mod ScriptReading

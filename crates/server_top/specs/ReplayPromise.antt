@@ -7,6 +7,7 @@ use Rattle.resp_text.specs.Grammar.{IsStream}
 use Rattle.service_meaning.specs.History.{Moment, Entry, opening, LeadAlong, IsLegal, refusals, calls_of, ends_of}
 use Rattle.service_meaning.specs.SessionText.{requests_asked, replies_text}
 use Rattle.service_meaning.specs.SaveEnd.{report_text, AreCounted, FilesOf, faults_of, refused_saves}
+use Rattle.kernel_meaning.specs.RefusedRequests.{PolicySum}
 use Rattle.server_top.specs.declared.words.Plan.{Plan}
 use Rattle.server_top.specs.declared.words.Plan.TheVariants.{Trace, Replay}
 use Rattle.server_top.specs.declared.status.Status.{Status}
@@ -146,10 +147,10 @@ RanReplay sides TooLong =
 RanReplay sides NoMemory =
     (TakesSome sides.left sides.left_after × IsUntouched sides.outside) ⊎ ReadAndRan sides NoMemory
 
--- what a top call read, wrote and published, by the command of its words
-abbrev pub RanBy : Result Plan ℕ → Sides → Status → Type 0
-RanBy (Err place) sides status =
+-- what a top call read, wrote and published, by the command of its words; of the policies that it was handed this was known
+abbrev pub RanBy : Result Plan ℕ → PolicySum → Sides → Status → Type 0
+RanBy (Err place) policies sides status =
     (status ≡ Usage place) × (sides.left_after ≡ sides.left) × IsUntouched sides.outside
-RanBy (Ok Trace) sides status =
-    Ran (streams_of sides) status × (sides.outside.files_after ≡ sides.outside.files)
-RanBy (Ok Replay) sides status = RanReplay sides status
+RanBy (Ok Trace) policies sides status =
+    Ran policies (streams_of sides) status × (sides.outside.files_after ≡ sides.outside.files)
+RanBy (Ok Replay) policies sides status = RanReplay sides status

@@ -1,11 +1,16 @@
 -- What a run of `trace` read and wrote, by its status.
-use Rattle.std.specs.Prelude.{◌≡◌, ◌⊎◌, ℕ, ◌+◌, ◌^◌, ◌≤◌, List, Option, Some, None, length}
+use Rattle.std.specs.Prelude.{◌≡◌, ◌⊎◌, ℕ, ◌+◌, ◌^◌, ◌≤◌, List, ◌++◌, Option, Some, None, length}
+use Rattle.std.specs.List.{flat_map}
 use Rattle.io_face.specs.Told.{Takes, TakesAtMost, TakesCount, TakesSome, IsAtEnd, Adds, AddsPrefix}
-use Rattle.plain_kernel.specs.declared.event.Event.{Event}
+use Rattle.trace_events.specs.declared.event.Event.{Event}
+use Rattle.trace_events.specs.declared.outcome.Outcome.{Outcome}
+use Rattle.trace_text.specs.ScriptGrammar.{ScriptParts, IsScript, IsFaultAt}
+use Rattle.trace_text.specs.PrintedLines.{outcome_line}
+use Rattle.kernel_meaning.specs.RefusedRequests.{PolicySum}
+use Rattle.trace_core.specs.KernelState.{Machine, KernelState}
+use Rattle.trace_core.specs.RunMeaning.{IsRun}
 use Rattle.server_top.specs.declared.status.Status.{Status}
 use Rattle.server_top.specs.declared.status.Status.TheVariants.{Done, Usage, BadScript, ReadFault, WriteFault, Protocol, TooLong, NoMemory}
-use Rattle.server_top.specs.ScriptGrammar.{IsScript, IsNoScript}
-use Rattle.server_top.specs.ScriptMeaning.{script_lines}
 
 -- the most bytes of a script
 abbrev pub script_limit : ℕ
@@ -28,55 +33,72 @@ pub record WasRead (streams : Streams) (limit : ℕ) (text : List ℕ) : Type 0 
   pub to_the_end : IsAtEnd streams.left_after
   pub within : length text ≤ limit
 
--- the input was read to its end, and it is the script of these events
-pub record ReadScript (streams : Streams) (events : List Event) : Type 0 where
-  pub text : List ℕ
-  pub frames : ℕ
-  pub was_read : WasRead streams script_limit text
-  pub is_script : IsScript text frames events
+-- the machine that a script runs on: its frames, its slots, and one snapshot at a time
+abbrev pub machine_of : ScriptParts → Machine
+machine_of script = record { frames = script.frames; slots = script.cells; limit = 1 }
 
--- the input is a script, and its lines were written
-pub record WroteLines (streams : Streams) : Type 0 where
-  pub events : List Event
-  pub script : ReadScript streams events
-  pub lines : Adds streams.written streams.written_after (script_lines events)
+-- the lines of outcomes, one after another
+abbrev pub outcome_lines : List Outcome → List ℕ
+outcome_lines outcomes = flat_map outcome_line outcomes
 
--- the input is a script, and a prefix of its lines was written
-pub record WroteSomeLines (streams : Streams) : Type 0 where
-  pub events : List Event
-  pub script : ReadScript streams events
-  pub lines : AddsPrefix streams.written streams.written_after (script_lines events)
+-- all events of a script ran, under policies of which this was known as the run began, and their lines were written
+pub record WroteLines (script : ScriptParts) (policies : PolicySum) (written after : Option (List ℕ)) : Type 0 where
+  pub outcomes : List Outcome
+  pub refused : List ℕ
+  pub end : KernelState
+  pub run : IsRun (machine_of script) 0 policies script.events outcomes refused end
+  pub lines : Adds written after (outcome_lines outcomes)
 
--- the input was read to its end, it is no script, and nothing was written
-pub record RefusedScript (streams : Streams) : Type 0 where
-  pub text : List ℕ
-  pub was_read : WasRead streams script_limit text
-  pub is_none : IsNoScript text
-  pub nothing : WroteNothing streams
+-- some first events of a script ran, none or all of them too, and a prefix of their lines was written
+pub record WroteSomeLines (script : ScriptParts) (policies : PolicySum) (written after : Option (List ℕ)) : Type 0 where
+  pub first : List Event
+  pub later : List Event
+  pub are_first : script.events ≡ first ++ later
+  pub outcomes : List Outcome
+  pub refused : List ℕ
+  pub end : KernelState
+  pub run : IsRun (machine_of script) 0 policies first outcomes refused end
+  pub lines : AddsPrefix written after (outcome_lines outcomes)
 
--- what `trace` read and wrote, by status; words and requests are not what it may fail by
-abbrev pub Ran : Streams → Status → Type 0
-Ran streams Done = WroteLines streams
-Ran streams (Usage place) = ⊥
-Ran streams (BadScript line) = (line ≡ 1) × RefusedScript streams
-Ran streams ReadFault =
-    TakesAtMost streams.left streams.left_after script_limit × WroteNothing streams
-Ran streams WriteFault = WroteSomeLines streams
-Ran streams (Protocol place) = ⊥
-Ran streams TooLong = TakesCount streams.left streams.left_after (script_limit + 1) × WroteNothing streams
-Ran streams NoMemory = TakesSome streams.left streams.left_after × (WroteNothing streams ⊎ WroteSomeLines streams)
+-- the text is the script of these parts, and its lines were written
+abbrev pub RanWhole : List ℕ → PolicySum → Option (List ℕ) → Option (List ℕ) → Type 0
+RanWhole text policies written after =
+    (script : ScriptParts) × (IsScript text script × WroteLines script policies written after)
+
+-- the text is the script of these parts, and a prefix of its lines was written
+abbrev pub RanInPart : List ℕ → PolicySum → Option (List ℕ) → Option (List ℕ) → Type 0
+RanInPart text policies written after =
+    (script : ScriptParts) × (IsScript text script × WroteSomeLines script policies written after)
 
 -- what was written for a text that was read, by status
-abbrev pub RanText : List ℕ → Option (List ℕ) → Option (List ℕ) → Status → Type 0
-RanText text written after Done = (frames : ℕ) × ((events : List Event) × (IsScript text frames events × Adds written after (script_lines events)))
-RanText text written after (Usage place) = ⊥
-RanText text written after (BadScript line) = (line ≡ 1) × IsNoScript text × (after ≡ written)
-RanText text written after ReadFault = ⊥
-RanText text written after WriteFault = (frames : ℕ) × ((events : List Event) × (IsScript text frames events × AddsPrefix written after (script_lines events)))
-RanText text written after (Protocol place) = ⊥
-RanText text written after TooLong = ⊥
-RanText text written after NoMemory =
-    (after ≡ written) ⊎ ((frames : ℕ) × ((events : List Event) × (IsScript text frames events × AddsPrefix written after (script_lines events))))
+abbrev pub RanText : List ℕ → PolicySum → Option (List ℕ) → Option (List ℕ) → Status → Type 0
+RanText text policies written after Done = RanWhole text policies written after
+RanText text policies written after (Usage place) = ⊥
+RanText text policies written after (BadScript line) = IsFaultAt text line × (after ≡ written)
+RanText text policies written after ReadFault = ⊥
+RanText text policies written after WriteFault = RanInPart text policies written after
+RanText text policies written after (Protocol place) = ⊥
+RanText text policies written after TooLong = ⊥
+RanText text policies written after NoMemory = (after ≡ written) ⊎ RanInPart text policies written after
+
+-- the input was read to its end, and this was written for its text
+abbrev pub ReadAndRanText : PolicySum → Streams → Status → Type 0
+ReadAndRanText policies streams status = (text : List ℕ)
+    × (WasRead streams script_limit text × RanText text policies streams.written streams.written_after status)
+
+-- what `trace` read and wrote, by status, under policies of which this was known; words and requests are not what it may fail by
+abbrev pub Ran : PolicySum → Streams → Status → Type 0
+Ran policies streams Done = ReadAndRanText policies streams Done
+Ran policies streams (Usage place) = ⊥
+Ran policies streams (BadScript line) = ReadAndRanText policies streams (BadScript line)
+Ran policies streams ReadFault =
+    TakesAtMost streams.left streams.left_after script_limit × WroteNothing streams
+Ran policies streams WriteFault = ReadAndRanText policies streams WriteFault
+Ran policies streams (Protocol place) = ⊥
+Ran policies streams TooLong =
+    TakesCount streams.left streams.left_after (script_limit + 1) × WroteNothing streams
+Ran policies streams NoMemory =
+    (TakesSome streams.left streams.left_after × WroteNothing streams) ⊎ ReadAndRanText policies streams NoMemory
 
 -- the place of a bad word
 abbrev pub usage_of : Status → Option ℕ

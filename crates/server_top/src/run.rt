@@ -1,17 +1,26 @@
 //! A script's events, run one after another, with their lines written.
-ghost use Rattle.std.specs.Prelude.{◌≡◌, ◌≤◌, ◌++◌, OnOk, OnErr, IfErr, IsErrOf};
+ghost use Rattle.std.specs.Prelude.{◌≡◌, ◌≤◌, ℕ, List, [], ◌∷◌, ◌++◌, All, map, OnOk, OnErr, IfErr, IsErrOf};
 ghost use Rattle.io_face.specs.Faults.{Rose};
 ghost use Rattle.io_face.specs.Told.{Adds, AddsPrefix};
-ghost use Rattle.vm_base.specs.TwoSides.{opening_world};
-ghost use Rattle.plain_kernel.specs.KernelStep.{IsServed, outcome_of, world_after};
-ghost use Rattle.server_top.specs.PrintedLines.{outcome_line};
-ghost use Rattle.server_top.specs.ScriptMeaning.{script_lines};
-ghost use Rattle.server_top.specs.ScriptRun.{IsReady};
+ghost use Rattle.frame_pool.specs.Policies.{standing};
+ghost use Rattle.kernel_meaning.specs.RefusedRequests.{PolicySum};
+ghost use Rattle.trace_events.specs.declared.event.Event.{Event};
+ghost use Rattle.trace_events.specs.declared.outcome.Outcome.{Outcome};
+ghost use Rattle.trace_events.specs.EventBounds.{IsWithinBounds};
+ghost use Rattle.trace_text.specs.PrintedLines.{outcome_line};
+ghost use Rattle.trace_text.specs.SoFar.{parts_of};
+ghost use Rattle.trace_core.specs.KernelState.{Machine, KernelState};
+ghost use Rattle.trace_core.specs.KernelStanding.{KernelStands};
+ghost use Rattle.trace_core.specs.KernelRun.{HasRun};
+ghost use Rattle.trace_core.specs.SupplyState.{policy_sum};
+ghost use Rattle.server_top.specs.RunPromise.{WroteLines, WroteSomeLines, machine_of};
 
-use crate::script::outcome_text;
+use frame_pool::{FramePolicy, Pool};
 use io_face::{Failed, Sink, write_all};
-use plain_kernel::{Event, Kernel};
 use std::alloc::Global;
+use trace_core::{Kernel, Standing};
+use trace_events::Event;
+use trace_text::{Script, outcome_text};
 use vm_base::{Bytes, NoMemory};
 
 /// So many bytes of lines are written at once.
@@ -24,28 +33,59 @@ pub(crate) enum RunError {
     NoMemory,
 }
 
-/// Runs the events on a machine with so many frames, and writes the line of each outcome. After
-/// an error a prefix of the lines was written.
-pub(crate) fn run_events<O: Sink>(
+/// Runs the events of a script on a kernel over the frames of its machine, and writes the line of
+/// each outcome. After an error a prefix of the lines of some first events was written.
+pub(crate) fn run_script<O: Sink>(
     alloc: Global,
-    frames: u32,
-    events: &[Event],
+    script: &Script,
+    policies: Vec<Box<dyn FramePolicy + Send>>,
     output: &mut O,
 ) -> Result<(), RunError>
-    requires frames { 2048 ≤ frames }
-    requires ready { IsReady (opening_world 0) events.now }
-    ensures ok { OnOk result (Adds (O.written output.old) (O.written output.new) (script_lines events.now)) }
-    ensures err { OnErr result (AddsPrefix (O.written output.old) (O.written output.new) (script_lines events.now)) }
+    requires bounds { All IsWithinBounds (parts_of script.now).events }
+    requires cells { (parts_of script.now).cells ≤ 512 }
+    ensures ok { OnOk result (WroteLines (parts_of script.now)
+        (policy_sum (standing (map (λ policy. told policy) policies.items)))
+        (O.written output.old) (O.written output.new)) }
+    ensures err { OnErr result (WroteSomeLines (parts_of script.now)
+        (policy_sum (standing (map (λ policy. told policy) policies.items)))
+        (O.written output.old) (O.written output.new)) }
     ensures faults { O.faults output.old ≤ O.faults output.new }
     ensures cause { IsErrOf result RunError.WriteFault → Rose (O.faults output.old) (O.faults output.new) }
 {
-    let mut kernel = match Kernel::new(alloc, frames) {
+    let frames = script.frames();
+    let pool = match Pool::new(alloc, frames, policies) {
+        Ok(pool) => pool,
+        Err(NoMemory) => return Err(RunError::NoMemory),
+    };
+    let mut kernel = match Kernel::new(alloc, pool, frames, script.cells(), 0) {
         Ok(kernel) => kernel,
         Err(NoMemory) => return Err(RunError::NoMemory),
     };
+    run_events(alloc, &mut kernel, script, output)
+}
+
+/// Runs the events of a script on a kernel that has run none, and writes the line of each outcome.
+fn run_events<O: Sink>(
+    alloc: Global,
+    kernel: &mut Kernel,
+    script: &Script,
+    output: &mut O,
+) -> Result<(), RunError>
+    requires bounds { All IsWithinBounds (parts_of script.now).events }
+    requires begun { (policies : PolicySum)
+        × HasRun (⟦<Kernel as Standing>⟧.parts kernel.old) (machine_of (parts_of script.now)) 0 policies [] [] }
+    ensures ok { OnOk result ((policies : PolicySum)
+        → HasRun (⟦<Kernel as Standing>⟧.parts kernel.old) (machine_of (parts_of script.now)) 0 policies [] []
+        → WroteLines (parts_of script.now) policies (O.written output.old) (O.written output.new)) }
+    ensures err { OnErr result ((policies : PolicySum)
+        → HasRun (⟦<Kernel as Standing>⟧.parts kernel.old) (machine_of (parts_of script.now)) 0 policies [] []
+        → WroteSomeLines (parts_of script.now) policies (O.written output.old) (O.written output.new)) }
+    ensures faults { O.faults output.old ≤ O.faults output.new }
+    ensures cause { IsErrOf result RunError.WriteFault → Rose (O.faults output.old) (O.faults output.new) }
+{
     let mut lines = Bytes::new(alloc);
-    for event in events {
-        push_line(alloc, &mut kernel, event, &mut lines)?;
+    for place in 0..script.len() {
+        push_line(alloc, kernel, script.event(place), &mut lines)?;
         if lines.as_slice().len() >= PIECE {
             write_lines(output, &lines)?;
             lines.clear();
@@ -61,9 +101,14 @@ fn push_line(
     event: &Event,
     lines: &mut Bytes,
 ) -> Result<(), RunError>
-    requires { IsServed kernel.old event.now }
-    ensures world { OnOk result (kernel.new ≡ world_after kernel.old event.now) }
-    ensures line { OnOk result (lines.new ≡ lines.old ++ outcome_line (outcome_of kernel.old event.now)) }
+    requires within { IsWithinBounds event.now }
+    requires stands { (machine : Machine) × ((state : KernelState) × KernelStands (⟦<Kernel as Standing>⟧.parts kernel.old) machine state) }
+
+    // A run goes on by the event and its outcome, whose line was appended.
+    ensures ran { OnOk result ((outcome : Outcome) × ((lines.new ≡ lines.old ++ outcome_line outcome)
+        × ((machine : Machine) (last : ℕ) (policies : PolicySum) (events : List Event) (outcomes : List Outcome)
+            → HasRun (⟦<Kernel as Standing>⟧.parts kernel.old) machine last policies events outcomes
+            → HasRun (⟦<Kernel as Standing>⟧.parts kernel.new) machine last policies (events ++ event.now ∷ []) (outcomes ++ outcome ∷ [])))) }
     ensures no_memory { IfErr result (λ error. error ≡ RunError.NoMemory) }
 {
     match kernel.step(alloc, event) {

@@ -7,7 +7,8 @@ pub enum Status {
     /// The index, from 0, of the first word that no accepted list of words goes on with, or the
     /// number of words where more were to come.
     Usage { place: u64 },
-    /// The input is no script. The line is told as 1, wherever the fault is.
+    /// The input is no script. The line, counted from 1, is the first that breaks a rule, or the
+    /// one that is missing behind the last.
     BadScript { line: u64 },
     /// A read of the input failed.
     ReadFault,

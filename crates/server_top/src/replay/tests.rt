@@ -41,7 +41,14 @@ fn session(
     let fails = Vec::from_slice(alloc, failing_calls)?;
     let mut files = MemFolder::new(alloc, Vec::new(alloc), room, fails)?;
     let words = command_words(alloc)?;
-    let status = run_plain(alloc, &words, &mut source, &mut written, &mut files);
+    let status = run_plain(
+        alloc,
+        &words,
+        &mut source,
+        &mut written,
+        &mut files,
+        Vec::new(alloc),
+    );
     Ok(Ended {
         status,
         written,

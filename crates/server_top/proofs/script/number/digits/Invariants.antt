@@ -1,7 +1,0 @@
-use Rattle.std.proofs.Common.{◌≡◌, ◌<◌, ◌^◌, drop}
-use Rattle.server_top.specs.ScriptReading.{digits_read}
-use Rattle.server_top.proofs.script.number.digits.Given as goal
-
-abbrev pub invariant-loop-byte : goal.invariant-loop-byte
-invariant-loop-byte l =
-    (digits_read l.base l.number (drop l.byte-index l.token) ≡ digits_read l.base 0 l.token) × (l.number < 2 ^ 48)
