@@ -9,7 +9,9 @@ ghost use Rattle.trace_core.specs.KernelStanding.{KernelStands};
 ghost use Rattle.std.specs.FinMap.{len};
 
 use frame_pool::Pool;
-use plain_kernel::{Event as PlainEvent, Kernel as PlainKernel, MOST_FRAMES, Outcome as PlainOutcome};
+use plain_kernel::{
+    Event as PlainEvent, Kernel as PlainKernel, MOST_FRAMES, Outcome as PlainOutcome,
+};
 use std::alloc::Global;
 use std::test::Fail;
 use trace_core::{Kernel, Standing};
