@@ -19,6 +19,6 @@ mod turns;
 
 pub use ask::Ask;
 pub use deny_nth::DenyNth;
-pub use one_pool::{Pool, Seen, Why};
+pub use one_pool::{Pool, PoolOf, Seen, Why};
 pub use policy::FramePolicy;
 pub use snap_quota::SnapQuota;

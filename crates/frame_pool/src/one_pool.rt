@@ -21,41 +21,41 @@ pub enum Why {
     Denied(u32),
 }
 
-/// Frames that were made at opening, and the policies that are asked before one goes out.
+/// Frames that were made at opening, and the policies that are asked before one goes out: all of one
+/// type, which for a [`Pool`] is a box.
 #[derive(Drop)]
-pub struct Pool {
+pub struct PoolOf<P> {
     stack: FrameStack,
     asks: u64,
-    policies: Vec<Box<dyn FramePolicy + Send>>,
+    policies: Vec<P>,
     /// No more frames are in the pool than were made.
     pub ghost within: { length stack.free ≤ stack.made },
     ghost few: { length policies.items < 2 ^ 32 },
 }
+
+/// A pool of boxed policies, which may be of several types.
+pub type Pool = PoolOf<Box<dyn FramePolicy + Send>>;
 
 /// What may be known of a value with a pool in it.
 pub trait Seen {
     ghost seen: { Self → PoolView };
 }
 
-impl Seen for Pool {
-    ghost seen = { λ pool. record { made = pool.stack.made; free = pool.stack.free; asks = pool.asks; policies = map (λ b. (FramePolicy-box b).told b.value) pool.policies.items } };
+impl<P: FramePolicy> Seen for PoolOf<P> {
+    ghost seen = { λ pool. record { made = pool.stack.made; free = pool.stack.free; asks = pool.asks; policies = map P.told pool.policies.items } };
 }
 
-impl Pool {
+impl<P: FramePolicy> PoolOf<P> {
     /// Makes so many frames, numbered from 0. Policies that are done are dropped.
-    pub fn new(
-        alloc: Global,
-        frames: u32,
-        policies: Vec<Box<dyn FramePolicy + Send>>,
-    ) -> Result<Pool, NoMemory>
-        ensures { IfOk result (λ pool. ⟦<Pool as Seen>⟧.seen pool ≡ record { made = frames; free = range_with_len 0 frames; asks = 0; policies = standing (map (λ policy. told policy) policies.items) }) }
+    pub fn new(alloc: Global, frames: u32, policies: Vec<P>) -> Result<PoolOf<P>, NoMemory>
+        ensures { IfOk result (λ pool. ⟦<PoolOf<P> as Seen>⟧.seen pool ≡ record { made = frames; free = range_with_len 0 frames; asks = 0; policies = standing (map P.told policies.items) }) }
     {
         let mut policies = policies;
         drop_done(&mut policies);
         if policies.len() > u32::MAX as usize {
             return Err(NoMemory);
         }
-        Ok(Pool {
+        Ok(PoolOf {
             stack: FrameStack::new(alloc, frames)?,
             asks: 0,
             policies,
@@ -64,21 +64,21 @@ impl Pool {
 
     /// How many frames are in the pool.
     pub fn free(&self) -> u32
-        ensures count { result ≡ length (⟦<Pool as Seen>⟧.seen self.now).free }
-        ensures bound { result ≤ (⟦<Pool as Seen>⟧.seen self.now).made }
+        ensures count { result ≡ length (⟦<PoolOf<P> as Seen>⟧.seen self.now).free }
+        ensures bound { result ≤ (⟦<PoolOf<P> as Seen>⟧.seen self.now).made }
     {
         self.stack.len()
     }
 
     /// Takes a frame of zeros, where one is there and each policy grants it.
     pub fn take(&mut self, asker: Asker, want: Want) -> Result<Frame, Why>
-        ensures taken { IfOk result (λ frame. TakesOut frame (⟦<Pool as Seen>⟧.seen self.old) (⟦<Pool as Seen>⟧.seen self.new)) }
+        ensures taken { IfOk result (λ frame. TakesOut frame (⟦<PoolOf<P> as Seen>⟧.seen self.old) (⟦<PoolOf<P> as Seen>⟧.seen self.new)) }
         ensures zeros { IfOk result (λ frame. frame.bytes ≡ zero_page) }
         // No frame moved, whatever the reason.
-        ensures kept { OnErr result (KeepsFrames (⟦<Pool as Seen>⟧.seen self.old) (⟦<Pool as Seen>⟧.seen self.new)) }
-        ensures empty { IsErrOf result Why.Empty ↔ ((⟦<Pool as Seen>⟧.seen self.old).free ≡ []) }
-        ensures unasked { IsErrOf result Why.Empty → ⟦<Pool as Seen>⟧.seen self.new ≡ ⟦<Pool as Seen>⟧.seen self.old }
-        ensures denied { (place : ℕ) → IsErrOf result (Why.Denied place) → IsDenied asker place (⟦<Pool as Seen>⟧.seen self.old) (⟦<Pool as Seen>⟧.seen self.new) }
+        ensures kept { OnErr result (KeepsFrames (⟦<PoolOf<P> as Seen>⟧.seen self.old) (⟦<PoolOf<P> as Seen>⟧.seen self.new)) }
+        ensures empty { IsErrOf result Why.Empty ↔ ((⟦<PoolOf<P> as Seen>⟧.seen self.old).free ≡ []) }
+        ensures unasked { IsErrOf result Why.Empty → ⟦<PoolOf<P> as Seen>⟧.seen self.new ≡ ⟦<PoolOf<P> as Seen>⟧.seen self.old }
+        ensures denied { (place : ℕ) → IsErrOf result (Why.Denied place) → IsDenied asker place (⟦<PoolOf<P> as Seen>⟧.seen self.old) (⟦<PoolOf<P> as Seen>⟧.seen self.new) }
     {
         let free = self.stack.len();
         if free == 0 {
@@ -102,8 +102,8 @@ impl Pool {
 
     /// Puts a frame back, and makes its bytes zeros.
     pub fn give(&mut self, frame: Frame)
-        requires { length (⟦<Pool as Seen>⟧.seen self.old).free < (⟦<Pool as Seen>⟧.seen self.old).made }
-        ensures { ⟦<Pool as Seen>⟧.seen self.new ≡ record (⟦<Pool as Seen>⟧.seen self.old) { free = (⟦<Pool as Seen>⟧.seen self.old).free ++ frame.number ∷ [] } }
+        requires { length (⟦<PoolOf<P> as Seen>⟧.seen self.old).free < (⟦<PoolOf<P> as Seen>⟧.seen self.old).made }
+        ensures { ⟦<PoolOf<P> as Seen>⟧.seen self.new ≡ record (⟦<PoolOf<P> as Seen>⟧.seen self.old) { free = (⟦<PoolOf<P> as Seen>⟧.seen self.old).free ++ frame.number ∷ [] } }
     {
         self.stack.push(frame);
     }

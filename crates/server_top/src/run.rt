@@ -15,7 +15,7 @@ ghost use Rattle.trace_core.specs.KernelRun.{HasRun};
 ghost use Rattle.trace_core.specs.SupplyState.{policy_sum};
 ghost use Rattle.server_top.specs.RunPromise.{WroteLines, WroteSomeLines, machine_of};
 
-use frame_pool::{FramePolicy, Pool};
+use frame_pool::FramePolicy;
 use io_face::{Failed, Sink, write_all};
 use std::alloc::Global;
 use trace_core::{Kernel, Standing};
@@ -52,12 +52,8 @@ pub(crate) fn run_script<O: Sink>(
     ensures faults { O.faults output.old ≤ O.faults output.new }
     ensures cause { IsErrOf result RunError.WriteFault → Rose (O.faults output.old) (O.faults output.new) }
 {
-    let frames = script.frames();
-    let pool = match Pool::new(alloc, frames, policies) {
-        Ok(pool) => pool,
-        Err(NoMemory) => return Err(RunError::NoMemory),
-    };
-    let mut kernel = match Kernel::new(alloc, pool, frames, script.cells(), 0) {
+    let new = Kernel::new(alloc, script.frames(), script.cells(), 0, policies);
+    let mut kernel = match new {
         Ok(kernel) => kernel,
         Err(NoMemory) => return Err(RunError::NoMemory),
     };

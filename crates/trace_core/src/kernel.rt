@@ -1,5 +1,6 @@
 //! The kernel: the parent's areas, the page tables, and where frames come from.
 ghost use Rattle.std.specs.Prelude.{◌≡◌, ◌≤◌, ◌<◌, IfOk, length, map, [], vec_capacity};
+ghost use Rattle.frame_pool.specs.Policies.{standing};
 ghost use Rattle.trace_core.specs.SupplyState.{state_of, policy_sum};
 ghost use Rattle.trace_core.specs.KernelState.{opening_state};
 ghost use Rattle.trace_core.specs.KernelRun.{HasRun};
@@ -7,10 +8,9 @@ ghost use Rattle.trace_core.specs.KernelStanding.{KernelParts, KernelStands};
 
 use crate::supply::Supply;
 use area_list::Areas;
-use frame_pool::{FramePolicy, Pool, Seen};
+use frame_pool::FramePolicy;
 use page_tables::PageTables;
 use std::alloc::Global;
-use std::marker::PhantomData;
 use vm_base::NoMemory;
 
 /// The most pages that one touch may meet.
@@ -35,8 +35,6 @@ pub struct Kernel {
     pub(crate) last: u32,
     /// Room for the pages that one touch adds.
     pub(crate) added: Vec<u64>,
-    // Clauses may name what boxed policies tell only where a field's own type has them.
-    policies: PhantomData<Box<dyn FramePolicy + Send>>,
 
     ghost room: { 1025 ≤ vec_capacity added },
 }
@@ -62,36 +60,35 @@ impl Standing for Kernel {
 }
 
 impl Kernel {
-    /// A parent without areas or pages, over a pool that made so many frames and has them all, with
-    /// room for so many cells. The last snapshot had this number: 0 before the first. It fails
-    /// only for want of memory.
+    /// A parent without areas or pages, over so many frames, with room for so many cells, and with
+    /// policies that may refuse requests for frames. The last snapshot had this number: 0 before the
+    /// first. It fails only for want of memory.
     pub fn new(
         alloc: Global,
-        pool: Pool,
         frames: u32,
         cells: u32,
         last: u32,
+        policies: Vec<Box<dyn FramePolicy + Send>>,
     ) -> Result<Kernel, NoMemory>
         requires cells { cells ≤ 512 }
-        requires made { (⟦<Pool as Seen>⟧.seen pool).made ≡ frames }
-        requires free { length (⟦<Pool as Seen>⟧.seen pool).free ≡ frames }
         ensures stands { IfOk result (λ kernel. KernelStands (⟦<Kernel as Standing>⟧.parts kernel)
             (record { frames = frames; slots = cells; limit = 1 }) (opening_state last)) }
 
-        // A run begins.
+        // A run begins, under the policies that are not done.
         ensures begins { IfOk result (λ kernel. HasRun (⟦<Kernel as Standing>⟧.parts kernel)
-            (record { frames = frames; slots = cells; limit = 1 }) last (policy_sum (⟦<Pool as Seen>⟧.seen pool).policies) [] []) }
+            (record { frames = frames; slots = cells; limit = 1 }) last
+            (policy_sum (standing (map (λ policy. told policy) policies.items))) [] []) }
     {
+        let supply = Supply::new(alloc, frames, policies)?;
         let tables = PageTables::new(alloc, cells)?;
         let added = Vec::with_capacity(alloc, MOST_PAGES)?;
         Ok(Kernel {
             areas: Areas::new(),
             tables,
-            supply: Supply::new(pool, frames),
+            supply,
             snapshot: None,
             last,
             added,
-            policies: PhantomData,
         })
     }
 }

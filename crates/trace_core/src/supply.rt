@@ -1,12 +1,12 @@
 //! Where the kernel's frames come from.
-ghost use Rattle.std.specs.Prelude.{◌≡◌, ◌+◌, map, Some, None};
+ghost use Rattle.std.specs.Prelude.{◌≡◌, ◌+◌, map, Some, IfOk};
 ghost use Rattle.vm_base.specs.Counts.{next_count};
-ghost use Rattle.vm_base.specs.declared.frame_request.Asker.TheVariants.{Parent};
-ghost use Rattle.trace_core.specs.SupplyState.{SupplyState, state_of, is_next, pending_behind, SupplyGoes};
+ghost use Rattle.frame_pool.specs.Policies.{standing};
+ghost use Rattle.trace_core.specs.SupplyState.{SupplyState, state_of, opening_supply, policy_sum, is_next, pending_behind, SupplyGoes};
 
-use frame_pool::{FramePolicy, Pool, Seen};
-use std::marker::PhantomData;
-use vm_base::{Allot, Asker, Frame, Refused, Want};
+use frame_pool::{FramePolicy, Pool};
+use std::alloc::Global;
+use vm_base::{Allot, Asker, Frame, NoMemory, Refused, Want};
 
 /// A pool, and who asks it. One of the requests that follow may be named to be refused: the pool
 /// is not asked for that one.
@@ -20,27 +20,28 @@ pub struct Supply {
     refused: u64,
     // Counted from 1, which is the next request.
     pending: Option<u32>,
-    // Clauses may name what boxed policies tell only where a field's own type has them.
-    policies: PhantomData<Box<dyn FramePolicy + Send>>,
 
     ghost all: { pool.stack.made ≡ frames },
 }
 
 impl Supply {
-    /// Of a pool that made so many frames. The parent asks, and was not refused yet.
-    pub fn new(pool: Pool, frames: u32) -> Supply
-        requires { (⟦<Pool as Seen>⟧.seen pool).made ≡ frames }
-        ensures { ⟦<Supply as Allot>⟧.state result
-            ≡ state_of (⟦<Pool as Seen>⟧.seen pool) Parent 0 None }
+    /// Of so many frames, all of them in the pool, with policies that may refuse a request. The
+    /// parent asks, and was not refused yet. It fails only for want of memory.
+    pub fn new(
+        alloc: Global,
+        frames: u32,
+        policies: Vec<Box<dyn FramePolicy + Send>>,
+    ) -> Result<Supply, NoMemory>
+        ensures { IfOk result (λ supply. ⟦<Supply as Allot>⟧.state supply
+            ≡ opening_supply frames (policy_sum (standing (map (λ policy. told policy) policies.items)))) }
     {
-        Supply {
-            pool,
+        Ok(Supply {
+            pool: Pool::new(alloc, frames, policies)?,
             frames,
             asker: Asker::Parent,
             refused: 0,
             pending: None,
-            policies: PhantomData,
-        }
+        })
     }
 
     /// Names the nth request that follows, counted from 1, to be refused. It takes the place of one

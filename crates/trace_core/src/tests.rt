@@ -1,6 +1,6 @@
 //! A supply at concrete values.
 use crate::Supply;
-use frame_pool::{DenyNth, FramePolicy, Pool};
+use frame_pool::{DenyNth, FramePolicy};
 use std::test::Fail;
 use vm_base::{Allot, Asker, Frame, Refused, Want};
 
@@ -16,7 +16,7 @@ fn refusal(answer: Result<Frame, Refused>) -> Option<u64> {
 fn a_named_request_reaches_no_policy(rt: HostRuntime) -> Result<(), Fail> {
     let mut policies: Vec<Box<dyn FramePolicy + Send>> = Vec::new(rt.alloc());
     policies.push(Box::new(rt.alloc(), DenyNth::new(2))?)?;
-    let mut supply = Supply::new(Pool::new(rt.alloc(), 3, policies)?, 3);
+    let mut supply = Supply::new(rt.alloc(), 3, policies)?;
     // The last of two refuse lines counts.
     supply.refuse(1);
     supply.refuse(2);
@@ -33,7 +33,7 @@ fn a_named_request_reaches_no_policy(rt: HostRuntime) -> Result<(), Fail> {
 
 #[test]
 fn each_asker_has_its_own_count(rt: HostRuntime) -> Result<(), Fail> {
-    let mut supply = Supply::new(Pool::new(rt.alloc(), 1, Vec::new(rt.alloc()))?, 1);
+    let mut supply = Supply::new(rt.alloc(), 1, Vec::new(rt.alloc()))?;
     let Ok(frame) = supply.take(Want::Leaf) else {
         return Err(Fail::new("no frame"));
     };

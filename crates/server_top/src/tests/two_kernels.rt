@@ -8,7 +8,6 @@ ghost use Rattle.trace_core.specs.KernelState.{Machine, KernelState};
 ghost use Rattle.trace_core.specs.KernelStanding.{KernelStands};
 ghost use Rattle.std.specs.FinMap.{len};
 
-use frame_pool::Pool;
 use plain_kernel::{
     Event as PlainEvent, Kernel as PlainKernel, MOST_FRAMES, Outcome as PlainOutcome,
 };
@@ -134,8 +133,7 @@ fn are_answered_alike(
 /// Runs a script that maps, makes accesses, forks and makes further ones, on both kernels.
 fn print_the_same(alloc: Global, seed: u64) -> Result<bool, NoMemory> {
     let mut plain = PlainKernel::new(alloc, MOST_FRAMES)?;
-    let pool = Pool::new(alloc, FRAMES, Vec::new(alloc))?;
-    let mut framed = Kernel::new(alloc, pool, FRAMES, 1, 0)?;
+    let mut framed = Kernel::new(alloc, FRAMES, 1, 0, Vec::new(alloc))?;
     let (first, pages, perm) = (0, PAGES, Perm::ReadWrite);
     let mapped = is_answered_alike(
         alloc,

@@ -1,7 +1,5 @@
 -- A kernel over the pool of the policies has begun a run under what they tell.
-use Rattle.std.proofs.Common.{length, sym, ◌∙◌, ap}
-use Rattle.std.proofs.lemmas.List.FromFn.{length-range_with_len}
-use Rattle.trace_core.specs.SupplyState.{policy_sum}
+use Rattle.std.proofs.Common.{refl}
 use Rattle.trace_text.specs.SoFar.{parts_of}
 use Rattle.server_top.specs.RunPromise.{WroteLines, WroteSomeLines}
 use Rattle.server_top.proofs.Lines.{no_lines, begun_on, for_begun}
@@ -11,27 +9,18 @@ use Rattle.server_top.proofs.run.run_script.Goals as goal
 pub returns-in-Err-clause-err : goal.returns-in-Err-clause-err
 returns-in-Err-clause-err g c = no_lines _ _ _
 
-pub new-requires-2-clause-free : goal.new-requires-2-clause-free
-new-requires-2-clause-free g c = ap (λ pool. length pool.free) c.in-Ok.ensures ∙ length-range_with_len 0 c.frames-frames.result
-
-pub returns-in-Err-new-clause-err : goal.returns-in-Err-new-clause-err
-returns-in-Err-new-clause-err g c = no_lines _ _ _
-
 pub run_events-requires-clause-begun : goal.run_events-requires-clause-begun
 run_events-requires-clause-begun g c =
-    let begun = begun_on _ (parts_of c.args.script.now) _ _ _ _ c.frames-frames.ensures c.cells.ensures
-    (ap (λ pool. policy_sum pool.policies) c.in-Ok.ensures) c.in-Ok-new.ensures.begins in (_, begun)
+    let begun = begun_on _ (parts_of c.args.script.now) _ _ _ _ c.frames.ensures c.cells.ensures refl c.in-Ok.ensures.begins in (_, begun)
 
 pub returns-clause-ok : goal.returns-clause-ok
 returns-clause-ok g c =
-    let begun = begun_on _ (parts_of c.args.script.now) _ _ _ _ c.frames-frames.ensures c.cells.ensures
-    (ap (λ pool. policy_sum pool.policies) c.in-Ok.ensures) c.in-Ok-new.ensures.begins in
+    let begun = begun_on _ (parts_of c.args.script.now) _ _ _ _ c.frames.ensures c.cells.ensures refl c.in-Ok.ensures.begins in
     on_ok_then _ _ _ c.run_events.ensures.ok
     (for_begun _ (parts_of c.args.script.now) _ (λ policies. WroteLines (parts_of c.args.script.now) policies (g.O.Sink.written c.args.output.now) (g.O.Sink.written c.run_events.new.output)) begun)
 
 pub returns-clause-err : goal.returns-clause-err
 returns-clause-err g c =
-    let begun = begun_on _ (parts_of c.args.script.now) _ _ _ _ c.frames-frames.ensures c.cells.ensures
-    (ap (λ pool. policy_sum pool.policies) c.in-Ok.ensures) c.in-Ok-new.ensures.begins in
+    let begun = begun_on _ (parts_of c.args.script.now) _ _ _ _ c.frames.ensures c.cells.ensures refl c.in-Ok.ensures.begins in
     on_err_then _ _ _ c.run_events.ensures.err
     (for_begun _ (parts_of c.args.script.now) _ (λ policies. WroteSomeLines (parts_of c.args.script.now) policies (g.O.Sink.written c.args.output.now) (g.O.Sink.written c.run_events.new.output)) begun)

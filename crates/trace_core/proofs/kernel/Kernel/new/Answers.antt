@@ -1,12 +1,11 @@
-use Rattle.std.proofs.Common.{ap, ◌∙◌}
-use Rattle.trace_core.proofs.Writes.{opening-stands, opens-all}
+use Rattle.std.proofs.Common.{ap}
+use Rattle.trace_core.proofs.Writes.{opening-stands}
 use Rattle.trace_core.proofs.RunSteps.{run-opens}
 use Rattle.trace_core.proofs.kernel.Kernel.new.Goals as goal
 
--- src/kernel.rt:67:5
 pub returns : goal.returns
 returns g c =
-    let opens = c.new-3.ensures ∙ opens-all _ c.args.frames _ _ c.requires.made c.requires.free in
-    let stands = opening-stands c.args.frames c.args.cells c.args.last c.new-2.result c.new-2.ensures c.in_ok-tables.tables _ _
+    let opens = c.in_ok-supply.ensures in
+    let stands = opening-stands c.args.frames c.args.cells c.args.last c.new-3.result c.new-3.ensures c.in_ok-tables.tables _ _
     opens c.in_ok-tables.ensures.stands c.in_ok-tables.ensures.slots c.in_ok-tables.ensures.held in
     record { stands = stands; begins = run-opens _ _ c.args.last _ stands (ap (λ s. s.policies) opens) }
