@@ -95,36 +95,6 @@ fn each_script_prints_its_lines(rt: HostRuntime) -> Result<(), Fail> {
     Ok(())
 }
 
-/// The text with a line for each of 127 areas of one page, with a page between each two.
-fn push_areas(alloc: Global, text: &mut Bytes, before: &str, behind: &str) -> Result<(), NoMemory> {
-    let first = format!(in alloc; "{before}0 1 rw{behind}")?;
-    text.push_all(first.as_bytes())?;
-    for area in 1..127u32 {
-        let page = 2 * area;
-        let line = format!(in alloc; "{before}{page:x}000 1 rw{behind}")?;
-        text.push_all(line.as_bytes())?;
-    }
-    Ok(())
-}
-
-#[test]
-fn a_full_list_of_areas_stays_as_it_was(rt: HostRuntime) -> Result<(), Fail> {
-    let mut script = Bytes::new(rt.alloc());
-    script.push_all(b"machine 64\n")?;
-    push_areas(rt.alloc(), &mut script, "map ", "\n")?;
-    script.push_all(b"map 100000 3 rw\nmap 200000 1 rw\nunmap 101000 1\nareas\n")?;
-    script.push_all(b"unmap 0 1\nmap 200000 1 rw\n")?;
-    let mut lines = Bytes::new(rt.alloc());
-    for _ in 0..128 {
-        lines.push_all(b"ok\n")?;
-    }
-    lines.push_all(b"areasfull\nareasfull\nareas ")?;
-    push_areas(rt.alloc(), &mut lines, "", ", ")?;
-    lines.push_all(b"100000 3 rw\nok\nok\n")?;
-    assert!(rt; prints(rt.alloc(), script.as_slice(), lines.as_slice(), &[])?);
-    Ok(())
-}
-
 #[test]
 fn a_policy_denies_the_asks_that_reach_it(rt: HostRuntime) -> Result<(), Fail> {
     let cases: [(&[u64], &[u8], &[u8]); 4] = [
