@@ -1,16 +1,13 @@
-use Rattle.std.proofs.Common.{rules, ◌≡◌, ◌<◌, ◌≤◌, ℕ, [], ◌++◌, codes, length, IfOk, OnOk, ◌+◌, ◌-◌, ◌*◌, ◌/◌, ◌%◌, Bool, true, false, nat_eq, nat_lt, List, ◌∷◌, slice_index_or, slice_set, bit_and, bit_or, Fits, w8, w32, w64, Bor, MutBor}
-use Rattle.vm_base.specs.TwoSides.{World, opening_world}
-use Rattle.trace_events.specs.EventBounds.{IsWithinBounds}
-use Rattle.plain_kernel.specs.KernelStep.{IsServed, world_after}
-use Rattle.trace_core.specs.KernelState.{Machine, KernelState}
-use Rattle.trace_core.specs.KernelStanding.{KernelStands}
-use Rattle.std.specs.FinMap.{len}
+-- The kernel on frames has begun, and no fork was made before the one that comes.
+use Rattle.std.proofs.Common.{refl}
+use Rattle.vm_base.specs.declared.permission.Perm.TheVariants.{ReadWrite}
+use Rattle.server_top.proofs.PlainForks.{forks_behind}
 use Rattle.server_top.proofs.tests.two_kernels.print_the_same.Goals as goal
 
--- src/tests/two_kernels.rt:162:18
 pub is_answered_alike-requires-clause-stands : goal.is_answered_alike-requires-clause-stands
-is_answered_alike-requires-clause-stands c = ?
+is_answered_alike-requires-clause-stands c = (_, (_, c.in_ok-framed.ensures.stands))
 
--- src/tests/two_kernels.rt:171:18
 pub is_answered_alike-requires-2-clause-served : goal.is_answered_alike-requires-2-clause-served
-is_answered_alike-requires-2-clause-served c = ?
+is_answered_alike-requires-2-clause-served c =
+    let free = forks_behind c.in_ok-plain.plain c.is_answered_alike.new.plain c.are_answered_alike.new.plain 0 8 ReadWrite c.in_ok-plain.ensures c.in_ok-mapped.ensures.world c.in_ok-before.ensures.kept in
+    (refl, free.0, free.1)
