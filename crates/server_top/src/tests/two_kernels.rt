@@ -9,7 +9,9 @@ ghost use Rattle.trace_core.specs.KernelStanding.{KernelStands};
 ghost use Rattle.std.specs.FinMap.{len};
 
 use frame_pool::Pool;
-use plain_kernel::{Event as PlainEvent, Kernel as PlainKernel, MOST_FRAMES, Outcome as PlainOutcome};
+use plain_kernel::{
+    Event as PlainEvent, Kernel as PlainKernel, MOST_FRAMES, Outcome as PlainOutcome,
+};
 use std::alloc::Global;
 use std::test::Fail;
 use trace_core::{Kernel, Standing};
@@ -58,11 +60,7 @@ fn framed_line(alloc: Global, framed: &mut Kernel, event: &Event) -> Result<Byte
 }
 
 /// The line that the kernel on plain pages prints for the event.
-fn plain_line(
-    alloc: Global,
-    plain: &mut PlainKernel,
-    event: &PlainEvent,
-) -> Result<Bytes, NoMemory>
+fn plain_line(alloc: Global, plain: &mut PlainKernel, event: &PlainEvent) -> Result<Bytes, NoMemory>
     requires served { IsServed plain.old event.now }
     ensures world { OnOk result (plain.new ≡ world_after plain.old event.now) }
 {
