@@ -23,14 +23,7 @@ fn main(rt: HostRuntime) -> ExitCode {
             let mut output = OutputStream::new(rt.stdout());
             let mut files = CurrentFolder::new(rt, alloc);
             let policies = Vec::new(alloc);
-            run_plain(
-                alloc,
-                &words,
-                &mut input,
-                &mut output,
-                &mut files,
-                policies,
-            )
+            run_plain(alloc, &words, &mut input, &mut output, &mut files, policies)
         }
         Err(NoMemory) => Status::NoMemory,
     };

@@ -107,8 +107,8 @@ fn push_line(
     // A run goes on by the event and its outcome, whose line was appended.
     ensures ran { OnOk result ((outcome : Outcome) × ((lines.new ≡ lines.old ++ outcome_line outcome)
         × ((machine : Machine) (last : ℕ) (policies : PolicySum) (events : List Event) (outcomes : List Outcome)
-            → HasRun (⟦<Kernel as Standing>⟧.parts kernel.old) machine last policies events outcomes
-            → HasRun (⟦<Kernel as Standing>⟧.parts kernel.new) machine last policies (events ++ event.now ∷ []) (outcomes ++ outcome ∷ [])))) }
+        → HasRun (⟦<Kernel as Standing>⟧.parts kernel.old) machine last policies events outcomes
+        → HasRun (⟦<Kernel as Standing>⟧.parts kernel.new) machine last policies (events ++ event.now ∷ []) (outcomes ++ outcome ∷ [])))) }
     ensures no_memory { IfErr result (λ error. error ≡ RunError.NoMemory) }
 {
     match kernel.step(alloc, event) {

@@ -83,14 +83,7 @@ fn prints(alloc: Global, script: &[u8], lines: &[u8], denied: &[u64]) -> Result<
     let mut written = MemSink::new(alloc, 1 << 20, Vec::new(alloc))?;
     let words = words(alloc, &[b"trace"])?;
     let mut files = MemFolder::new(alloc, Vec::new(alloc), 0, Vec::new(alloc))?;
-    let status = run_plain(
-        alloc,
-        &words,
-        &mut left,
-        &mut written,
-        &mut files,
-        policies,
-    );
+    let status = run_plain(alloc, &words, &mut left, &mut written, &mut files, policies);
     Ok(status == Status::Done && written.written() == lines && left.left().is_empty())
 }
 

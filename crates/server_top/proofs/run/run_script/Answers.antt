@@ -1,5 +1,5 @@
 -- A kernel over the pool of the policies has begun a run under what they tell.
-use Rattle.std.proofs.Common.{length, sym, ◌∙◌, ap}
+use Rattle.std.proofs.Common.{length, ◌∙◌, ap}
 use Rattle.std.proofs.lemmas.List.FromFn.{length-range_with_len}
 use Rattle.trace_core.specs.SupplyState.{policy_sum}
 use Rattle.trace_text.specs.SoFar.{parts_of}
