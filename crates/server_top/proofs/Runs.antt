@@ -1,5 +1,5 @@
 -- A run of `trace` from a run of its text.
-use Rattle.std.proofs.Common.{◌≡◌, ℕ, List, refl, inl, inr}
+use Rattle.std.proofs.Common.{◌≡◌, ℕ, List, refl, inr}
 use Rattle.std.specs.Prelude.{Option, None}
 use Rattle.kernel_meaning.specs.RefusedRequests.{PolicySum}
 use Rattle.server_top.specs.declared.status.Status.{Status}

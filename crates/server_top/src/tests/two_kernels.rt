@@ -46,6 +46,29 @@ fn outcome_of(outcome: PlainOutcome) -> Outcome {
     }
 }
 
+/// The line that the kernel on frames prints for the event.
+fn framed_line(alloc: Global, framed: &mut Kernel, event: &Event) -> Result<Bytes, NoMemory>
+    requires within { IsWithinBounds event.now }
+    requires stands { (machine : Machine) × ((state : KernelState) × KernelStands (⟦<Kernel as Standing>⟧.parts framed.old) machine state) }
+    ensures stands { OnOk result ((machine : Machine) × ((state : KernelState) × KernelStands (⟦<Kernel as Standing>⟧.parts framed.new) machine state)) }
+{
+    let outcome = framed.step(alloc, event)?;
+    let mut line = Bytes::new(alloc);
+    outcome_text(alloc, &outcome, &mut line)?;
+    Ok(line)
+}
+
+/// The line that the kernel on plain pages prints for the event.
+fn plain_line(alloc: Global, plain: &mut PlainKernel, event: &PlainEvent) -> Result<Bytes, NoMemory>
+    requires served { IsServed plain.old event.now }
+    ensures world { OnOk result (plain.new ≡ world_after plain.old event.now) }
+{
+    let outcome = outcome_of(plain.step(alloc, event)?);
+    let mut line = Bytes::new(alloc);
+    outcome_text(alloc, &outcome, &mut line)?;
+    Ok(line)
+}
+
 /// Runs the event on both kernels, and answers whether both printed the same line.
 fn is_answered_alike(
     alloc: Global,
@@ -59,14 +82,11 @@ fn is_answered_alike(
     ensures world { OnOk result (plain.new ≡ world_after plain.old plain_event.now) }
     ensures stands { OnOk result ((machine : Machine) × ((state : KernelState) × KernelStands (⟦<Kernel as Standing>⟧.parts framed.new) machine state)) }
 {
-    let mut plain_line = Bytes::new(alloc);
-    let outcome = outcome_of(plain.step(alloc, plain_event)?);
-    outcome_text(alloc, &outcome, &mut plain_line)?;
-    let mut line = Bytes::new(alloc);
-    if event.is_within_bounds() {
-        let outcome = framed.step(alloc, event)?;
-        outcome_text(alloc, &outcome, &mut line)?;
+    let plain_line = plain_line(alloc, plain, plain_event)?;
+    if !event.is_within_bounds() {
+        return Ok(false);
     }
+    let line = framed_line(alloc, framed, event)?;
     Ok(line.as_slice() == plain_line.as_slice())
 }
 

@@ -1,5 +1,5 @@
 -- The kernel has run the events so far, and their lines are written or wait, at each step and at each end.
-use Rattle.std.proofs.Common.{arith, ap, ◌∙◌, ◌+◌, take, refl, ◌≡◌, []}
+use Rattle.std.proofs.Common.{arith, ap, ◌∙◌, ◌+◌, refl, []}
 use Rattle.std.proofs.lemmas.List.{take_all}
 use Rattle.trace_text.specs.SoFar.{parts_of}
 use Rattle.server_top.specs.RunPromise.{machine_of}
