@@ -1,10 +1,10 @@
 //! The kernel on frames: what its events mean, and where its frames come from.
 //!
-//! The main types so far are [`Kernel`], a parent and its snapshot over counted frames, and
-//! [`Supply`], a pool with the one that asks it: `kernel.write(0x5000, b"ab")` stores two bytes in
-//! a mapped area, or says why not. A caller may rely on one sentence: what a write answers and
-//! leaves is what the definitions say of that event, with the requests for frames that it made,
-//! each refused as the pool's policies allow. README.md goes on.
+//! The main types are [`Kernel`], a parent and its snapshot over counted frames, and [`Supply`], a
+//! pool with the one that asks it: `kernel.step(alloc, &event)` runs an event and answers its
+//! outcome. A caller may rely on one sentence: what events answer and leave one after another is
+//! what the definitions say of them, with the requests for frames that they make, each refused as
+//! the policies allow. README.md goes on.
 #![tactic(auto)]
 
 mod accounts;
