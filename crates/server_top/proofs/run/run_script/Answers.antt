@@ -34,4 +34,5 @@ returns-clause-err g c =
     let begun = begun_on _ (parts_of c.args.script.now) _ _ _ _ c.frames-frames.ensures c.cells.ensures
     (ap (λ pool. policy_sum pool.policies) c.in-Ok.ensures) c.in-Ok-new.ensures.begins in
     on_err_then _ _ _ c.run_events.ensures.err
-    (for_begun _ (parts_of c.args.script.now) _ (λ policies. WroteSomeLines (parts_of c.args.script.now) policies (g.O.Sink.written c.args.output.now) (g.O.Sink.written c.run_events.new.output)) begun)
+    (for_begun _ (parts_of c.args.script.now) _
+    (λ policies. WroteSomeLines (parts_of c.args.script.now) policies (g.O.Sink.written c.args.output.now) (g.O.Sink.written c.run_events.new.output)) begun)
