@@ -1,12 +1,11 @@
 //! The kernel on frames beside the one on plain pages: where no request is refused, both print the
 //! same lines.
-ghost use Rattle.std.specs.Prelude.{◌≡◌, ◌<◌, ◌≤◌, ℕ, [], ◌++◌, codes, length, IfOk, OnOk};
-ghost use Rattle.vm_base.specs.TwoSides.{World, opening_world};
+ghost use Rattle.std.specs.Prelude.{◌≡◌, ◌≤◌, length, IfOk, OnOk};
+ghost use Rattle.vm_base.specs.TwoSides.{World};
 ghost use Rattle.trace_events.specs.EventBounds.{IsWithinBounds};
 ghost use Rattle.plain_kernel.specs.KernelStep.{IsServed, world_after};
 ghost use Rattle.trace_core.specs.KernelState.{Machine, KernelState};
 ghost use Rattle.trace_core.specs.KernelStanding.{KernelStands};
-ghost use Rattle.std.specs.FinMap.{len};
 
 use plain_kernel::{
     Event as PlainEvent, Kernel as PlainKernel, MOST_FRAMES, Outcome as PlainOutcome,

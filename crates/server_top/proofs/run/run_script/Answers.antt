@@ -23,4 +23,5 @@ pub returns-clause-err : goal.returns-clause-err
 returns-clause-err g c =
     let begun = begun_on _ (parts_of c.args.script.now) _ _ _ _ c.frames.ensures c.cells.ensures refl c.in-Ok.ensures.begins in
     on_err_then _ _ _ c.run_events.ensures.err
-    (for_begun _ (parts_of c.args.script.now) _ (λ policies. WroteSomeLines (parts_of c.args.script.now) policies (g.O.Sink.written c.args.output.now) (g.O.Sink.written c.run_events.new.output)) begun)
+    (for_begun _ (parts_of c.args.script.now) _
+    (λ policies. WroteSomeLines (parts_of c.args.script.now) policies (g.O.Sink.written c.args.output.now) (g.O.Sink.written c.run_events.new.output)) begun)

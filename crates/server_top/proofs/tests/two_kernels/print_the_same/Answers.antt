@@ -9,5 +9,6 @@ is_answered_alike-requires-clause-stands c = (_, (_, c.in_ok-framed.ensures.stan
 
 pub is_answered_alike-requires-2-clause-served : goal.is_answered_alike-requires-2-clause-served
 is_answered_alike-requires-2-clause-served c =
-    let free = forks_behind c.in_ok-plain.plain c.is_answered_alike.new.plain c.are_answered_alike.new.plain 0 8 ReadWrite c.in_ok-plain.ensures c.in_ok-mapped.ensures.world c.in_ok-before.ensures.kept in
+    let free = forks_behind c.in_ok-plain.plain c.is_answered_alike.new.plain c.are_answered_alike.new.plain 0 8 ReadWrite
+    c.in_ok-plain.ensures c.in_ok-mapped.ensures.world c.in_ok-before.ensures.kept in
     (refl, free.0, free.1)
