@@ -1,0 +1,56 @@
+"""What the benchmarks share: the machine that they run on, and a run of a program on a file, with
+the time and the memory that it took."""
+import datetime
+import os
+import platform
+import sys
+import tempfile
+from typing import NamedTuple
+
+TOP = os.path.dirname(os.path.dirname(os.path.realpath(__file__)))
+PROGRAM = f"{TOP}/crates/server_main/out/server_main"
+
+
+class Run(NamedTuple):
+    """What one run took: seconds of the processor, user and system, and bytes at the peak."""
+
+    seconds: float
+    memory: int
+
+
+def processor_model():
+    with open("/proc/cpuinfo", encoding="utf-8") as it:
+        names = [line.split(":", 1)[1].strip() for line in it if line.startswith("model name")]
+    return f"{len(names)} x {names[0]}" if names else platform.machine()
+
+
+def print_head(command):
+    """The lines that stand above the tables."""
+    now = datetime.datetime.now(datetime.timezone.utc)
+    print(f"- Machine: {processor_model()}, Linux {platform.release()}")
+    print(f"- Date: {now:%Y-%m-%d %H:%M} UTC")
+    print(f"- Command: {command}")
+
+
+def run_on(words, file, status=0):
+    """Runs the words once on a file, with output and faults to /dev/null."""
+    streams = [
+        (os.POSIX_SPAWN_OPEN, 0, file, os.O_RDONLY, 0),
+        (os.POSIX_SPAWN_OPEN, 1, os.devnull, os.O_WRONLY, 0),
+        (os.POSIX_SPAWN_OPEN, 2, os.devnull, os.O_WRONLY, 0),
+    ]
+    child = os.posix_spawnp(words[0], words, os.environ, file_actions=streams)
+    _, ended, used = os.wait4(child, 0)
+    ended = os.waitstatus_to_exitcode(ended)
+    if ended != status:
+        sys.exit(f"{sys.argv[0]}: {words[0]} ended with {ended}, not {status}")
+    return Run(used.ru_utime + used.ru_stime, used.ru_maxrss * 1024)
+
+
+def least_of(runs, words, text, status=0):
+    """The least of each over so many runs on a text."""
+    with tempfile.NamedTemporaryFile() as file:
+        file.write(text)
+        file.flush()
+        done = [run_on(words, file.name, status) for _ in range(runs)]
+    return Run(min(it.seconds for it in done), min(it.memory for it in done))
