@@ -21,8 +21,8 @@ pub enum Why {
     Denied(u32),
 }
 
-/// Frames that were made at opening, and the policies that are asked before one goes out: all of one
-/// type, which for a [`Pool`] is a box.
+/// Frames that were made at opening, and the policies that are asked before one goes out. They are
+/// of one type, which for a [`Pool`] is a box.
 #[derive(Drop)]
 pub struct PoolOf<P> {
     stack: FrameStack,

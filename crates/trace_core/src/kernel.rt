@@ -61,8 +61,8 @@ impl Standing for Kernel {
 
 impl Kernel {
     /// A parent without areas or pages, over so many frames, with room for so many cells, and with
-    /// policies that may refuse requests for frames. The last snapshot had this number: 0 before the
-    /// first. It fails only for want of memory.
+    /// policies that may refuse requests for frames. The last snapshot had this number, which is 0
+    /// before the first. It fails only for want of memory.
     pub fn new(
         alloc: Global,
         frames: u32,
