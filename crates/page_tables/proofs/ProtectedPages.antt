@@ -1,5 +1,5 @@
 -- To protect pages where no leaf is joined asks for nothing and changes no leaf.
-use Rattle.std.proofs.Common.{◌≡◌, ℕ, List, [], ◌∷◌, None, cond, refl, sym, ◌∙◌, ap, append-nil}
+use Rattle.std.proofs.Common.{◌≡◌, ℕ, List, [], ◌∷◌, None, cond, refl, sym, ◌∙◌, ap, subst, append-nil}
 use Rattle.std.specs.Prelude.{true, false}
 use Rattle.kernel_meaning.specs.Leaves.{has_present}
 use Rattle.kernel_meaning.specs.CellActs.{Course, before_change, protected}
@@ -7,6 +7,8 @@ use Rattle.kernel_meaning.specs.EventRequests.{Progress, changed_cells, course_a
 use Rattle.leaf_cell.specs.CellView.{AreUnjoined}
 use Rattle.leaf_cell.proofs.TouchCourses.{before_change-none}
 use Rattle.page_tables.specs.declared.tables.PageTables.{PageTables}
+use Rattle.vm_base.specs.Deals.{Deal}
+use Rattle.page_tables.specs.Making.{MadeEvent, pages_as_they_were}
 use Rattle.page_tables.specs.Sides.{Sides}
 use Rattle.page_tables.specs.Courses.{progress_between, Runs}
 use Rattle.page_tables.specs.Standing.{AreKept, TablesStandFor}
@@ -32,4 +34,18 @@ protect-runs first n tables sides st = record {
   runs = λ before rest.
       protected_at-none (changed_cells sides.leaves first n) first n (progress_between sides.leaves sides.made rest before) st.kept
       ∙ ap (progress_between sides.leaves sides.made rest) (sym (append-nil before));
+}
+
+-- so a call that leaves the tables and the allot as they were has made it
+pub protect-made : {State : Type 0} (goes : State → Deal → State → Type 0) (first n : ℕ) (old new : PageTables) (from to : State) → new ≡ old → to ≡ from
+    → MadeEvent goes from to (pages_protected first n) pages_as_they_were old new None
+protect-made goes first n old new from to same still = record {
+  deals = [];
+  led = still;
+  follows = λ sides st. record {
+    leaves = sides.leaves;
+    made = sides.made;
+    runs = protect-runs first n old sides st;
+    stands = subst (λ tables. TablesStandFor tables sides) (sym same) st;
+  };
 }

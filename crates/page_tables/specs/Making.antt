@@ -25,6 +25,10 @@ abbrev pub pages_with : ℕ → Option FrameRefusal → PageMap → PageMap
 pages_with page None pages = with_page pages page
 pages_with page (Some refusal) pages = pages
 
+-- the pages are as they were
+abbrev pub pages_as_they_were : Option FrameRefusal → PageMap → PageMap
+pages_as_they_were refused pages = pages
+
 -- the tables stood for some sides; the event made these deals there, and the tables stand for what it left
 pub record Follows (event : Progress → Progress) (pages : Option FrameRefusal → PageMap → PageMap) (new : PageTables) (deals : List Deal) (refused : Option FrameRefusal) (sides : Sides) : Type 0 where
   pub leaves : Leaves

@@ -11,6 +11,7 @@ mod access;
 mod clear;
 mod fork;
 mod pieces;
+mod protect;
 mod range;
 mod slot;
 mod tables;

@@ -129,9 +129,17 @@ module _ (parts : KernelParts) (machine : Machine) (state : KernelState) (st : K
         (protect-is (Err refusal) e) same told
 
     -- no leaf is joined, so a protect makes no deal and leaves the leaves as they are
-    pub ran-protected : (areas : List Area) → areas_protected parts.areas first n perm ≡ Ok areas → EventRan parts (with_areas areas) machine protect_end Done
+    ran-protected : (areas : List Area) → areas_protected parts.areas first n perm ≡ Ok areas → EventRan parts (with_areas areas) machine protect_end Done
     ran-protected areas e = ran-areas_alone parts machine state st (protect_of memory first n perm) (pages_protected first n) areas (protect-is (Ok areas) e)
         (λ answers. (protect-runs first n parts.tables (sides_of state st.pages) st.tables).runs [] answers)
+
+    -- with tables and a supply that are as they were
+    pub ran-protected_entries : (areas : List Area) → areas_protected parts.areas first n perm ≡ Ok areas → (tables : PageTables) (supply : SupplyState) → tables ≡ parts.tables → supply ≡ parts.supply
+        → EventRan parts (record { areas = areas; tables = tables; supply = supply; snapshot = parts.snapshot; last = parts.last }) machine protect_end Done
+    ran-protected_entries areas e tables supply same still =
+        subst (λ tables. EventRan parts (record { areas = areas; tables = tables; supply = supply; snapshot = parts.snapshot; last = parts.last }) machine protect_end Done) (sym same)
+        (subst (λ supply. EventRan parts (record { areas = areas; tables = parts.tables; supply = supply; snapshot = parts.snapshot; last = parts.last }) machine protect_end Done) (sym still)
+        (ran-protected areas e))
 
   -- ---- unmaps
 

@@ -60,7 +60,7 @@ one_slot : outcomes_by (machine 64 1) (opening_state 0) [] (Map 0 1024 perm.Read
     ≡ Done ∷ Done ∷ CellsFull ∷ CellsFull ∷ Overlap 1 ∷ Held 5 59 ∷ []
 one_slot = refl
 
--- a refuse line counts the requests that follow: the second one from here on is the fourth of the run, and it makes the third event's touch fail
+-- a refuse line counts the requests that follow: the second one from here on is the seventh of the run, and it makes the last write's touch fail
 a_named_request : on 64 (7 ∷ []) (Map 0x100 1 perm.ReadWrite ∷ Write 0x100000 (97 ∷ []) ∷ Refuse 2 ∷ Write 0x100000 (97 ∷ []) ∷ Map 0x200 1 perm.ReadWrite ∷ Write 0x200000 (97 ∷ []) ∷ Frames ∷ [])
     ≡ Done ∷ Done ∷ Done ∷ Done ∷ Done ∷ NoFrame 1 ∷ Held 5 59 ∷ []
 a_named_request = refl

@@ -1,7 +1,7 @@
 //! The kernel: the parent's areas, the page tables, and where frames come from.
 ghost use Rattle.std.specs.Prelude.{◌≡◌, ◌≤◌, ◌<◌, IfOk, length, map, [], vec_capacity};
 ghost use Rattle.frame_pool.specs.Policies.{standing};
-ghost use Rattle.trace_core.specs.SupplyState.{state_of, policy_sum};
+ghost use Rattle.trace_core.specs.SupplyState.{state_of, opening_supply, policy_sum};
 ghost use Rattle.trace_core.specs.KernelState.{opening_state};
 ghost use Rattle.trace_core.specs.KernelRun.{HasRun};
 ghost use Rattle.trace_core.specs.KernelStanding.{KernelParts, KernelStands};
@@ -74,7 +74,11 @@ impl Kernel {
         ensures stands { IfOk result (λ kernel. KernelStands (⟦<Kernel as Standing>⟧.parts kernel)
             (record { frames = frames; slots = cells; limit = 1 }) (opening_state last)) }
 
-        // A run begins, under the policies that are not done.
+        // All frames are there, under the policies that are not done.
+        ensures supply { IfOk result (λ kernel. (⟦<Kernel as Standing>⟧.parts kernel).supply
+            ≡ opening_supply frames (policy_sum (standing (map (λ policy. told policy) policies.items)))) }
+
+        // A run begins, under these policies.
         ensures begins { IfOk result (λ kernel. HasRun (⟦<Kernel as Standing>⟧.parts kernel)
             (record { frames = frames; slots = cells; limit = 1 }) last
             (policy_sum (standing (map (λ policy. told policy) policies.items))) [] []) }

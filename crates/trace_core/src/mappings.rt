@@ -33,18 +33,22 @@ impl Kernel {
         }
     }
 
-    /// Gives pages of the areas another permission, or says why not. They keep their bytes and
-    /// their frames, and no frame is asked for: no leaf table is shared that would have to be
-    /// copied before.
+    /// Gives pages of the areas another permission, or says why not, and the entries of those that
+    /// are present tell it. They keep their bytes and their frames, and no frame is asked for: no
+    /// leaf table is shared that would have to be copied before.
     pub fn protect(&mut self, first: u64, pages: u64, perm: Perm) -> Outcome
         requires some { 0 < pages }
         requires within { first + pages ≤ 2 ^ 36 }
+        requires stands { (machine : Machine) × ((state : KernelState) × KernelStands (⟦<Kernel as Standing>⟧.parts self.old) machine state) }
         ensures ran { (machine : Machine) (state : KernelState) → KernelStands (⟦<Kernel as Standing>⟧.parts self.old) machine state
             → EventRan (⟦<Kernel as Standing>⟧.parts self.old) (⟦<Kernel as Standing>⟧.parts self.new) machine
             (λ answers. areas_changed state (protect_of state.world.parent first pages perm) (pages_protected first pages (begun state answers))) result }
     {
         match self.areas.protect(first, pages, perm) {
-            Ok(()) => Outcome::Done,
+            Ok(()) => {
+                self.tables.protect(first, pages, perm, &mut self.supply);
+                Outcome::Done
+            }
             Err(fault) => outcome_of(fault),
         }
     }

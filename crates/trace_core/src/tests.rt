@@ -1,6 +1,6 @@
 //! A supply at concrete values.
 use crate::Supply;
-use frame_pool::{DenyNth, FramePolicy};
+use frame_pool::{DenyNth, FramePolicy, SnapQuota};
 use std::test::Fail;
 use vm_base::{Allot, Asker, Frame, Refused, Want};
 
@@ -28,6 +28,21 @@ fn a_named_request_reaches_no_policy(rt: HostRuntime) -> Result<(), Fail> {
     assert_eq!(rt; supply.held(), 3);
     assert_eq!(rt; supply.free(), 0);
     assert_eq!(rt; supply.refused(), 3);
+    Ok(())
+}
+
+#[test]
+fn a_policy_is_told_who_asks(rt: HostRuntime) -> Result<(), Fail> {
+    let mut policies: Vec<Box<dyn FramePolicy + Send>> = Vec::new(rt.alloc());
+    policies.push(Box::new(rt.alloc(), SnapQuota::new(1))?)?;
+    let mut supply = Supply::new(rt.alloc(), 8, policies)?;
+    assert_eq!(rt; refusal(supply.take(Want::Page)), None);
+    assert_eq!(rt; refusal(supply.take(Want::Page)), None);
+    supply.ask_as(Asker::Snapshot(1), 0);
+    for answer in [None, Some(1), Some(2)] {
+        assert_eq!(rt; refusal(supply.take(Want::Leaf)), answer);
+    }
+    assert_eq!(rt; supply.held(), 3);
     Ok(())
 }
 

@@ -1,4 +1,4 @@
-use Rattle.std.proofs.Common.{◌≡◌, ◌+◌, sym, ◌∙◌, arith}
+use Rattle.std.proofs.Common.{◌≡◌, sym, ◌∙◌, arith}
 use Rattle.kernel_meaning.specs.Leaves.{share}
 use Rattle.leaf_cell.specs.CellView.{held_of}
 use Rattle.leaf_cell.proofs.HeldShare.{share-stands}

@@ -1,4 +1,4 @@
-use Rattle.std.proofs.Common.{◌≡◌, ◌+◌, refl, sym, ◌∙◌, ap, arith}
+use Rattle.std.proofs.Common.{◌≡◌, refl, sym, ◌∙◌, ap, arith}
 use Rattle.kernel_meaning.specs.Leaves.{share}
 use Rattle.leaf_cell.specs.CellView.{held_of}
 use Rattle.table_levels.specs.Cells.{tables_of}

@@ -1,12 +1,14 @@
 use Rattle.area_list.specs.Answers.{refusal_of}
-use Rattle.trace_core.proofs.AreaChanges.{ran-protect_refused, ran-protected}
+use Rattle.trace_core.proofs.AreaChanges.{ran-protect_refused, ran-protected_entries}
 use Rattle.trace_core.proofs.kernel.Kernel.protect.Goals as goal
 
--- src/mappings.rt:41:5
 pub returns-in-Ok : goal.returns-in-Ok
-returns-in-Ok g c = record { ran = λ machine state st. ran-protected _ machine state st c.args.first c.args.pages c.args.perm c.protect.new.self c.in-Ok.ensures.answer }
+returns-in-Ok g c = record {
+  ran = λ machine state st.
+      ran-protected_entries _ machine state st c.args.first c.args.pages c.args.perm c.protect.new.self c.in-Ok.ensures.answer
+      c.protect-in-Ok.new.self _ c.protect-in-Ok.ensures.tables c.protect-in-Ok.ensures.unasked;
+}
 
--- src/mappings.rt:41:5
 pub returns-in-Err : goal.returns-in-Err
 returns-in-Err g c = record {
   ran = λ machine state st.
