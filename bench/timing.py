@@ -10,6 +10,9 @@ from typing import NamedTuple
 TOP = os.path.dirname(os.path.dirname(os.path.realpath(__file__)))
 PROGRAM = f"{TOP}/crates/server_main/out/server_main"
 
+# As the launcher has it.
+ENVIRONMENT = {**os.environ, "GLIBC_TUNABLES": "glibc.malloc.hugetlb=1"}
+
 
 class Run(NamedTuple):
     """What one run took: seconds of the processor, user and system, and bytes at the peak."""
@@ -39,7 +42,7 @@ def run_on(words, file, status=0):
         (os.POSIX_SPAWN_OPEN, 1, os.devnull, os.O_WRONLY, 0),
         (os.POSIX_SPAWN_OPEN, 2, os.devnull, os.O_WRONLY, 0),
     ]
-    child = os.posix_spawnp(words[0], words, os.environ, file_actions=streams)
+    child = os.posix_spawnp(words[0], words, ENVIRONMENT, file_actions=streams)
     _, ended, used = os.wait4(child, 0)
     ended = os.waitstatus_to_exitcode(ended)
     if ended != status:
