@@ -3,6 +3,7 @@ the time and the memory that it took."""
 import datetime
 import os
 import platform
+import subprocess
 import sys
 import tempfile
 from typing import NamedTuple
@@ -48,6 +49,29 @@ def run_on(words, file, status=0):
     if ended != status:
         sys.exit(f"{sys.argv[0]}: {words[0]} ended with {ended}, not {status}")
     return Run(used.ru_utime + used.ru_stime, used.ru_maxrss * 1024)
+
+
+# The system counts what the caller held at the start to a program's peak, so a small one starts it.
+SMALL_CALLER = """
+import os, sys
+status, file, *words = sys.argv[1:]
+opened = [(os.POSIX_SPAWN_OPEN, 0, file, os.O_RDONLY, 0)]
+opened += [(os.POSIX_SPAWN_OPEN, it, os.devnull, os.O_WRONLY, 0) for it in (1, 2)]
+_, ended, used = os.wait4(os.posix_spawnp(words[0], words, os.environ, file_actions=opened), 0)
+print(used.ru_maxrss if os.waitstatus_to_exitcode(ended) == int(status) else "")
+"""
+
+
+def peak_of(words, text, status=0):
+    """The bytes at the peak of one run on a text."""
+    with tempfile.NamedTemporaryFile() as file:
+        file.write(text)
+        file.flush()
+        caller = [sys.executable, "-I", "-S", "-c", SMALL_CALLER, str(status), file.name, *words]
+        told = subprocess.run(caller, env=ENVIRONMENT, stdout=subprocess.PIPE, check=True).stdout
+    if not told.strip():
+        sys.exit(f"{sys.argv[0]}: {words[0]} ended with another status than {status}")
+    return int(told) * 1024
 
 
 def least_of(runs, words, text, status=0):
