@@ -8,8 +8,6 @@ use Rattle.vm_base.specs.Counts.{next_count}
 use Rattle.vm_base.specs.Deals.{Deal, Granted, Denied, Returned}
 use Rattle.kernel_meaning.specs.Requests.{Answer, Yes, No}
 use Rattle.kernel_meaning.specs.Leaves.{holds_number}
-use Rattle.kernel_meaning.specs.FrameLaw.{held_frames}
-use Rattle.kernel_meaning.specs.EventRequests.{Progress}
 
 -- a number is in the list
 abbrev pub is_in : List ℕ → ℕ → Bool
@@ -74,11 +72,6 @@ requests_of asker named made out (Denied want at ∷ deals) =
     record { number = made + 1; asker = asker; want = want; out = out; is_named = holds_number named (made + 1); is_refused = true }
     ∷ requests_of asker named (made + 1) out deals
 requests_of asker named made out (Returned ∷ deals) = requests_of asker named made (out - 1) deals
-
--- the requests that an event of one asker made, from its opening to its end
-abbrev pub requests_made : Asker → Option ℕ → Progress → Progress → List Request
-requests_made asker named opening end =
-    requests_of asker named opening.requests.made (held_frames opening.leaves) end.requests.deals
 
 -- the frames out behind deals
 abbrev pub out_after : ℕ → List Deal → ℕ

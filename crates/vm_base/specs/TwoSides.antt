@@ -1,5 +1,5 @@
 -- The world of a parent and its snapshots. A fork copies the parent's whole memory at once, as POSIX fork does; what comes later on one side does not reach the other.
-use Rattle.std.specs.Prelude.{ℕ, ◌+◌, ◌==◌, not, ◌&&◌, List, [], ◌∷◌, ◌++◌, Option, Some, None, if◌then◌else◌, Result, Ok, Err, filter, unwrap_or}
+use Rattle.std.specs.Prelude.{ℕ, ◌==◌, not, ◌&&◌, List, [], ◌∷◌, Option, Some, None, if◌then◌else◌, Result, Ok, Err, filter}
 use Rattle.std.specs.Ordering.{nat_cmp}
 use Rattle.std.specs.Option.{option_or}
 use Rattle.std.specs.FinMap.{FinMap, get, insert, remove, empty}
@@ -50,18 +50,6 @@ forked world n = record world {
   last = n;
   refused_copies = insert world.refused_copies n 0;
 }
-
--- a request of the parent was refused
-abbrev pub with_refused : World → World
-with_refused world = record world { refused = world.refused + 1 }
-
--- a copy of snapshot n was refused
-abbrev pub with_refused_copy : World → ℕ → World
-with_refused_copy world n = record world { refused_copies = insert world.refused_copies n (unwrap_or (get world.refused_copies n) 0 + 1) }
-
--- snapshot n has lost a cell
-abbrev pub with_loss : World → ℕ → ℕ → ℕ → World
-with_loss world n cell at = record world { losses = world.losses ++ record { snapshot = n; cell = cell; at = at } ∷ [] }
 
 -- snapshot n is gone, and what it lost with it
 abbrev pub dropped : World → ℕ → World
