@@ -1,8 +1,10 @@
 -- How a request changes the denials that may still come, and that a pool whose policies spare the parent refuses it no frame that is there.
 use Rattle.std.proofs.Common.{ℕ, Bool, true, false, not, List, [], ◌∷◌, ◌++◌, Option, Some, None, cond, if◌then◌else◌, sym, ◌∙◌, ap, subst, arith}
 use Rattle.vm_base.specs.declared.frame_request.Asker.{Asker}
+use Rattle.vm_base.specs.declared.frame_request.Want.{Want}
+use Rattle.frame_pool.specs.declared.ask.Ask.{Ask}
 use Rattle.frame_pool.specs.Policies.{PolicyView, Denies, NotRaised, Lowered, AllGrant, kept, standing, told_sum, left_of_all, StaysWithin, FallsBelow}
-use Rattle.frame_pool.specs.Frames.{PoolView, TakesOut, IsDenied}
+use Rattle.frame_pool.specs.Frames.{PoolView, ask_of, TakesOut, IsDenied}
 use Rattle.frame_pool.proofs.AskLemmas.{kept-append}
 use Rattle.vm_base.specs.Frames.{FrameView}
 
@@ -86,27 +88,27 @@ standing_within [] = within_refl (Some 0)
 standing_within (policy ∷ behind) = standing_first policy behind (not policy.done) (standing_within behind)
 
 -- all granted
-all_grant_within : (old new : List PolicyView) → AllGrant old new → StaysWithin (left_of_all old) (left_of_all new)
-all_grant_within [] new all = subst (λ new. StaysWithin (Some 0) (left_of_all new)) (sym all) (within_refl (Some 0))
-all_grant_within (policy ∷ behind) new all =
+all_grant_within : (ask : Ask) (old new : List PolicyView) → AllGrant ask old new → StaysWithin (left_of_all old) (left_of_all new)
+all_grant_within ask [] new all = subst (λ new. StaysWithin (Some 0) (left_of_all new)) (sym all) (within_refl (Some 0))
+all_grant_within ask (policy ∷ behind) new all =
     let after = all.0 in
     let rest = all.1.0 in
     subst (λ new. StaysWithin (told_sum policy.left (left_of_all behind)) (left_of_all new)) (sym all.1.1.2)
     (within_trans (told_sum policy.left (left_of_all behind)) (told_sum after.left (left_of_all rest)) (left_of_all (kept after rest))
     (sum_within policy.left after.left (left_of_all behind) (left_of_all rest)
-    (not_raised policy.left after.left all.1.1.0.left) (all_grant_within behind rest all.1.1.1))
+    (not_raised policy.left after.left all.1.1.0.left) (all_grant_within ask behind rest all.1.1.1))
     (kept_within after rest))
 
 -- one denied, behind others that granted
-denied_below : (asker : Asker) (policy after : PolicyView) (behind : List PolicyView) → Denies asker policy after
-    → (before granted : List PolicyView) → AllGrant before granted
+denied_below : (ask : Ask) (policy after : PolicyView) (behind : List PolicyView) → Denies ask policy after
+    → (before granted : List PolicyView) → AllGrant ask before granted
     → FallsBelow (left_of_all (before ++ policy ∷ behind)) (left_of_all (granted ++ kept after behind))
-denied_below asker policy after behind denied [] granted all =
+denied_below ask policy after behind denied [] granted all =
     subst (λ granted. FallsBelow (told_sum policy.left (left_of_all behind)) (left_of_all (granted ++ kept after behind))) (sym all)
     (below_within (told_sum policy.left (left_of_all behind)) (told_sum after.left (left_of_all behind)) (left_of_all (kept after behind))
     (sum_below_first policy.left after.left (left_of_all behind) (lowered policy.left after.left denied.left))
     (kept_within after behind))
-denied_below asker policy after behind denied (first ∷ before) granted all =
+denied_below ask policy after behind denied (first ∷ before) granted all =
     let after_first = all.0 in
     let rest = all.1.0 in
     let old = left_of_all (before ++ policy ∷ behind) in
@@ -115,21 +117,21 @@ denied_below asker policy after behind denied (first ∷ before) granted all =
     (sym (ap (λ front. front ++ kept after behind) all.1.1.2 ∙ kept-append after_first rest (kept after behind)))
     (below_within (told_sum first.left old) (told_sum after_first.left new) (left_of_all (kept after_first (rest ++ kept after behind)))
     (sum_below first.left after_first.left old new (not_raised first.left after_first.left all.1.1.0.left)
-    (denied_below asker policy after behind denied before rest all.1.1.1))
+    (denied_below ask policy after behind denied before rest all.1.1.1))
     (kept_within after_first (rest ++ kept after behind)))
 
 -- a granted request raises no number of denials that may still come
-pub left-taken : (frame : FrameView) (old new : PoolView) → TakesOut frame old new → StaysWithin (left_of_all old.policies) (left_of_all new.policies)
-left-taken frame old new taken =
+pub left-taken : (asker : Asker) (want : Want) (frame : FrameView) (old new : PoolView) → TakesOut asker want frame old new → StaysWithin (left_of_all old.policies) (left_of_all new.policies)
+left-taken asker want frame old new taken =
     within_trans (left_of_all old.policies) (left_of_all (standing old.policies)) (left_of_all new.policies)
-    (standing_within old.policies) (all_grant_within (standing old.policies) new.policies taken.policies)
+    (standing_within old.policies) (all_grant_within (ask_of asker want old) (standing old.policies) new.policies taken.policies)
 
 -- a denied one lowers it
-pub left-denied : (asker : Asker) (place : ℕ) (old new : PoolView) → IsDenied asker place old new → FallsBelow (left_of_all old.policies) (left_of_all new.policies)
-left-denied asker place old new denied =
+pub left-denied : (asker : Asker) (want : Want) (place : ℕ) (old new : PoolView) → IsDenied asker want place old new → FallsBelow (left_of_all old.policies) (left_of_all new.policies)
+left-denied asker want place old new denied =
     let at = denied.policies in
     within_below (left_of_all old.policies) (left_of_all (standing old.policies)) (left_of_all new.policies)
     (standing_within old.policies)
     (subst (λ list. FallsBelow (left_of_all list) (left_of_all new.policies)) (sym at.was)
     (subst (λ list. FallsBelow (left_of_all (at.before ++ at.policy ∷ at.behind)) (left_of_all list)) (sym at.is)
-    (denied_below asker at.policy at.after at.behind at.denied at.before at.granted at.asked)))
+    (denied_below (ask_of asker want old) at.policy at.after at.behind at.denied at.before at.granted at.asked)))

@@ -5,6 +5,8 @@ use Rattle.std.specs.List.Sorted.{IsPermutation}
 use Rattle.std.proofs.lemmas.List.{append-nil, append_assoc, length-append}
 use Rattle.std.proofs.lemmas.List.FromFn.{length-range_with_len}
 use Rattle.std.proofs.lemmas.List.Sorted.{IsPermutation-refl, length_permutation}
+use Rattle.vm_base.specs.declared.frame_request.Asker.{Asker}
+use Rattle.vm_base.specs.declared.frame_request.Want.{Want}
 use Rattle.vm_base.specs.Frames.{FrameView}
 use Rattle.frame_pool.specs.Policies.{PolicyView}
 use Rattle.frame_pool.specs.Frames.{PoolView, TakesOut, AreAtOnePlace}
@@ -16,9 +18,9 @@ at_one_place-opening made asks policies =
     subst (λ all. IsPermutation all (range_with_len 0 made)) (sym (append-nil (range_with_len 0 made))) (IsPermutation-refl (range_with_len 0 made))
 
 -- one that is taken is out
-pub at_one_place-taken : (frame : FrameView) (old new : PoolView) (out : List ℕ)
-    → TakesOut frame old new → AreAtOnePlace old out → AreAtOnePlace new (frame.number ∷ out)
-at_one_place-taken frame old new out taken apart =
+pub at_one_place-taken : (asker : Asker) (want : Want) (frame : FrameView) (old new : PoolView) (out : List ℕ)
+    → TakesOut asker want frame old new → AreAtOnePlace old out → AreAtOnePlace new (frame.number ∷ out)
+at_one_place-taken asker want frame old new out taken apart =
     let moved = ap (λ free. free ++ out) taken.free ∙ append_assoc new.free (frame.number ∷ []) out in
     subst (λ made. IsPermutation (new.free ++ frame.number ∷ out) (range_with_len 0 made)) (sym taken.made)
     (subst (λ all. IsPermutation all (range_with_len 0 old.made)) moved apart)

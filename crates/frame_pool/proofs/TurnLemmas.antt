@@ -2,17 +2,17 @@
 use Rattle.std.proofs.Common.{◌≡◌, ℕ, ◌+◌, ◌<◌, Bool, true, false, IsTrue, List, [], ◌∷◌, ◌++◌, length, take, drop, slice_index_or, slice_set, refl, sym, ◌∙◌, ap, arith}
 use Rattle.std.proofs.lemmas.Bool.{cond-true, cond-false}
 use Rattle.std.proofs.lemmas.List.{take-set, drop-set-lt}
-use Rattle.vm_base.specs.declared.frame_request.Asker.{Asker}
+use Rattle.frame_pool.specs.declared.ask.Ask.{Ask}
 use Rattle.frame_pool.specs.Policies.{PolicyView, Grants, Denies}
 use Rattle.frame_pool.specs.Turns.{TakesTurn}
 use Rattle.frame_pool.proofs.ListLemmas.{around_item, set_around, length-front}
 
 -- a policy that is not done stays
-pub turn-stays : {P : Type 0} (told : P → PolicyView) (asker : Asker) (at : ℕ) (answer : Bool) (old : List P) (policy after : P)
+pub turn-stays : {P : Type 0} (told : P → PolicyView) (ask : Ask) (at : ℕ) (answer : Bool) (old : List P) (policy after : P)
     → at < length old → policy ≡ slice_index_or old at policy → (told after).done ≡ false
-    → (IsTrue answer → Grants (told policy) (told after)) → (answer ≡ false → Denies asker (told policy) (told after))
-    → TakesTurn told asker at answer (at + 1) old (slice_set old at after)
-turn-stays told asker at answer old policy after inside here undone granted denied = record {
+    → (IsTrue answer → Grants ask (told policy) (told after)) → (answer ≡ false → Denies ask (told policy) (told after))
+    → TakesTurn told ask at answer (at + 1) old (slice_set old at after)
+turn-stays told ask at answer old policy after inside here undone granted denied = record {
   before = take at old;
   policy = policy;
   behind = drop (at + 1) old;
@@ -28,12 +28,12 @@ turn-stays told asker at answer old policy after inside here undone granted deni
 }
 
 -- a policy that is done leaves the list
-pub turn-leaves : {P : Type 0} (told : P → PolicyView) (asker : Asker) (at : ℕ) (answer : Bool) (old new : List P) (policy after : P)
+pub turn-leaves : {P : Type 0} (told : P → PolicyView) (ask : Ask) (at : ℕ) (answer : Bool) (old new : List P) (policy after : P)
     → at < length old → policy ≡ slice_index_or old at policy → (told after).done ≡ true
-    → (IsTrue answer → Grants (told policy) (told after)) → (answer ≡ false → Denies asker (told policy) (told after))
+    → (IsTrue answer → Grants ask (told policy) (told after)) → (answer ≡ false → Denies ask (told policy) (told after))
     → new ≡ take at (slice_set old at after) ++ drop (at + 1) (slice_set old at after)
-    → TakesTurn told asker at answer at old new
-turn-leaves told asker at answer old new policy after inside here done granted denied is = record {
+    → TakesTurn told ask at answer at old new
+turn-leaves told ask at answer old new policy after inside here done granted denied is = record {
   before = take at old;
   policy = policy;
   behind = drop (at + 1) old;

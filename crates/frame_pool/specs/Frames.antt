@@ -5,6 +5,8 @@ use Rattle.std.specs.List.Sorted.{IsPermutation}
 use Rattle.vm_base.specs.Counts.{next_count}
 use Rattle.vm_base.specs.Frames.{FrameView}
 use Rattle.vm_base.specs.declared.frame_request.Asker.{Asker}
+use Rattle.vm_base.specs.declared.frame_request.Want.{Want}
+use Rattle.frame_pool.specs.declared.ask.Ask.{Ask}
 use Rattle.frame_pool.specs.Policies.{PolicyView, AllGrant, DeniesAt, NoneIsDone, standing}
 
 -- how many frames were made, and the numbers of those that are there, the next one last
@@ -24,21 +26,26 @@ pub record KeepsFrames (old new : PoolView) : Type 0 where
   pub made : new.made ≡ old.made
   pub free : new.free ≡ old.free
 
--- a frame left the pool, and each policy granted it
-pub record TakesOut (frame : FrameView) (old new : PoolView) : Type 0 where
+-- what the policies of a pool are asked, where a frame is requested of it
+abbrev pub ask_of : Asker → Want → PoolView → Ask
+ask_of asker want pool =
+    record { asker = asker; want = want; free = length pool.free; place = next_count pool.asks }
+
+-- a frame left the pool, and each policy that was not done was asked for it and granted
+pub record TakesOut (asker : Asker) (want : Want) (frame : FrameView) (old new : PoolView) : Type 0 where
   pub made : new.made ≡ old.made
   pub free : old.free ≡ new.free ++ frame.number ∷ []
   pub asks : new.asks ≡ next_count old.asks
-  pub policies : AllGrant (standing old.policies) new.policies
+  pub policies : AllGrant (ask_of asker want old) (standing old.policies) new.policies
   pub undone : NoneIsDone new.policies
 
--- a frame was there, and the policy at this place denied it
-pub record IsDenied (asker : Asker) (place : ℕ) (old new : PoolView) : Type 0 where
+-- a frame was there, and the policy at this place was asked for it and denied
+pub record IsDenied (asker : Asker) (want : Want) (place : ℕ) (old new : PoolView) : Type 0 where
   pub some_free : 0 < length old.free
   pub made : new.made ≡ old.made
   pub free : new.free ≡ old.free
   pub asks : new.asks ≡ next_count old.asks
-  pub policies : DeniesAt asker place (standing old.policies) new.policies
+  pub policies : DeniesAt (ask_of asker want old) place (standing old.policies) new.policies
   pub undone : NoneIsDone new.policies
 
 -- each frame that was made is in the pool or among those that are out, and at one place alone

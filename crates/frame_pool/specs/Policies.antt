@@ -1,16 +1,17 @@
 -- What may be known of a policy, and how an ask changes it.
 use Rattle.std.specs.Prelude.{◌≡◌, ◌≢◌, ℕ, ◌+◌, ◌<◌, ◌≤◌, Bool, true, false, if◌then◌else◌, List, [], ◌∷◌, ◌++◌, length, filter, not, All, Option, Some, None}
 use Rattle.vm_base.specs.Counts.{next_count}
-use Rattle.vm_base.specs.declared.frame_request.Asker.{Asker}
 use Rattle.vm_base.specs.declared.frame_request.Asker.TheVariants.{Parent}
+use Rattle.frame_pool.specs.declared.ask.Ask.{Ask}
 
--- how many asks have reached a policy, how often it has denied, how many denials it may still make, whether it spares the parent, and whether it is done
+-- how many asks have reached a policy, how often it has denied, how many denials it may still make, whether it spares the parent, whether it is done, and its answer to an ask that would come now
 pub record PolicyView : Type 0 where
   pub reached : ℕ
   pub denials : ℕ
   pub left : Option ℕ
   pub spares : Bool
   pub done : Bool
+  pub answers : Ask → Bool
 
 -- the denials that may still come have not become more, where their number is told
 abbrev pub NotRaised : Option ℕ → Option ℕ → Type 0
@@ -24,20 +25,22 @@ Lowered None new = new ≡ None
 Lowered (Some old) None = ⊥
 Lowered (Some old) (Some new) = new < old
 
--- a policy was asked and granted
-pub record Grants (old new : PolicyView) : Type 0 where
+-- a policy was asked and granted, as it told before
+pub record Grants (ask : Ask) (old new : PolicyView) : Type 0 where
+  pub answered : old.answers ask ≡ true
   pub reached : new.reached ≡ next_count old.reached
   pub denials : new.denials ≡ old.denials
   pub left : NotRaised old.left new.left
   pub spares : new.spares ≡ old.spares
 
--- a policy was asked and denied; one that spares the parent does not deny a request of it
-pub record Denies (asker : Asker) (old new : PolicyView) : Type 0 where
+-- a policy was asked and denied, as it told before; one that spares the parent does not deny a request of it
+pub record Denies (ask : Ask) (old new : PolicyView) : Type 0 where
+  pub answered : old.answers ask ≡ false
   pub reached : new.reached ≡ next_count old.reached
   pub denials : next_count old.denials ≤ new.denials
   pub left : Lowered old.left new.left
   pub spares : new.spares ≡ old.spares
-  pub spared : old.spares ≡ true → asker ≢ Parent
+  pub spared : old.spares ≡ true → ask.asker ≢ Parent
 
 -- the policies of a list that are not done
 abbrev pub standing : List PolicyView → List PolicyView
@@ -51,23 +54,23 @@ NoneIsDone policies = All (λ policy. policy.done ≡ false) policies
 abbrev pub kept : PolicyView → List PolicyView → List PolicyView
 kept policy behind = if policy.done then behind else policy ∷ behind
 
--- each policy of a list was asked in turn and granted: what those that are not done are then
-abbrev pub AllGrant : List PolicyView → List PolicyView → Type 0
-AllGrant [] new = new ≡ []
-AllGrant (policy ∷ behind) new =
-    (after : PolicyView) × ((rest : List PolicyView) × ((Grants policy after) × (AllGrant behind rest) × (new ≡ kept after rest)))
+-- each policy of a list was asked this in turn and granted: what those that are not done are then
+abbrev pub AllGrant : Ask → List PolicyView → List PolicyView → Type 0
+AllGrant ask [] new = new ≡ []
+AllGrant ask (policy ∷ behind) new =
+    (after : PolicyView) × ((rest : List PolicyView) × ((Grants ask policy after) × (AllGrant ask behind rest) × (new ≡ kept after rest)))
 
--- the policy at a place of a list denied: those before it were asked and granted, and those behind it were not asked
-pub record DeniesAt (asker : Asker) (place : ℕ) (old new : List PolicyView) : Type 0 where
+-- the policy at a place of a list denied an ask: those before it were asked the same and granted, and those behind it were not asked
+pub record DeniesAt (ask : Ask) (place : ℕ) (old new : List PolicyView) : Type 0 where
   pub before : List PolicyView
   pub policy : PolicyView
   pub behind : List PolicyView
   pub was : old ≡ before ++ policy ∷ behind
   pub here : length before ≡ place
   pub granted : List PolicyView
-  pub asked : AllGrant before granted
+  pub asked : AllGrant ask before granted
   pub after : PolicyView
-  pub denied : Denies asker policy after
+  pub denied : Denies ask policy after
   pub is : new ≡ granted ++ kept after behind
 
 -- the sum of two numbers, where both are told

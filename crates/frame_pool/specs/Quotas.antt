@@ -11,14 +11,21 @@ pub record Quota : Type 0 where
   pub reached : ℕ
   pub denied : ℕ
 
--- it spares the parent, tells no end of its denials, and is never done
-abbrev pub quota_told : Quota → PolicyView
-quota_told quota = record { reached = quota.reached; denials = quota.denied; left = None; spares = true; done = false }
-
 -- whether it grants the next ask
 abbrev pub quota_grants : Asker → Quota → Bool
 quota_grants Parent quota = true
 quota_grants (Snapshot number) quota = nat_lt 0 quota.room
+
+-- it spares the parent, tells no end of its denials, and is never done
+abbrev pub quota_told : Quota → PolicyView
+quota_told quota = record {
+  reached = quota.reached;
+  denials = quota.denied;
+  left = None;
+  spares = true;
+  done = false;
+  answers = λ ask. quota_grants ask.asker quota;
+}
 
 -- what it is after the next ask
 abbrev pub after_quota : Asker → Quota → Quota

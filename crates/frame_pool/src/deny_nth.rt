@@ -40,8 +40,8 @@ impl FramePolicy for DenyNth {
 
     fn grant(&mut self, ask: Ask) -> bool
         requires { (told_of self.old).done ≡ false }
-        ensures granted { IsTrue result → Grants (told_of self.old) (told_of self.new) }
-        ensures denied { result ≡ false → Denies ask.asker (told_of self.old) (told_of self.new) }
+        ensures granted { IsTrue result → Grants ask (told_of self.old) (told_of self.new) }
+        ensures denied { result ≡ false → Denies ask (told_of self.old) (told_of self.new) }
 
         // The ask that is denied is the one that it was made for.
         ensures reached { self.new ≡ record self.old { reached = next_count self.old.reached } }

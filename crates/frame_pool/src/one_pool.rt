@@ -72,13 +72,13 @@ impl<P: FramePolicy> PoolOf<P> {
 
     /// Takes a frame of zeros, where one is there and each policy grants it.
     pub fn take(&mut self, asker: Asker, want: Want) -> Result<Frame, Why>
-        ensures taken { IfOk result (λ frame. TakesOut frame (⟦<PoolOf<P> as Seen>⟧.seen self.old) (⟦<PoolOf<P> as Seen>⟧.seen self.new)) }
+        ensures taken { IfOk result (λ frame. TakesOut asker want frame (⟦<PoolOf<P> as Seen>⟧.seen self.old) (⟦<PoolOf<P> as Seen>⟧.seen self.new)) }
         ensures zeros { IfOk result (λ frame. frame.bytes ≡ zero_page) }
         // No frame moved, whatever the reason.
         ensures kept { OnErr result (KeepsFrames (⟦<PoolOf<P> as Seen>⟧.seen self.old) (⟦<PoolOf<P> as Seen>⟧.seen self.new)) }
         ensures empty { IsErrOf result Why.Empty ↔ ((⟦<PoolOf<P> as Seen>⟧.seen self.old).free ≡ []) }
         ensures unasked { IsErrOf result Why.Empty → ⟦<PoolOf<P> as Seen>⟧.seen self.new ≡ ⟦<PoolOf<P> as Seen>⟧.seen self.old }
-        ensures denied { (place : ℕ) → IsErrOf result (Why.Denied place) → IsDenied asker place (⟦<PoolOf<P> as Seen>⟧.seen self.old) (⟦<PoolOf<P> as Seen>⟧.seen self.new) }
+        ensures denied { (place : ℕ) → IsErrOf result (Why.Denied place) → IsDenied asker want place (⟦<PoolOf<P> as Seen>⟧.seen self.old) (⟦<PoolOf<P> as Seen>⟧.seen self.new) }
     {
         let free = self.stack.len();
         if free == 0 {

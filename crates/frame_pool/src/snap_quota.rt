@@ -46,8 +46,8 @@ impl FramePolicy for SnapQuota {
 
     fn grant(&mut self, ask: Ask) -> bool
         requires { (quota_told self.old).done ≡ false }
-        ensures granted { IsTrue result → Grants (quota_told self.old) (quota_told self.new) }
-        ensures denied { result ≡ false → Denies ask.asker (quota_told self.old) (quota_told self.new) }
+        ensures granted { IsTrue result → Grants ask (quota_told self.old) (quota_told self.new) }
+        ensures denied { result ≡ false → Denies ask (quota_told self.old) (quota_told self.new) }
 
         // The first asks of snapshots are granted, and no more of them.
         ensures first { result ≡ quota_grants ask.asker self.old }

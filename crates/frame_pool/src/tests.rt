@@ -1,5 +1,5 @@
 //! The pool and its policies at concrete values.
-ghost use Rattle.std.specs.Prelude.{false, None};
+ghost use Rattle.std.specs.Prelude.{◌&&◌, nat_lt, false, None, slice_index_or};
 
 use crate::{Ask, DenyNth, FramePolicy, Pool, SnapQuota, Why};
 use std::test::Fail;
@@ -78,7 +78,14 @@ struct Expects {
 }
 
 impl FramePolicy for Expects {
-    ghost told = { λ p. record { reached = p.at; denials = p.denied; left = None; spares = false; done = false } };
+    ghost told = { λ p. record {
+      reached = p.at;
+      denials = p.denied;
+      left = None;
+      spares = false;
+      done = false;
+      answers = λ ask. nat_lt p.at 2 && ⟦<Ask as PartialEq>⟧.eq (slice_index_or p.asks p.at ask) ask;
+    } };
 
     fn grant(&mut self, ask: Ask) -> bool {
         let is_expected = self.at < 2 && self.asks[self.at as usize] == ask;

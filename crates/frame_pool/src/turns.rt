@@ -17,7 +17,7 @@ pub(crate) struct Turn {
 pub(crate) fn ask_one<P: FramePolicy>(policies: &mut Vec<P>, at: usize, ask: Ask) -> Turn
     requires inside { at < length policies.old.items }
     requires undone { All (λ policy. (P.told policy).done ≡ false) policies.old.items }
-    ensures turn { TakesTurn P.told ask.asker at result.granted result.next policies.old.items policies.new.items }
+    ensures turn { TakesTurn P.told ask at result.granted result.next policies.old.items policies.new.items }
     ensures undone { All (λ policy. (P.told policy).done ≡ false) policies.new.items }
     ensures fewer { length policies.new.items ≤ length policies.old.items }
 {
@@ -40,9 +40,9 @@ pub(crate) fn ask_in_turn<P: FramePolicy>(policies: &mut Vec<P>, ask: Ask) -> Re
     requires few { length policies.old.items < 2 ^ 32 }
     requires undone { All (λ policy. (P.told policy).done ≡ false) policies.old.items }
     ensures granted { OnOk result
-        (AllGrant (map P.told policies.old.items) (map P.told policies.new.items)) }
+        (AllGrant ask (map P.told policies.old.items) (map P.told policies.new.items)) }
     ensures denied { IfErr result (λ place.
-        DeniesAt ask.asker place (map P.told policies.old.items) (map P.told policies.new.items)) }
+        DeniesAt ask place (map P.told policies.old.items) (map P.told policies.new.items)) }
     ensures undone { All (λ policy. (P.told policy).done ≡ false) policies.new.items }
     ensures fewer { length policies.new.items ≤ length policies.old.items }
 {
@@ -72,8 +72,8 @@ pub(crate) fn drop_done<P: FramePolicy>(policies: &mut Vec<P>)
 pub(crate) fn ask_standing<P: FramePolicy>(policies: &mut Vec<P>, ask: Ask) -> Result<(), u32>
     requires { length policies.old.items < 2 ^ 32 }
     ensures granted { OnOk result
-        (AllGrant (standing (map P.told policies.old.items)) (map P.told policies.new.items)) }
-    ensures denied { IfErr result (λ place. DeniesAt ask.asker place
+        (AllGrant ask (standing (map P.told policies.old.items)) (map P.told policies.new.items)) }
+    ensures denied { IfErr result (λ place. DeniesAt ask place
         (standing (map P.told policies.old.items)) (map P.told policies.new.items)) }
     ensures undone { NoneIsDone (map P.told policies.new.items) }
     ensures fewer { length policies.new.items ≤ length policies.old.items }

@@ -5,11 +5,11 @@ use Rattle.frame_pool.proofs.turns.ask_in_turn.Goals as goal
 pub loop-at-init : goal.loop-at-init
 loop-at-init g c =
     let all = length c.args.policies.now.items in
-    (HaveGranted-none g.P.FramePolicy.told c.args.policies.now.items, c.requires.undone, omega arith)
+    (HaveGranted-none g.P.FramePolicy.told c.args.ask c.args.policies.now.items, c.requires.undone, omega arith)
 
 pub returns-then-not-turn-clause-denied : goal.returns-then-not-turn-clause-denied
 returns-then-not-turn-clause-denied g c =
-    DeniesAt-one g.P.FramePolicy.told c.args.ask.asker c.ask_one-turn.result.granted c.loop-at.place c.loop-at.at c.ask_one-turn.result.next
+    DeniesAt-one g.P.FramePolicy.told c.args.ask c.ask_one-turn.result.granted c.loop-at.place c.loop-at.at c.ask_one-turn.result.next
     c.args.policies.now.items c.loop-at.policies.items c.ask_one-turn.new.policies.items
     c.loop-at.invariant.0 c.ask_one-turn.ensures.turn (is_refused c.ask_one-turn.result.granted c.if-not-turn.true)
 
@@ -17,7 +17,7 @@ pub loop-at-preserved : goal.loop-at-preserved
 loop-at-preserved g c =
     let bound = c.loop-at.invariant.2 in
     let fewer = c.ask_one-turn.ensures.fewer in (
-      HaveGranted-one g.P.FramePolicy.told c.args.ask.asker c.ask_one-turn.result.granted c.loop-at.place c.loop-at.at c.ask_one-turn.result.next
+      HaveGranted-one g.P.FramePolicy.told c.args.ask c.ask_one-turn.result.granted c.loop-at.place c.loop-at.at c.ask_one-turn.result.next
           c.args.policies.now.items c.loop-at.policies.items c.ask_one-turn.new.policies.items
           c.loop-at.invariant.0 c.ask_one-turn.ensures.turn (is_granted c.ask_one-turn.result.granted c.if-not-turn.false),
       c.ask_one-turn.ensures.undone,

@@ -4,7 +4,7 @@ use Rattle.frame_pool.proofs.turns.ask_in_turn.Given as goal
 
 abbrev pub invariant-loop-at : goal.invariant-loop-at
 invariant-loop-at g l =
-    HaveGranted g.P.FramePolicy.told l.place l.at l.initial.policies.items l.policies.items
+    HaveGranted g.P.FramePolicy.told l.ask l.place l.at l.initial.policies.items l.policies.items
     × All (λ policy. (g.P.FramePolicy.told policy).done ≡ false) l.policies.items
     × (length l.policies.items ≤ length l.initial.policies.items)
 
