@@ -1,9 +1,10 @@
 -- What a clear of some pages made.
 use Rattle.std.proofs.Common.{◌≡◌, ℕ, ◌+◌, ◌-◌, ◌<◌, ◌≤◌, List, [], length, replicate, Option, Some, None, refl, sym, ◌∙◌, ap, subst, arith, inl, inr, ◌⊎◌}
-use Rattle.std.specs.Prelude.{is_some, IsSome, Bool, true, false, cond, unwrap_or, ◌==◌, slice_index_or, count_by}
+use Rattle.std.specs.Prelude.{is_some, IsSome, Bool, true, false, not, nat_eq, cond, unwrap_or, ◌==◌, slice_index_or, count_by}
+use Rattle.std.specs.Option.{option_eq}
 use Rattle.std.specs.FinMap.{get, retain_keys, get-retain_keys}
-use Rattle.std.proofs.lemmas.Bool.{false≢true}
-use Rattle.std.proofs.lemmas.Bool.Decides.{nat_tests}
+use Rattle.std.proofs.lemmas.Bool.{false≢true, and_parts}
+use Rattle.std.proofs.lemmas.List.{length-replicate}
 use Rattle.std.proofs.lemmas.Map.Lookups.{exact_unsigned}
 use Rattle.vm_base.specs.Deals.{Deal, Returned, LeadsAlong}
 use Rattle.vm_base.specs.Frames.{FrameView}
@@ -17,9 +18,11 @@ use Rattle.kernel_meaning.specs.CellAccount.{Clear, CellAccount}
 use Rattle.leaf_cell.specs.declared.snapshot.Snapshot.{Snapshot}
 use Rattle.leaf_cell.specs.declared.snapshot.SnapshotLeaf.{SnapshotLeaf}
 use Rattle.leaf_cell.specs.declared.snapshot.SnapshotLeaf.TheVariants as code
+use Rattle.leaf_cell.specs.Places.{TableView, without_entries}
+use Rattle.leaf_cell.specs.Writable.{none_writable, writable_at, without_writable}
 use Rattle.leaf_cell.specs.CellView.{CellView, AreUnjoined, held_of, bytes_in, parent_page}
 use Rattle.leaf_cell.specs.Clearing.{gone_if, IsLeft}
-use Rattle.leaf_cell.specs.Inside.{AreInside, IsPlaceOf, table_places, own_places, snapshot_places, leaf_value, kept_value, kept_values, cell_value}
+use Rattle.leaf_cell.specs.Inside.{AreInside, IsPlaceOf, table_of, table_places, table_writable, own_places, is_apart, snapshot_places, leaf_value, kept_value, kept_values, cell_value}
 use Rattle.leaf_cell.specs.Releasing.{Releasing}
 use Rattle.leaf_cell.specs.Renaming.{AreKeptAlike, IsNamedBy, IsLive, IsRenaming}
 use Rattle.leaf_cell.specs.Standing.{StandsFor, TakesAccount, MadeAct}
@@ -35,7 +38,8 @@ use Rattle.leaf_cell.proofs.HeldShare.{held-share}
 use Rattle.leaf_cell.proofs.Releases.{replicate-both}
 use Rattle.leaf_cell.proofs.DropMade.{answers-returned, names-or, bytes-kept}
 use Rattle.leaf_cell.proofs.SameReads.{present-stands}
-use Rattle.leaf_cell.proofs.Without.{in-or-out, length-without, without-within, without-outside, renamed-without, table-none}
+use Rattle.leaf_cell.proofs.WritablePages.{beyond-within, beyond-outside, never-writable, writable-below, length-with_writable, with_writable-is, with_writable-same, writable_at-within, writable_at-outside, apart-same, absent-apart}
+use Rattle.leaf_cell.proofs.Without.{in-or-out, length-without, without-within, without-outside, renamed-without, none-left, table-none}
 
 -- what a snapshot names that has neither lost the cell nor joined it is in a table of its own
 own_versions : (places : Versions) (leaf : SnapshotLeaf) → is_joined (leaf_value leaf) ≡ false → is_lost (leaf_value leaf) ≡ false → snapshot_places places leaf ≡ snapshot_places no_versions leaf
@@ -54,13 +58,6 @@ found-own places (Some it) n kept unjoined found unlost = by (it.number == n) fo
         ap (λ k. k.versions) (sym same) ∙ own_versions places it.leaf unjoined.0 (ap (λ k. is_lost k.leaf) same ∙ unlost)
     by false e = absurd (false≢true (ap is_some e))
 
--- which pages lie among those that stay
-beyond-within : (first n p : ℕ) → first ≤ p → p < first + n → is_beyond first n p ≡ false
-beyond-within first n p above below = grind (arith, nat_tests)
-
-beyond-outside : (first n p : ℕ) → (p < first) ⊎ (first + n ≤ p) → is_beyond first n p ≡ true
-beyond-outside first n p outside = grind (arith, nat_tests)
-
 get-beyond : (pages : PageMap) (first n p : ℕ) → get (retain_keys pages (is_beyond first n)) p ≡ cond (is_beyond first n p) (get pages p) None
 get-beyond pages first n p = get-retain_keys pages (is_beyond first n) p (λ x same. ap (is_beyond first n) (sym (exact_unsigned p x same)))
 
@@ -68,9 +65,9 @@ one-table : (b : Bool) → ◌≡◌ {A = ℕ} (cond b 1 0 + cond b 0 1) 1
 one-table true = refl
 one-table false = refl
 
-module _ {State : Type 0} (goes : State → Deal → State → Type 0) (from middle to : State) (parent : Option Versions) (snapshot : Option Snapshot) (frames new : List (Option FrameView)) (next : Option Versions) (first n : ℕ)
+module _ {State : Type 0} (goes : State → Deal → State → Type 0) (from middle to : State) (parent : Option TableView) (snapshot : Option Snapshot) (frames new : List (Option FrameView)) (next : Option TableView) (first n : ℕ)
     (inside : AreInside parent snapshot frames) (there : is_some parent ≡ true) (fits : first + n ≤ 512)
-    (released : Releasing goes from middle (table_places parent) (own_places snapshot) frames new first (first + n)) (left : IsLeft goes middle to (table_places parent) first n next) where
+    (released : Releasing goes from middle (table_places parent) (own_places snapshot) frames new first (first + n)) (left : IsLeft goes middle to (table_of parent) first n next) where
   abbrev places : Versions
   places = table_places parent
 
@@ -89,7 +86,7 @@ module _ {State : Type 0} (goes : State → Deal → State → Type 0) (from mid
   next_places : table_places next ≡ rest
   next_places = ap table_places left.left ∙ by (has_pages rest) refl
     where
-      by : (b : Bool) → has_pages rest ≡ b → table_places (cond b (Some rest) None) ≡ rest
+      by : (b : Bool) → has_pages rest ≡ b → table_places (cond b (Some (without_entries (table_of parent) first n)) None) ≡ rest
       by true is = refl
       by false is = table-none rest (length-without places first n fits-table ∙ inside.parent_size) is
 
@@ -120,6 +117,36 @@ module _ {State : Type 0} (goes : State → Deal → State → Type 0) (from mid
     | inr outside ↦ inl (next-outside p outside ∙ named)
   ]
 
+  -- the pages of the range may not be written to; nor may others, where the table is gone
+  pub next_writable : table_writable next ≡ without_writable first n (table_writable parent)
+  next_writable = ap table_writable left.left ∙ by (has_pages rest) refl
+    where
+      is_there : (p : ℕ) → writable_at (table_writable parent) p ≡ true → IsSome (version_at places p)
+      is_there p may = (and_parts (is_some (version_at places p)) (not (option_eq nat_eq (version_at (own_places snapshot) p) (version_at places p))) (inside.writable.apart p may)).0
+
+      others : has_pages rest ≡ false → (p : ℕ) → p < 512 → (p < first) ⊎ (first + n ≤ p) → (b : Bool) → writable_at (table_writable parent) p ≡ b → b ≡ false
+      others none p small outside true is = absurd (false≢true (sym (ap is_some (sym (without-outside places first n fits-table p outside) ∙ none-left rest none p)) ∙ is_there p is))
+      others none p small outside false is = refl
+
+      by : (b : Bool) → has_pages rest ≡ b → table_writable (cond b (Some (without_entries (table_of parent) first n)) None) ≡ without_writable first n (table_writable parent)
+      by true is = refl
+      by false is = with_writable-is (λ page. false) first n (table_writable parent) none_writable (length-replicate {A = Bool} 512 false) (λ p small.
+          never-writable p ∙ elim (in-or-out first n p) [
+            | inl within ↦ sym (ap (λ b. cond b (writable_at (table_writable parent) p) false) (beyond-within first n p within.0 within.1))
+            | inr outside ↦ sym (ap (λ b. cond b (writable_at (table_writable parent) p) false) (beyond-outside first n p outside)
+                ∙ others is p small outside (writable_at (table_writable parent) p) refl)
+          ])
+
+  next_apart : (p : ℕ) → writable_at (table_writable next) p ≡ true → is_apart (own_places snapshot) (table_places next) p ≡ true
+  next_apart p may =
+      let small : p < 512 = writable-below (table_writable next) p (ap length next_writable ∙ length-with_writable (λ page. false) first n (table_writable parent)) may in
+      let then : writable_at (without_writable first n (table_writable parent)) p ≡ true = ap (λ ws. writable_at ws p) (sym next_writable) ∙ may in
+      elim (in-or-out first n p) [
+        | inl within ↦ absurd (false≢true (sym (writable_at-within (λ page. false) first n (table_writable parent) p small within.0 within.1) ∙ then))
+        | inr outside ↦ apart-same (own_places snapshot) (table_places next) places p (next-outside p outside)
+            ∙ inside.writable.apart p (sym (writable_at-outside (λ page. false) first n (table_writable parent) p small outside) ∙ then)
+      ]
+
   -- the order of the cell afterwards
   pub inside-cleared : AreInside next snapshot new
   inside-cleared = record {
@@ -132,14 +159,15 @@ module _ {State : Type 0} (goes : State → Deal → State → Type 0) (from mid
       | inl same ↦ still_named p q small home there (inside.named p q small home (ap is_some (sym same) ∙ there))
       | inr none ↦ absurd (false≢true (sym (ap is_some none) ∙ there))
     ];
-    used = λ others is. by others (has_pages rest) refl (sym left.left ∙ is);
+    used = λ table is. by table (has_pages rest) refl (sym left.left ∙ is);
     parent_size = ap length next_places ∙ length-without places first n fits-table ∙ inside.parent_size;
     own_size = inside.own_size;
+    writable = record { size = ap length next_writable ∙ length-with_writable (λ page. false) first n (table_writable parent); apart = next_apart };
   }
     where
-      by : (others : Versions) (b : Bool) → has_pages rest ≡ b → cond b (Some rest) None ≡ Some others → has_pages others ≡ true
-      by others true is e = ap (λ o. has_pages (unwrap_or o rest)) (sym e) ∙ is
-      by others false is e = absurd (false≢true (ap is_some e))
+      by : (table : TableView) (b : Bool) → has_pages rest ≡ b → cond b (Some (without_entries (table_of parent) first n)) None ≡ Some table → has_pages table.places ≡ true
+      by table true is e = ap (λ o. has_pages (unwrap_or o table).places) (sym e) ∙ is
+      by table false is e = absurd (false≢true (ap is_some e))
 
   -- a page outside the range reads as before
   reads : (p : ℕ) → p < 512 → (p < first) ⊎ (first + n ≤ p) → parent_page after p ≡ parent_page before p
@@ -237,12 +265,12 @@ module _ {State : Type 0} (goes : State → Deal → State → Type 0) (from mid
     }
 
 -- where a range has a page there is a table
-pub table-there : (parent : Option Versions) (first n : ℕ) → has_present (table_places parent) first n ≡ true → is_some parent ≡ true
+pub table-there : (parent : Option TableView) (first n : ℕ) → has_present (table_places parent) first n ≡ true → is_some parent ≡ true
 table-there None first n present = absurd (false≢true (sym (has_present-never first n) ∙ present))
 table-there (Some table) first n present = refl
 
 -- and a frame for it
-pub table-counted : (parent : Option Versions) (snapshot : Option Snapshot) (frames : List (Option FrameView)) → AreInside parent snapshot frames → is_some parent ≡ true → (out : ℕ)
+pub table-counted : (parent : Option TableView) (snapshot : Option Snapshot) (frames : List (Option FrameView)) → AreInside parent snapshot frames → is_some parent ≡ true → (out : ℕ)
     → held_of (cell_value parent snapshot frames) ≤ out → count_by is_some frames + 1 ≤ out
 table-counted parent snapshot frames inside there out held =
     let one : parent_leaves (cell_value parent snapshot frames).leaves ≡ 1 = ap (λ b. cond b 1 0) (old-leaf parent snapshot frames inside ∙ there) in
@@ -257,6 +285,16 @@ absent-in versions first n p none above below = by (version_at versions p) refl
     by (Some q) is =
         let at : first + (p - first) ≡ p = omega arith in
         absurd (false≢true (sym none ∙ has_present-there versions first (p - first) n (omega arith) (ap (λ i. is_some (version_at versions i)) at ∙ ap is_some is)))
+
+-- and may not be written to
+pub nothing-writable : (parent : Option TableView) (snapshot : Option Snapshot) (frames : List (Option FrameView)) → AreInside parent snapshot frames → (first n : ℕ) → has_present (table_places parent) first n ≡ false
+    → table_writable parent ≡ without_writable first n (table_writable parent)
+nothing-writable parent snapshot frames inside first n none = with_writable-same (λ page. false) first n (table_writable parent) inside.writable.size (λ p small above below.
+    sym (by p (absent-in (table_places parent) first n p none above below) (writable_at (table_writable parent) p) refl))
+  where
+    by : (p : ℕ) → version_at (table_places parent) p ≡ None → (b : Bool) → writable_at (table_writable parent) p ≡ b → b ≡ false
+    by p absent true is = absurd (false≢true (sym (absent-apart (own_places snapshot) (table_places parent) p absent) ∙ inside.writable.apart p is))
+    by p absent false is = refl
 
 -- no page of the range is there: nothing is asked for, and nothing goes
 pub made-nothing : {State : Type 0} (goes : State → Deal → State → Type 0) (state : State) (view : CellView) (first n : ℕ) → has_present view.leaves.parent first n ≡ false → MadeAct goes state state (Clear first n) view view None

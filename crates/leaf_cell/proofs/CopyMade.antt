@@ -1,16 +1,17 @@
 -- What the copy of a page that a snapshot names too made.
 use Rattle.std.proofs.Common.{◌≡◌, ℕ, ◌+◌, ◌<◌, List, [], ◌∷◌, Option, Some, None, refl, sym, ◌∙◌, ap, subst, arith, inl, inr}
-use Rattle.std.specs.Prelude.{is_some, IsSome, true, nat_eq, slice_index_or, count_by}
+use Rattle.std.specs.Prelude.{slice_set, is_some, IsSome, true, nat_eq, slice_index_or, count_by}
 use Rattle.std.specs.Option.{option_eq, option_map}
 use Rattle.std.proofs.lemmas.Bool.{cases_eq, ne_eqb, false≢true}
 use Rattle.vm_base.specs.declared.frame_request.Want.TheVariants as want
 use Rattle.vm_base.specs.Deals.{Deal, Granted, LeadsAlong}
 use Rattle.vm_base.specs.Frames.{FrameView}
-use Rattle.kernel_meaning.specs.Leaves.{Versions, version_at, is_named, parent_leaves, own_leaves, is_own}
+use Rattle.kernel_meaning.specs.Leaves.{version_at, is_named, parent_leaves, own_leaves, is_own}
 use Rattle.kernel_meaning.specs.CellAccount.{Touch}
 use Rattle.leaf_cell.specs.declared.snapshot.Snapshot.{Snapshot}
+use Rattle.leaf_cell.specs.Places.{TableView}
 use Rattle.leaf_cell.specs.CellView.{CellView, AreUnjoined, held_of, frame_bytes, bytes_in, page_or_zeros}
-use Rattle.leaf_cell.specs.Inside.{AreInside, table_places, own_places, kept_values, cell_value}
+use Rattle.leaf_cell.specs.Inside.{AreInside, table_places, table_writable, own_places, kept_values, cell_value}
 use Rattle.leaf_cell.specs.Adding.{IsPut}
 use Rattle.leaf_cell.specs.Standing.{TakesAccount, MadeAct}
 use Rattle.leaf_cell.proofs.InsideFacts.{are_filled, parent_filled, has_pages-there}
@@ -32,10 +33,10 @@ bytes_there : (o : Option FrameView) → IsSome o → option_map (λ frame. fram
 bytes_there None h = absurd (false≢true h)
 bytes_there (Some frame) h = refl
 
-module _ (parent : Option Versions) (snapshot : Option Snapshot) (frames : List (Option FrameView)) (inside : AreInside parent snapshot frames) (page place : ℕ) (small : page < 512)
+module _ (parent : Option TableView) (snapshot : Option Snapshot) (frames : List (Option FrameView)) (inside : AreInside parent snapshot frames) (page place : ℕ) (small : page < 512)
     (there : version_at (table_places parent) page ≡ Some place) (named : is_named (cell_value parent snapshot frames).leaves page place ≡ true)
     (unjoined : AreUnjoined (kept_values (table_places parent) snapshot))
-    (next : Option Versions) (new : List (Option FrameView)) (put : IsPut (page_or_zeros (frame_bytes frames place)) page (table_places parent) frames (table_places next) new) (is_table : is_some next ≡ true) where
+    (next : Option TableView) (new : List (Option FrameView)) (put : IsPut (page_or_zeros (frame_bytes frames place)) page (table_places parent) frames (table_places next) new) (is_table : is_some next ≡ true) where
   view : CellView
   view = cell_value parent snapshot frames
 
@@ -48,8 +49,8 @@ module _ (parent : Option Versions) (snapshot : Option Snapshot) (frames : List 
   bytes : bytes_in frames (Some place) ≡ Some put.frame.bytes
   bytes = bytes_there (slice_index_or frames place None) (parent_filled parent snapshot frames inside page place there) ∙ ap Some (sym put.held)
 
-  pub inside-copied : AreInside next snapshot new
-  inside-copied = inside_put parent snapshot frames inside next new (page_or_zeros (frame_bytes frames place)) page small put is_table left
+  pub inside-copied : table_writable next ≡ slice_set (table_writable parent) page true → AreInside next snapshot new
+  inside-copied set = inside_put parent snapshot frames inside next new (page_or_zeros (frame_bytes frames place)) page small put is_table left set
 
   pub made-copied : {State : Type 0} (goes : State → Deal → State → Type 0) (from to : State) (deals : List Deal) → LeadsAlong goes from deals to → deals ≡ Granted want.Page ∷ []
       → MadeAct goes from to (Touch page) (cell_value parent snapshot frames) (cell_value next snapshot new) None
@@ -58,7 +59,7 @@ module _ (parent : Option Versions) (snapshot : Option Snapshot) (frames : List 
     led = led;
     follows = λ account stands. subst (λ ds. TakesAccount (Touch page) (cell_value parent snapshot frames) (cell_value next snapshot new) ds None account) (sym is)
         (subst (λ after. TakesAccount (Touch page) (cell_value parent snapshot frames) after (Granted want.Page ∷ []) None account) (put-view parent snapshot frames next new (page_or_zeros (frame_bytes frames place)) page put unjoined)
-        (touch-copied (cell_value parent snapshot frames) page place small there unjoined account stands put.place put.frame inside.parent_size (are_filled parent snapshot frames inside) put.free
+        (touch-copied (cell_value parent snapshot frames) page place small there unjoined account stands put.place put.frame (table_writable next) inside.parent_size (are_filled parent snapshot frames inside) put.free
         (room parent snapshot frames inside next new (page_or_zeros (frame_bytes frames place)) page small put is_table left) named bytes));
   }
 

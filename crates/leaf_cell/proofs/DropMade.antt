@@ -15,8 +15,10 @@ use Rattle.kernel_meaning.specs.Requests.{answers_of}
 use Rattle.kernel_meaning.specs.Leaves.{Versions, no_versions, version_at, is_lost, is_own, Kept, CellLeaves, kept_by, without_kept, share}
 use Rattle.kernel_meaning.specs.CellAccount.{Drop, CellAccount}
 use Rattle.leaf_cell.specs.declared.snapshot.Snapshot.{Snapshot}
+use Rattle.leaf_cell.specs.Places.{TableView}
 use Rattle.leaf_cell.specs.CellView.{CellView, bytes_in, without_snapshot}
-use Rattle.leaf_cell.specs.Inside.{AreInside, table_places, snapshot_places, leaf_value, kept_value, kept_values, cell_value}
+use Rattle.leaf_cell.proofs.WritablePages.{apart-alone}
+use Rattle.leaf_cell.specs.Inside.{AreInside, table_places, own_places, snapshot_places, leaf_value, kept_value, kept_values, cell_value}
 use Rattle.leaf_cell.specs.Renaming.{AreKeptAlike, IsNamedBy, IsLive, IsRenaming}
 use Rattle.leaf_cell.specs.Releasing.{IsLeafReleased, own_if}
 use Rattle.leaf_cell.specs.Standing.{StandsFor, TakesAccount, MadeAct}
@@ -130,7 +132,7 @@ names-or places page place = by (version_at places page) refl
     ]
 
 -- the order of a cell whose snapshot is gone
-pub inside-dropped : {State : Type 0} (goes : State → Deal → State → Type 0) (from to : State) (parent : Option Versions) (it : Snapshot) (frames new : List (Option FrameView)) (tables : ℕ)
+pub inside-dropped : {State : Type 0} (goes : State → Deal → State → Type 0) (from to : State) (parent : Option TableView) (it : Snapshot) (frames new : List (Option FrameView)) (tables : ℕ)
     → AreInside parent (Some it) frames → IsLeafReleased goes from to (snapshot_places no_versions it.leaf) (table_places parent) tables frames new → AreInside parent None new
 inside-dropped goes from to parent it frames new tables inside released = record {
   room = released.room ∙ inside.room;
@@ -149,6 +151,10 @@ inside-dropped goes from to parent it frames new tables inside released = record
   used = inside.used;
   parent_size = inside.parent_size;
   own_size = length-replicate {A = Option ℕ} 512 None;
+  writable = record {
+    size = inside.writable.size;
+    apart = λ page may. apart-alone (own_places (Some it)) (table_places parent) page (inside.writable.apart page may);
+  };
 }
 
 pub bytes-kept : (old new : List (Option FrameView)) (o : Option ℕ) → ((q : ℕ) → o ≡ Some q → slice_index_or new q None ≡ slice_index_or old q None) → bytes_in new o ≡ bytes_in old o
@@ -156,7 +162,7 @@ bytes-kept old new None same = refl
 bytes-kept old new (Some q) same = ap (option_map (λ f. f.bytes)) (same q refl)
 
 -- the one snapshot of the cell is that of the drop
-pub made-dropped : {State : Type 0} (goes : State → Deal → State → Type 0) (from to : State) (parent : Option Versions) (it : Snapshot) (frames new : List (Option FrameView)) (n : ℕ)
+pub made-dropped : {State : Type 0} (goes : State → Deal → State → Type 0) (from to : State) (parent : Option TableView) (it : Snapshot) (frames new : List (Option FrameView)) (n : ℕ)
     → AreInside parent (Some it) frames → it.number ≡ n → IsLeafReleased goes from to (snapshot_places no_versions it.leaf) (table_places parent) (own_if (leaf_value it.leaf)) frames new
     → MadeAct goes from to (Drop n) (cell_value parent (Some it) frames) (cell_value parent None new) None
 made-dropped goes from to parent it frames new n inside number released =
@@ -183,7 +189,7 @@ made-unmet goes state view n same = record {
 }
 
 -- what is without a number that is not there
-pub without-other : (parent : Option Versions) (snapshot : Option Snapshot) (frames : List (Option FrameView)) (n : ℕ) → is_some (kept_by (kept_values no_versions snapshot) n) ≡ false
+pub without-other : (parent : Option TableView) (snapshot : Option Snapshot) (frames : List (Option FrameView)) (n : ℕ) → is_some (kept_by (kept_values no_versions snapshot) n) ≡ false
     → (cell_value parent snapshot frames).leaves ≡ without_snapshot n (cell_value parent snapshot frames).leaves
 without-other parent None frames n none = refl
 without-other parent (Some it) frames n none = by (it.number == n) refl none

@@ -14,8 +14,11 @@ use Rattle.kernel_meaning.specs.Leaves.{Versions, no_versions, version_at, Leaf,
 use Rattle.kernel_meaning.specs.CellAccount.{Fork, CellAccount}
 use Rattle.leaf_cell.specs.declared.snapshot.Snapshot.{Snapshot}
 use Rattle.leaf_cell.specs.declared.snapshot.SnapshotLeaf.TheVariants as code
+use Rattle.leaf_cell.specs.Places.{TableView}
 use Rattle.leaf_cell.specs.CellView.{CellView, kept_page}
-use Rattle.leaf_cell.specs.Inside.{AreInside, table_places, own_places, kept_value, kept_values, cell_value}
+use Rattle.leaf_cell.specs.Writable.{none_writable, writable_at}
+use Rattle.leaf_cell.proofs.WritablePages.{never-writable}
+use Rattle.leaf_cell.specs.Inside.{AreInside, table_of, table_places, table_writable, own_places, kept_value, kept_values, cell_value}
 use Rattle.leaf_cell.specs.Renaming.{AreKeptAlike, IsLive, IsRenaming}
 use Rattle.leaf_cell.specs.Standing.{StandsFor, TakesAccount}
 use Rattle.leaf_cell.proofs.NewCell.{none_is_not_some}
@@ -111,7 +114,7 @@ module _ (view : CellView) (account : CellAccount) (stands : StandsFor view acco
   fork-lazy alone Async lazy seat = record { stands = stands_forked Async Joined view account stands n alone account.made (omega arith); asked = refl; ended = refl }
 
 -- the order of a cell whose one snapshot has the parent's table
-pub inside-lazy : (parent : Option Versions) (snapshot : Option Snapshot) (frames : List (Option FrameView)) (n : ℕ) (mode : Mode) → AreInside parent snapshot frames
+pub inside-lazy : (parent : Option TableView) (snapshot : Option Snapshot) (frames : List (Option FrameView)) (n : ℕ) (mode : Mode) → AreInside parent snapshot frames
     → kept_values (table_places parent) snapshot ≡ [] → AreInside parent (Some (record { number = n; mode = mode; leaf = code.Joined })) frames
 inside-lazy parent (Some other) frames n mode inside alone = absurd (not_nil (kept_value (table_places parent) other) [] alone)
 inside-lazy parent None frames n mode inside alone = record {
@@ -122,12 +125,13 @@ inside-lazy parent None frames n mode inside alone = record {
   used = inside.used;
   parent_size = inside.parent_size;
   own_size = inside.own_size;
+  writable = inside.writable;
 }
 
 -- the order of a cell whose snapshot gets a table of its own
-pub inside-own : (parent : Option Versions) (snapshot : Option Snapshot) (frames : List (Option FrameView)) (it : Snapshot) → AreInside parent snapshot frames
-    → own_places snapshot ≡ no_versions → it.leaf ≡ code.Own (table_places parent) → AreInside parent (Some it) frames
-inside-own parent snapshot frames it inside without leaf =
+pub inside-own : (parent : Option TableView) (snapshot : Option Snapshot) (frames : List (Option FrameView)) (it : Snapshot) → AreInside parent snapshot frames
+    → own_places snapshot ≡ no_versions → it.leaf ≡ code.Own (table_of parent) → table_writable parent ≡ none_writable → AreInside parent (Some it) frames
+inside-own parent snapshot frames it inside without leaf none =
     let own : own_places (Some it) ≡ table_places parent = ap (λ l. own_places (Some (record it { leaf = l }))) leaf in
     record {
       room = inside.room;
@@ -140,16 +144,20 @@ inside-own parent snapshot frames it inside without leaf =
       used = inside.used;
       parent_size = inside.parent_size;
       own_size = ap length own ∙ inside.parent_size;
+      writable = record {
+        size = inside.writable.size;
+        apart = λ page may. absurd (false≢true (sym (ap (λ ws. writable_at ws page) none ∙ never-writable page) ∙ may));
+      };
     }
 
 -- the order of the cell afterwards
-pub inside-forked : (parent : Option Versions) (snapshot : Option Snapshot) (frames : List (Option FrameView)) (it : Snapshot) → AreInside parent snapshot frames
-    → kept_values (table_places parent) snapshot ≡ [] → it.leaf ≡ code.Own (table_places parent) → AreInside parent (Some it) frames
-inside-forked parent (Some other) frames it inside alone leaf = absurd (not_nil (kept_value (table_places parent) other) [] alone)
-inside-forked parent None frames it inside alone leaf = inside-own parent None frames it inside refl leaf
+pub inside-forked : (parent : Option TableView) (snapshot : Option Snapshot) (frames : List (Option FrameView)) (it : Snapshot) → AreInside parent snapshot frames
+    → kept_values (table_places parent) snapshot ≡ [] → it.leaf ≡ code.Own (table_of parent) → table_writable parent ≡ none_writable → AreInside parent (Some it) frames
+inside-forked parent (Some other) frames it inside alone leaf none = absurd (not_nil (kept_value (table_places parent) other) [] alone)
+inside-forked parent None frames it inside alone leaf none = inside-own parent None frames it inside refl leaf none
 
 -- a forked cell as contracts see it
-pub forked-view : (parent : Option Versions) (snapshot : Option Snapshot) (frames : List (Option FrameView)) (it : Snapshot) (n : ℕ)
-    → it.number ≡ n → it.mode ≡ Eager → it.leaf ≡ code.Own (table_places parent)
+pub forked-view : (parent : Option TableView) (snapshot : Option Snapshot) (frames : List (Option FrameView)) (it : Snapshot) (n : ℕ)
+    → it.number ≡ n → it.mode ≡ Eager → it.leaf ≡ code.Own (table_of parent)
     → view_of_fork Eager Own n (cell_value parent snapshot frames) ≡ cell_value parent (Some it) frames
 forked-view parent snapshot frames it n number mode leaf = λ i. cell_value parent (Some (record { number = sym number i; mode = sym mode i; leaf = sym leaf i })) frames

@@ -5,6 +5,7 @@ use Rattle.vm_base.specs.Frames.{FrameView}
 use Rattle.kernel_meaning.specs.Leaves.{Versions, no_versions, share, is_own, parent_leaves, own_leaves, named_pairs}
 use Rattle.kernel_meaning.specs.CellAccount.{CellAccount, account_share}
 use Rattle.leaf_cell.specs.declared.snapshot.Snapshot.{Snapshot}
+use Rattle.leaf_cell.specs.Places.{TableView}
 use Rattle.leaf_cell.specs.CellView.{CellView, held_of}
 use Rattle.leaf_cell.specs.Inside.{AreInside, table_places, kept_values, cell_value}
 use Rattle.leaf_cell.specs.Standing.{StandsFor}
@@ -17,7 +18,7 @@ own-count : (a b : Versions) (snapshot : Option Snapshot) → count_by (λ it. i
 own-count a b None = refl
 own-count a b (Some it) = refl
 
-pub held-share : (parent : Option Versions) (snapshot : Option Snapshot) (frames : List (Option FrameView)) → AreInside parent snapshot frames
+pub held-share : (parent : Option TableView) (snapshot : Option Snapshot) (frames : List (Option FrameView)) → AreInside parent snapshot frames
     → cond (is_some parent) 1 0 + count_by (λ it. is_own it.leaf) (kept_values no_versions snapshot) + count_by is_some frames ≡ share (cell_value parent snapshot frames).leaves
 held-share parent snapshot frames inside =
     let leaf : ◌≡◌ {A = ℕ} (parent_leaves (cell_value parent snapshot frames).leaves) (cond (is_some parent) 1 0) = ap (λ b. cond b 1 0) (old-leaf parent snapshot frames inside) in
@@ -26,7 +27,7 @@ held-share parent snapshot frames inside =
     omega (arith, leaf, own, pages)
 
 -- the frames that a cell holds are its share
-pub held_of-share : (parent : Option Versions) (snapshot : Option Snapshot) (frames : List (Option FrameView)) → AreInside parent snapshot frames
+pub held_of-share : (parent : Option TableView) (snapshot : Option Snapshot) (frames : List (Option FrameView)) → AreInside parent snapshot frames
     → held_of (cell_value parent snapshot frames) ≡ share (cell_value parent snapshot frames).leaves
 held_of-share parent snapshot frames inside = omega (arith, pairs-filled parent snapshot frames inside)
 

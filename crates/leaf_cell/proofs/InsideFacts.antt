@@ -9,6 +9,7 @@ use Rattle.kernel_meaning.specs.Leaves.{Versions, no_versions, version_at, has_p
 use Rattle.leaf_cell.specs.declared.snapshot.Snapshot.{Snapshot}
 use Rattle.leaf_cell.specs.declared.snapshot.SnapshotLeaf.{SnapshotLeaf}
 use Rattle.leaf_cell.specs.declared.snapshot.SnapshotLeaf.TheVariants as code
+use Rattle.leaf_cell.specs.Places.{TableView}
 use Rattle.leaf_cell.specs.Inside.{AreInside, IsPlaceOf, table_places, own_places, snapshot_places, leaf_value, cell_value}
 use Rattle.leaf_cell.specs.Releasing.{AreHome}
 use Rattle.std.specs.Option.{option_map}
@@ -30,7 +31,7 @@ is_none_or : {X : Type 0} (o : Option X) → (o ≡ None) ⊎ IsSome o
 is_none_or None = inl refl
 is_none_or (Some x) = inr refl
 
-module _ (parent : Option Versions) (snapshot : Option Snapshot) (frames : List (Option FrameView)) (inside : AreInside parent snapshot frames) where
+module _ (parent : Option TableView) (snapshot : Option Snapshot) (frames : List (Option FrameView)) (inside : AreInside parent snapshot frames) where
   at_place : ℕ → Option FrameView
   at_place place = slice_index_or frames place None
 
@@ -71,7 +72,7 @@ module _ (parent : Option Versions) (snapshot : Option Snapshot) (frames : List 
   leaf_filled number code.Joined page place own unlost there = parent_filled page place there
   leaf_filled number (code.Lost at) page place own unlost there = absurd (false≢true (sym unlost))
 
-pub are_filled : (parent : Option Versions) (snapshot : Option Snapshot) (frames : List (Option FrameView)) → AreInside parent snapshot frames → AreFilled (cell_value parent snapshot frames)
+pub are_filled : (parent : Option TableView) (snapshot : Option Snapshot) (frames : List (Option FrameView)) → AreInside parent snapshot frames → AreFilled (cell_value parent snapshot frames)
 are_filled parent snapshot frames inside page place (inl there) = parent_filled parent snapshot frames inside page place there
 are_filled parent None frames inside page place (inr named) = absurd named
 are_filled parent (Some it) frames inside page place (inr (inl named)) =
@@ -79,12 +80,12 @@ are_filled parent (Some it) frames inside page place (inr (inl named)) =
 are_filled parent (Some it) frames inside page place (inr (inr named)) = absurd named
 
 -- each place that a table of the cell names is one of its page's own
-pub parent_at_home : (parent : Option Versions) (snapshot : Option Snapshot) (frames : List (Option FrameView)) → AreInside parent snapshot frames → AreHome (table_places parent)
+pub parent_at_home : (parent : Option TableView) (snapshot : Option Snapshot) (frames : List (Option FrameView)) → AreInside parent snapshot frames → AreHome (table_places parent)
 parent_at_home parent snapshot frames inside page place named =
     let small : page < 512 = page_below (table_places parent) page place inside.parent_size named in
     (small, (inside.parent_home page place small named).0)
 
-pub own_at_home : (parent : Option Versions) (snapshot : Option Snapshot) (frames : List (Option FrameView)) → AreInside parent snapshot frames → AreHome (own_places snapshot)
+pub own_at_home : (parent : Option TableView) (snapshot : Option Snapshot) (frames : List (Option FrameView)) → AreInside parent snapshot frames → AreHome (own_places snapshot)
 own_at_home parent snapshot frames inside page place named =
     let small : page < 512 = page_below (own_places snapshot) page place inside.own_size named in
     (small, (inside.own_home page place small named).0)

@@ -5,10 +5,11 @@ use Rattle.std.proofs.lemmas.Bool.{false≢true}
 use Rattle.vm_base.specs.Deals.{Deal, Returned}
 use Rattle.vm_base.specs.Frames.{FrameView}
 use Rattle.kernel_meaning.specs.Requests.{No}
-use Rattle.kernel_meaning.specs.Leaves.{Versions, no_versions, version_at, Lost, CellLeaves, with_leaf, share}
+use Rattle.kernel_meaning.specs.Leaves.{no_versions, version_at, Lost, CellLeaves, with_leaf, share}
 use Rattle.kernel_meaning.specs.CellActs.{with_leaf_where, is_number, leaf_copy_answered}
 use Rattle.kernel_meaning.specs.CellAccount.{CellAccount}
 use Rattle.leaf_cell.specs.declared.snapshot.Snapshot.{Snapshot}
+use Rattle.leaf_cell.specs.Places.{TableView}
 use Rattle.leaf_cell.specs.CellView.{CellView}
 use Rattle.leaf_cell.specs.Inside.{AreInside, table_places, snapshot_places, leaf_value, kept_value, cell_value}
 use Rattle.leaf_cell.specs.Losing.{lost_at, without_leaf, IsLost}
@@ -21,7 +22,7 @@ use Rattle.leaf_cell.proofs.SameShare.{share-alike}
 use Rattle.leaf_cell.proofs.DropMade.{bytes-kept}
 use Rattle.leaf_cell.proofs.LossMade.{live-lost, less, only-lost}
 
-module _ {State : Type 0} (goes : State → Deal → State → Type 0) (from to : State) (parent : Option Versions) (it : Snapshot) (frames new : List (Option FrameView)) (at : ℕ)
+module _ {State : Type 0} (goes : State → Deal → State → Type 0) (from to : State) (parent : Option TableView) (it : Snapshot) (frames new : List (Option FrameView)) (at : ℕ)
     (inside : AreInside parent (Some it) frames)
     (released : IsLeafReleased goes from to (snapshot_places no_versions it.leaf) (table_places parent) (own_if (leaf_value it.leaf)) frames new)
     (n : ℕ) (number : it.number ≡ n) where

@@ -12,8 +12,10 @@ use Rattle.kernel_meaning.specs.CellAccount.{CellAccount}
 use Rattle.leaf_cell.specs.declared.snapshot.Snapshot.{Snapshot}
 use Rattle.leaf_cell.specs.declared.snapshot.SnapshotLeaf.{SnapshotLeaf}
 use Rattle.leaf_cell.specs.declared.snapshot.SnapshotLeaf.TheVariants as code
+use Rattle.leaf_cell.specs.Places.{TableView}
 use Rattle.leaf_cell.specs.CellView.{CellView, bytes_in, kept_page}
-use Rattle.leaf_cell.specs.Inside.{AreInside, table_places, snapshot_places, leaf_value, kept_value, kept_values, cell_value}
+use Rattle.leaf_cell.specs.Writable.{none_writable}
+use Rattle.leaf_cell.specs.Inside.{AreInside, table_of, table_places, table_writable, snapshot_places, leaf_value, kept_value, kept_values, cell_value}
 use Rattle.leaf_cell.specs.Renaming.{AreKeptAlike, IsNamedBy, IsLive, IsRenaming}
 use Rattle.leaf_cell.specs.Standing.{StandsFor, TakesPart}
 use Rattle.leaf_cell.specs.States.{has_joined, with_own}
@@ -45,7 +47,7 @@ joined-here places (Some it) n joined = elim (cases_eq it.number n) [
   | inr apart ↦ absurd (false≢true (sym (ap (λ b. has_joined (cond b (Some (kept_value places it)) None)) (ne_eqb it.number n apart)) ∙ joined))
 ]
 
-module _ (parent : Option Versions) (it : Snapshot) (frames : List (Option FrameView)) (n : ℕ) (number : it.number ≡ n) (leaf : it.leaf ≡ code.Joined) where
+module _ (parent : Option TableView) (it : Snapshot) (frames : List (Option FrameView)) (n : ℕ) (number : it.number ≡ n) (leaf : it.leaf ≡ code.Joined) where
   abbrev places : Versions
   places = table_places parent
 
@@ -53,20 +55,32 @@ module _ (parent : Option Versions) (it : Snapshot) (frames : List (Option Frame
   old_kept = kept_value places it
 
   abbrev new_kept : Kept
-  new_kept = kept_value places (with_own places it)
+  new_kept = kept_value places (with_own (table_of parent) it)
 
   abbrev before : CellView
   before = cell_value parent (Some it) frames
 
   abbrev after : CellView
-  after = cell_value parent (Some (with_own places it)) frames
+  after = cell_value parent (Some (with_own (table_of parent) it)) frames
 
-  pub inside-owned : AreInside parent (Some it) frames → AreInside parent (Some (with_own places it)) frames
-  inside-owned inside = inside-own parent (Some it) frames (with_own places it) inside (ap (snapshot_places no_versions) leaf) refl
+  pub inside-owned : AreInside parent (Some it) frames → table_writable parent ≡ none_writable → AreInside parent (Some (with_own (table_of parent) it)) frames
+  inside-owned inside none = inside-own parent (Some it) frames (with_own (table_of parent) it) inside (ap (snapshot_places no_versions) leaf) refl none
 
   -- the same pages as before
   same_places : old_kept.versions ≡ places
   same_places = ap (snapshot_places places) leaf
+
+  -- the cell as contracts see it, where no page may be written to any more
+  pub owned-view : table_writable parent ≡ none_writable → after ≡ record before { leaves = with_leaf_where (is_number n) Own before.leaves; writable = none_writable }
+  owned-view none = λ i. record {
+    leaves = record { parent = places; kept = kept_after i };
+    frames = frames;
+    writable = none i;
+  }
+    where
+      kept_after : new_kept ∷ [] ≡ with_leaf (is_number n) Own (old_kept ∷ [])
+      kept_after = (λ i. record { number = it.number; mode = it.mode; versions = sym same_places i; leaf = Own } ∷ [])
+          ∙ sym (ap (λ b. cond b (record old_kept { leaf = Own }) old_kept ∷ []) (ap (λ x. x == n) number ∙ eqb-refl n))
 
   module _ (account : CellAccount) (stands : StandsFor before account) where
     abbrev leaves_then : CellLeaves

@@ -1,5 +1,6 @@
 pub mod TableWords
 pub mod AbsentPages
+pub mod WritablePages
 pub mod NewCell
 pub mod Renamed
 pub mod Alike
@@ -25,6 +26,8 @@ pub mod Touched
 pub mod SameReads
 pub mod Without
 pub mod ClearMade
+pub mod WritableViews
+pub mod AllowedPages
 pub mod ProtectMade
 pub mod LeafLost
 pub mod LeafOwned

@@ -7,6 +7,7 @@ use Rattle.kernel_meaning.specs.Leaves.{Versions, no_versions, version_at, pairs
 use Rattle.leaf_cell.specs.declared.snapshot.Snapshot.{Snapshot}
 use Rattle.leaf_cell.specs.declared.snapshot.SnapshotLeaf.{SnapshotLeaf}
 use Rattle.leaf_cell.specs.declared.snapshot.SnapshotLeaf.TheVariants as code
+use Rattle.leaf_cell.specs.Places.{TableView}
 use Rattle.leaf_cell.specs.Inside.{AreInside, IsPlaceOf, table_places, own_places, snapshot_places, leaf_value, cell_value}
 use Rattle.leaf_cell.specs.Renaming.{IsNamedBy, IsLive}
 use Rattle.leaf_cell.proofs.NewCell.{none_is_not_some}
@@ -95,7 +96,7 @@ page-of-place q small = elim (cases_lt q 512) [
 ]
 
 -- what the own table names lives
-own-live : (parent : Option Versions) (snapshot : Option Snapshot) (frames : List (Option FrameView)) (p q : ℕ) → version_at (own_places snapshot) p ≡ Some q → IsLive (cell_value parent snapshot frames).leaves p q
+own-live : (parent : Option TableView) (snapshot : Option Snapshot) (frames : List (Option FrameView)) (p q : ℕ) → version_at (own_places snapshot) p ≡ Some q → IsLive (cell_value parent snapshot frames).leaves p q
 own-live parent None frames p q named = none_is_not_some (version_at no_versions p) q (version_at-none p) named
 own-live parent (Some it) frames p q named = inr (inl (by it.leaf named))
   where
@@ -105,19 +106,19 @@ own-live parent (Some it) frames p q named = inr (inl (by it.leaf named))
     by (code.Lost at) named = none_is_not_some (version_at no_versions p) q (version_at-none p) named
 
 -- what lives is at one of the 512 pages
-leaf_below : (parent : Option Versions) (leaf : SnapshotLeaf) (p q : ℕ) → length (table_places parent) ≡ 512 → length (snapshot_places no_versions leaf) ≡ 512 → is_lost (leaf_value leaf) ≡ false
+leaf_below : (parent : Option TableView) (leaf : SnapshotLeaf) (p q : ℕ) → length (table_places parent) ≡ 512 → length (snapshot_places no_versions leaf) ≡ 512 → is_lost (leaf_value leaf) ≡ false
     → version_at (snapshot_places (table_places parent) leaf) p ≡ Some q → p < 512
-leaf_below parent (code.Own table) p q size own unlost there = page_below table p q own there
+leaf_below parent (code.Own table) p q size own unlost there = page_below table.places p q own there
 leaf_below parent code.Joined p q size own unlost there = page_below (table_places parent) p q size there
 leaf_below parent (code.Lost at) p q size own unlost there = absurd (false≢true (sym unlost))
 
-below : (parent : Option Versions) (snapshot : Option Snapshot) (frames : List (Option FrameView)) → AreInside parent snapshot frames → (p q : ℕ) → IsLive (cell_value parent snapshot frames).leaves p q → p < 512
+below : (parent : Option TableView) (snapshot : Option Snapshot) (frames : List (Option FrameView)) → AreInside parent snapshot frames → (p q : ℕ) → IsLive (cell_value parent snapshot frames).leaves p q → p < 512
 below parent snapshot frames inside p q (inl there) = page_below (table_places parent) p q inside.parent_size there
 below parent None frames inside p q (inr named) = absurd named
 below parent (Some it) frames inside p q (inr (inl named)) = leaf_below parent it.leaf p q inside.parent_size inside.own_size named.0 named.1
 below parent (Some it) frames inside p q (inr (inr named)) = absurd named
 
-module _ (parent : Option Versions) (snapshot : Option Snapshot) (frames : List (Option FrameView)) (inside : AreInside parent snapshot frames) where
+module _ (parent : Option TableView) (snapshot : Option Snapshot) (frames : List (Option FrameView)) (inside : AreInside parent snapshot frames) where
   live_of : (x : ℕ × ℕ) → IsIn x (named_pairs (cell_value parent snapshot frames).leaves) → IsLive (cell_value parent snapshot frames).leaves x.0 x.1
   live_of x h = in-live (cell_value parent snapshot frames).leaves x (from-distinct x (all_pairs (cell_value parent snapshot frames).leaves) h)
 

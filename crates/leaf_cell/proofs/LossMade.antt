@@ -14,6 +14,7 @@ use Rattle.kernel_meaning.specs.Leaves.{Versions, no_versions, version_at, is_lo
 use Rattle.kernel_meaning.specs.CellActs.{Course, opening_course, asking, coming_answer, page_copy_answered, with_leaf_where, touched}
 use Rattle.kernel_meaning.specs.CellAccount.{Touch, CellAccount}
 use Rattle.leaf_cell.specs.declared.snapshot.Snapshot.{Snapshot}
+use Rattle.leaf_cell.specs.Places.{TableView}
 use Rattle.leaf_cell.specs.CellView.{CellView, AreUnjoined, bytes_in}
 use Rattle.leaf_cell.specs.Inside.{AreInside, table_places, snapshot_places, leaf_value, kept_value, kept_values, cell_value}
 use Rattle.leaf_cell.specs.Losing.{lost_at}
@@ -78,7 +79,7 @@ or-false : (a : Bool) → (a || false) ≡ a
 or-false true = refl
 or-false false = refl
 
-module _ {State : Type 0} (goes : State → Deal → State → Type 0) (from to : State) (parent : Option Versions) (it : Snapshot) (frames new : List (Option FrameView)) (at : ℕ)
+module _ {State : Type 0} (goes : State → Deal → State → Type 0) (from to : State) (parent : Option TableView) (it : Snapshot) (frames new : List (Option FrameView)) (at : ℕ)
     (inside : AreInside parent (Some it) frames)
     (released : IsLeafReleased goes from to (snapshot_places no_versions it.leaf) (table_places parent) (own_if (leaf_value it.leaf)) frames new) where
   -- the order of a cell that a snapshot has lost
@@ -93,6 +94,7 @@ module _ {State : Type 0} (goes : State → Deal → State → Type 0) (from to 
         used = gone.used;
         parent_size = gone.parent_size;
         own_size = gone.own_size;
+        writable = gone.writable;
       }
 
   -- as many frames go back as the share shrinks by

@@ -1,6 +1,6 @@
 -- A cell that nobody has is in order, and stands for the empty account.
 use Rattle.std.proofs.Common.{◌≡◌, ℕ, List, length, replicate, Option, Some, None, refl, sym, ◌∙◌, ap, inl, inr}
-use Rattle.std.specs.Prelude.{is_some, IsSome, slice_index_or}
+use Rattle.std.specs.Prelude.{is_some, IsSome, Bool, false, slice_index_or}
 use Rattle.std.proofs.lemmas.Bool.{false≢true, cases_lt}
 use Rattle.std.proofs.lemmas.List.{get_or-replicate, get_or_past, length-replicate}
 use Rattle.std.specs.Ordering.{nat_cmp}
@@ -13,6 +13,7 @@ use Rattle.leaf_cell.specs.Inside.{AreInside, AreAtHome}
 use Rattle.leaf_cell.specs.Renaming.{renamed, IsLive}
 use Rattle.leaf_cell.specs.Standing.{StandsFor}
 use Rattle.leaf_cell.proofs.AbsentPages.{version_at-none}
+use Rattle.leaf_cell.proofs.WritablePages.{never-writable}
 
 -- nothing is something
 pub none_is_some : {X P : Type 0} (o : Option X) → o ≡ None → IsSome o → P
@@ -41,9 +42,10 @@ inside_new frames is = record {
   parent_home = none_at_home frames;
   own_home = none_at_home frames;
   named = λ page place small home there. none_is_some (slice_index_or frames place None) (ap (λ fs. slice_index_or fs place None) is ∙ no_frame place) there;
-  used = λ places e. absurd (false≢true (ap is_some e));
+  used = λ table e. absurd (false≢true (ap is_some e));
   parent_size = length-replicate {A = Option ℕ} 512 None;
   own_size = length-replicate {A = Option ℕ} 512 None;
+  writable = record { size = length-replicate {A = Bool} 512 false; apart = λ page may. absurd (false≢true (sym (never-writable page) ∙ may)) };
 }
 
 -- no version lives in a cell that nobody has

@@ -40,13 +40,13 @@ bytes-set frames place frame (Some q) empty filled = elim (cases_eq q place) [
   | inr apart ↦ ap (option_map (λ f. f.bytes)) (get_or-set_other frames place q frame None apart)
 ]
 
-module _ (view : CellView) (account : CellAccount) (page version place made : ℕ) (frame : FrameView) (pages : PageMap)
+module _ (view : CellView) (account : CellAccount) (page version place made : ℕ) (frame : FrameView) (writable : List Bool) (pages : PageMap)
     (stands : StandsFor view account) (small : page < 512) (size : length view.leaves.parent ≡ 512)
     (filled : AreFilled view) (empty : slice_index_or view.frames place None ≡ None) (room : place < length view.frames)
     (above : account.made < version) (within : version ≤ made)
     (here : get pages page ≡ Some frame.bytes) (others : (p : ℕ) → p ≢ page → get pages p ≡ get account.state.pages p) where
   abbrev pub view_then : CellView
-  view_then = record { leaves = with_parent_version page place view.leaves; frames = slice_set view.frames place (Some frame) }
+  view_then = record { leaves = with_parent_version page place view.leaves; frames = slice_set view.frames place (Some frame); writable = writable }
 
   abbrev pub account_then : CellAccount
   account_then = record {

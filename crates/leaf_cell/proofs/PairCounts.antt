@@ -18,7 +18,7 @@ abbrev pub AreOnce : List (ℕ × ℕ) → Type 0
 AreOnce [] = Unit {0}
 AreOnce (x ∷ xs) = (IsIn x xs → ⊥) × AreOnce xs
 
-eqb-true : (a b : ℕ) → (a == b) ≡ true → a ≡ b
+pub eqb-true : (a b : ℕ) → (a == b) ≡ true → a ≡ b
 eqb-true a b h = elim (cases_eq a b) [ inl same ↦ same | inr apart ↦ absurd (false≢true (sym (ne_eqb a b apart) ∙ h)) ]
 
 pub same-pair : (x y : ℕ × ℕ) → is_same_pair x y ≡ true → x ≡ y

@@ -26,7 +26,7 @@ same_some : (x y : ℕ) → ◌≡◌ {A = Option ℕ} (Some x) (Some y) → x �
 same_some x y e = ap (λ o. unwrap_or o x) e
 
 -- an own leaf is not lost
-own_unlost : (leaf : Leaf) → is_own leaf ≡ true → is_lost leaf ≡ false
+pub own_unlost : (leaf : Leaf) → is_own leaf ≡ true → is_lost leaf ≡ false
 own_unlost Own h = refl
 own_unlost Joined h = refl
 own_unlost (Lost at) h = absurd (false≢true h)
@@ -109,16 +109,16 @@ module _ (view : CellView) (page place : ℕ) (small : page < 512) (there : vers
       refl refl
 
   -- a snapshot names it and the frame is granted: the page gets a version of its own
-  pub touch-copied : (to : ℕ) (frame : FrameView) → length view.leaves.parent ≡ 512 → AreFilled view → slice_index_or view.frames to None ≡ None → to < length view.frames
+  pub touch-copied : (to : ℕ) (frame : FrameView) (writable : List Bool) → length view.leaves.parent ≡ 512 → AreFilled view → slice_index_or view.frames to None ≡ None → to < length view.frames
       → is_named view.leaves page place ≡ true → bytes_in view.frames (Some place) ≡ Some frame.bytes
-      → TakesAccount (Touch page) view (record { leaves = with_parent_version page to view.leaves; frames = slice_set view.frames to (Some frame) }) (Granted want.Page ∷ []) None account
-  touch-copied to frame size filled empty room named bytes =
+      → TakesAccount (Touch page) view (record { leaves = with_parent_version page to view.leaves; frames = slice_set view.frames to (Some frame); writable = writable }) (Granted want.Page ∷ []) None account
+  touch-copied to frame writable size filled empty room named bytes =
       let course : Course = opening_course account.state.leaves (opening_requests account.made (Yes ∷ [])) in
-      let next : CellView = record { leaves = with_parent_version page to view.leaves; frames = slice_set view.frames to (Some frame) } in
+      let next : CellView = record { leaves = with_parent_version page to view.leaves; frames = slice_set view.frames to (Some frame); writable = writable } in
       let kept_pages : with_page account.state.pages page ≡ account.state.pages = with_page_there account.state.pages page (ap is_some (page_there (Some frame.bytes) bytes)) in
       takes-by (Touch page) view next (Granted want.Page ∷ []) None account (page_copy_answered page meant.version Yes (asking want.Page course))
       (touched-present page course (meant-unjoined view account stands unjoined) meant.version meant.there
       ∙ ap (λ b. cond b (page_copy_answered page meant.version (coming_answer course) (asking want.Page course)) course) (same_named ∙ named))
-      (stands-new_version view account page (account.made + 1) to (account.made + 1) frame (with_page account.state.pages page) stands small size filled empty room (omega arith) (omega arith)
+      (stands-new_version view account page (account.made + 1) to (account.made + 1) frame writable (with_page account.state.pages page) stands small size filled empty room (omega arith) (omega arith)
       (ap (λ m. get m page) kept_pages ∙ page_there (Some frame.bytes) bytes) (λ p apart. ap (λ m. get m p) kept_pages))
       refl refl

@@ -1,15 +1,18 @@
 -- A page that is put at a place of its own keeps the order of a cell.
 use Rattle.std.proofs.Common.{◌≡◌, ◌≢◌, ℕ, ◌+◌, ◌<◌, List, length, Option, Some, None, sym, ◌∙◌, ap, subst, arith, inl, inr, ◌⊎◌}
-use Rattle.std.specs.Prelude.{is_some, IsSome, true, slice_set, slice_index_or, count_by}
+use Rattle.std.specs.Prelude.{is_some, IsSome, true, false, slice_set, slice_index_or, count_by}
 use Rattle.std.proofs.lemmas.Bool.{cases_eq}
 use Rattle.std.proofs.lemmas.List.{get_or-set_same, get_or-set_other, length-set}
 use Rattle.vm_base.specs.Frames.{FrameView}
-use Rattle.kernel_meaning.specs.Leaves.{Versions, version_at, with_version, has_pages}
+use Rattle.kernel_meaning.specs.Leaves.{version_at, with_version, has_pages}
 use Rattle.leaf_cell.specs.declared.snapshot.Snapshot.{Snapshot}
-use Rattle.leaf_cell.specs.Inside.{AreInside, AreAtHome, IsPlaceOf, table_places, own_places}
+use Rattle.leaf_cell.specs.Writable.{writable_at}
+use Rattle.leaf_cell.specs.Places.{TableView}
+use Rattle.leaf_cell.specs.Inside.{AreInside, AreAtHome, IsPlaceOf, table_places, table_writable, own_places, is_apart}
 use Rattle.leaf_cell.specs.Adding.{IsPut}
 use Rattle.leaf_cell.proofs.NewCell.{none_is_some}
-use Rattle.leaf_cell.proofs.InsideFacts.{same_some, has_pages-there, count-filled}
+use Rattle.leaf_cell.proofs.InsideFacts.{same_some, own_filled, has_pages-there, count-filled}
+use Rattle.leaf_cell.proofs.WritablePages.{apart-is, apart-same}
 
 -- two pages of one place are one
 pub one_page : (p page place : ℕ) → p < 512 → page < 512 → IsPlaceOf p place → IsPlaceOf page place → p ≡ page
@@ -22,8 +25,8 @@ pub place_room : (page place : ℕ) → page < 512 → IsPlaceOf page place → 
 place_room page place small (inl x) = omega (arith, small, x)
 place_room page place small (inr x) = omega (arith, small, x)
 
-module _ (parent : Option Versions) (snapshot : Option Snapshot) (frames : List (Option FrameView)) (inside : AreInside parent snapshot frames)
-    (next : Option Versions) (new : List (Option FrameView)) (bytes : List ℕ) (page : ℕ) (small : page < 512)
+module _ (parent : Option TableView) (snapshot : Option Snapshot) (frames : List (Option FrameView)) (inside : AreInside parent snapshot frames)
+    (next : Option TableView) (new : List (Option FrameView)) (bytes : List ℕ) (page : ℕ) (small : page < 512)
     (put : IsPut bytes page (table_places parent) frames (table_places next) new) (there : is_some next ≡ true)
     (left : (q : ℕ) → version_at (table_places parent) page ≡ Some q → version_at (own_places snapshot) page ≡ Some q) where
   pub room : put.place < length frames
@@ -86,15 +89,26 @@ module _ (parent : Option Versions) (snapshot : Option Snapshot) (frames : List 
     ]
   ]
 
-  pub inside_put : AreInside next snapshot new
-  inside_put = record {
+  -- the page may be written to, and the others that might
+  new_apart : table_writable next ≡ slice_set (table_writable parent) page true → (p : ℕ) → writable_at (table_writable next) p ≡ true → is_apart (own_places snapshot) (table_places next) p ≡ true
+  new_apart set p may = elim (cases_eq p page) [
+    | inl same ↦ ap (is_apart (own_places snapshot) (table_places next)) same
+        ∙ apart-is (own_places snapshot) (table_places next) page put.place table_here
+        (λ own. none_is_some (slice_index_or frames put.place None) put.free (own_filled parent snapshot frames inside page put.place own))
+    | inr other ↦ apart-same (own_places snapshot) (table_places next) (table_places parent) p (table_apart p other)
+        ∙ inside.writable.apart p (sym (ap (λ ws. writable_at ws p) set ∙ get_or-set_other (table_writable parent) page p true false other) ∙ may)
+  ]
+
+  pub inside_put : table_writable next ≡ slice_set (table_writable parent) page true → AreInside next snapshot new
+  inside_put set = record {
     room = ap length put.frames ∙ length-set frames put.place (Some put.frame) ∙ inside.room;
     parent_home = new_parent_home;
     own_home = new_own_home;
     named = new_named;
-    used = λ places is. has_pages-there places page put.place (ap (λ o. version_at (table_places o) page) (sym is) ∙ table_here);
+    used = λ table is. has_pages-there table.places page put.place (ap (λ o. version_at (table_places o) page) (sym is) ∙ table_here);
     parent_size = ap length put.named ∙ length-set (table_places parent) page (Some put.place) ∙ inside.parent_size;
     own_size = inside.own_size;
+    writable = record { size = ap length set ∙ length-set (table_writable parent) page true ∙ inside.writable.size; apart = new_apart set };
   }
 
   pub count_put : count_by is_some new ≡ count_by is_some frames + 1

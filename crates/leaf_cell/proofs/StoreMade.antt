@@ -12,11 +12,12 @@ use Rattle.vm_base.specs.FlatMemory.{PageMap, spliced}
 use Rattle.vm_base.specs.FlatStep.{with_bytes}
 use Rattle.vm_base.proofs.FlatPages.{with_bytes_in}
 use Rattle.vm_base.proofs.NumberedMaps.{get_inserted_here, get_inserted_apart}
-use Rattle.kernel_meaning.specs.Leaves.{Versions, no_versions, version_at, is_lost, Kept, kept_by}
+use Rattle.kernel_meaning.specs.Leaves.{no_versions, version_at, is_lost, Kept, kept_by}
 use Rattle.kernel_meaning.specs.CellAccount.{Store, CellAccount}
 use Rattle.leaf_cell.specs.declared.snapshot.Snapshot.{Snapshot}
 use Rattle.leaf_cell.specs.declared.snapshot.SnapshotLeaf.{SnapshotLeaf}
 use Rattle.leaf_cell.specs.declared.snapshot.SnapshotLeaf.TheVariants as code
+use Rattle.leaf_cell.specs.Places.{TableView}
 use Rattle.leaf_cell.specs.CellView.{bytes_in}
 use Rattle.leaf_cell.specs.Inside.{AreInside, IsPlaceOf, table_places, own_places, snapshot_places, leaf_value, cell_value}
 use Rattle.leaf_cell.specs.Adding.{stored_in, IsWholeFrame}
@@ -27,19 +28,19 @@ use Rattle.leaf_cell.proofs.InsideFacts.{page_below, parent_filled}
 use Rattle.leaf_cell.proofs.PutPage.{one_page}
 
 -- each place that lives is one of its page's own
-leaf_home : (parent : Option Versions) (frames : List (Option FrameView)) (leaf : SnapshotLeaf) (page place : ℕ) → ((q : ℕ) → version_at (snapshot_places no_versions leaf) page ≡ Some q → IsPlaceOf page q)
+leaf_home : (parent : Option TableView) (frames : List (Option FrameView)) (leaf : SnapshotLeaf) (page place : ℕ) → ((q : ℕ) → version_at (snapshot_places no_versions leaf) page ≡ Some q → IsPlaceOf page q)
     → ((q : ℕ) → version_at (table_places parent) page ≡ Some q → IsPlaceOf page q) → is_lost (leaf_value leaf) ≡ false → version_at (snapshot_places (table_places parent) leaf) page ≡ Some place → IsPlaceOf page place
 leaf_home parent frames (code.Own table) page place own tables unlost there = own place there
 leaf_home parent frames code.Joined page place own tables unlost there = tables place there
 leaf_home parent frames (code.Lost at) page place own tables unlost there = absurd (false≢true (sym unlost))
 
-parent_place : (parent : Option Versions) (snapshot : Option Snapshot) (frames : List (Option FrameView)) → AreInside parent snapshot frames → (page place : ℕ) → version_at (table_places parent) page ≡ Some place → IsPlaceOf page place
+parent_place : (parent : Option TableView) (snapshot : Option Snapshot) (frames : List (Option FrameView)) → AreInside parent snapshot frames → (page place : ℕ) → version_at (table_places parent) page ≡ Some place → IsPlaceOf page place
 parent_place parent snapshot frames inside page place there = (inside.parent_home page place (page_below (table_places parent) page place inside.parent_size there) there).0
 
-own_place : (parent : Option Versions) (snapshot : Option Snapshot) (frames : List (Option FrameView)) → AreInside parent snapshot frames → (page place : ℕ) → version_at (own_places snapshot) page ≡ Some place → IsPlaceOf page place
+own_place : (parent : Option TableView) (snapshot : Option Snapshot) (frames : List (Option FrameView)) → AreInside parent snapshot frames → (page place : ℕ) → version_at (own_places snapshot) page ≡ Some place → IsPlaceOf page place
 own_place parent snapshot frames inside page place there = (inside.own_home page place (page_below (own_places snapshot) page place inside.own_size there) there).0
 
-pub at_home : (parent : Option Versions) (snapshot : Option Snapshot) (frames : List (Option FrameView)) → AreInside parent snapshot frames
+pub at_home : (parent : Option TableView) (snapshot : Option Snapshot) (frames : List (Option FrameView)) → AreInside parent snapshot frames
     → (page place : ℕ) → IsLive (cell_value parent snapshot frames).leaves page place → IsPlaceOf page place
 at_home parent snapshot frames inside page place (inl there) = parent_place parent snapshot frames inside page place there
 at_home parent None frames inside page place (inr named) = absurd named
@@ -72,7 +73,7 @@ stored-apart pages page at old (b ∷ bytes) there whole room p apart =
     ap (λ m. get m p) (with_bytes_in pages (page * 4096 + at) (b ∷ bytes) old (ap (get pages) in_page ∙ there) whole (rw in_place room))
     ∙ get_inserted_apart pages (page_of (page * 4096 + at)) (spliced old (offset_of (page * 4096 + at)) (b ∷ bytes)) p (λ e. apart (e ∙ in_page))
 
-pub place-below : (parent : Option Versions) (snapshot : Option Snapshot) (frames : List (Option FrameView)) → AreInside parent snapshot frames
+pub place-below : (parent : Option TableView) (snapshot : Option Snapshot) (frames : List (Option FrameView)) → AreInside parent snapshot frames
     → (page place : ℕ) → page < 512 → version_at (table_places parent) page ≡ Some place → place < length frames
 place-below parent snapshot frames inside page place small there = elim (parent_place parent snapshot frames inside page place there) [
   | inl x ↦ omega (arith, small, x, inside.room)
@@ -83,7 +84,7 @@ still_some : (o : Option FrameView) (at : ℕ) (bytes : List ℕ) → is_some (s
 still_some None at bytes = refl
 still_some (Some frame) at bytes = refl
 
-module _ (parent : Option Versions) (snapshot : Option Snapshot) (frames : List (Option FrameView)) (inside : AreInside parent snapshot frames) (page place at : ℕ) (bytes : List ℕ)
+module _ (parent : Option TableView) (snapshot : Option Snapshot) (frames : List (Option FrameView)) (inside : AreInside parent snapshot frames) (page place at : ℕ) (bytes : List ℕ)
     (small : page < 512) (there : version_at (table_places parent) page ≡ Some place) (room : at + length bytes ≤ 4096)
     (whole : IsWholeFrame (slice_index_or frames place None)) (new : List (Option FrameView))
     (stored : new ≡ slice_set frames place (stored_in (slice_index_or frames place None) at bytes)) where
@@ -114,6 +115,7 @@ module _ (parent : Option Versions) (snapshot : Option Snapshot) (frames : List 
     used = inside.used;
     parent_size = inside.parent_size;
     own_size = inside.own_size;
+    writable = inside.writable;
   }
 
   -- as many frames

@@ -1,6 +1,6 @@
 -- The words of a table, and the places that they hold.
 use Rattle.std.proofs.Common.{◌≡◌, ◌≢◌, ℕ, zero, suc, ◌+◌, ◌-◌, ◌*◌, ◌^◌, ◌<◌, ◌≤◌, List, [], ◌∷◌, ◌++◌, length, take, drop, replicate, get_or, Option, Some, None, refl, sym, ◌∙◌, ap, arith, inl, inr, ◌⊎◌, append_assoc}
-use Rattle.std.specs.Prelude.{slice_set, slice_index, cond, Bool, true, false}
+use Rattle.std.specs.Prelude.{slice_set, slice_index, cond, Bool, true, false, ◌==◌, bit_and}
 use Rattle.std.proofs.Math.ListN.{get_or-append}
 use Rattle.std.proofs.Math.Seq.{get_or-append_right, drop-append_seam}
 use Rattle.std.proofs.lemmas.Bool.{cases_eq, cases_lt, ne_eqb}
@@ -10,8 +10,11 @@ use Rattle.byteorder.specs.Endian.{little_from, little_number, little_bytes}
 use Rattle.byteorder.specs.Numbers.{little_number-reads_back, length-bytes_low_first}
 use Rattle.vm_base.specs.Entries.{entry_of, number_of}
 use Rattle.vm_base.specs.FlatMemory.{spliced, zero_page}
+use Rattle.vm_base.proofs.EntryLemmas.{bits_of-entry}
 use Rattle.kernel_meaning.specs.Leaves.{no_versions, version_at, without_versions}
-use Rattle.leaf_cell.specs.Places.{word_at, with_word, without_words, place_in, places_of}
+use Rattle.leaf_cell.specs.Places.{word_at, with_word, without_words, place_in, places_of, may_write, writable_of}
+use Rattle.leaf_cell.specs.Writable.{none_writable, writable_at, without_writable}
+use Rattle.leaf_cell.proofs.WritablePages.{beyond-within, beyond-outside, with_writable-is}
 use Rattle.leaf_cell.proofs.Without.{in-or-out, length-without, without-within, without-outside}
 
 -- a number depends on its bytes alone
@@ -104,6 +107,33 @@ places_of-with_word bytes page word whole small fits = sym (filled (with_word by
           ∙ sym (ap place_in (word_at-apart bytes page word k whole small below apart))
     ]))
 
+-- whether a page may be written to, as a table tells
+pub writable_at-writable_of : (bytes : List ℕ) (page : ℕ) → page < 512 → writable_at (writable_of bytes) page ≡ may_write (word_at bytes page)
+unfolding writable_of
+writable_at-writable_of bytes page small = get_or-map-range_with_len (λ i. may_write (word_at bytes i)) 0 512 page page false small (omega arith)
+
+pub length-writable_of : (bytes : List ℕ) → length (writable_of bytes) ≡ 512
+unfolding writable_of
+length-writable_of bytes = length-map-range_with_len (λ i. may_write (word_at bytes i)) 0 512
+
+-- a list that tells of each page what a table tells is that of the table
+told : (bytes : List ℕ) (writable : List Bool) → length writable ≡ 512 → ((page : ℕ) → page < 512 → writable_at writable page ≡ may_write (word_at bytes page)) → writable ≡ writable_of bytes
+unfolding writable_of
+told bytes writable size each = fill_by_all (λ i. may_write (word_at bytes i)) writable 512 false size each
+
+-- a word that was put changes it for its page alone
+pub writable_of-with_word : (bytes : List ℕ) (page word : ℕ) → length bytes ≡ 4096 → page < 512 → word < 2 ^ 64 → writable_of (with_word bytes page word) ≡ slice_set (writable_of bytes) page (may_write word)
+writable_of-with_word bytes page word whole small fits = sym (told (with_word bytes page word) (slice_set (writable_of bytes) page (may_write word))
+    (length-set (writable_of bytes) page (may_write word) ∙ length-writable_of bytes)
+    (λ k below. elim (cases_eq k page) [
+      | inl here ↦ ap (λ i. get_or (slice_set (writable_of bytes) page (may_write word)) i false) here
+          ∙ get_or-set_same (writable_of bytes) page (may_write word) false (rw (length-writable_of bytes) small)
+          ∙ sym (ap (λ i. may_write (word_at (with_word bytes page word) i)) here ∙ ap may_write (word_at-here bytes page word whole small fits))
+      | inr apart ↦ get_or-set_other (writable_of bytes) page k (may_write word) false apart
+          ∙ writable_at-writable_of bytes k below
+          ∙ sym (ap may_write (word_at-apart bytes page word k whole small below apart))
+    ]))
+
 -- zeros hold no place
 zero_byte : (i : ℕ) → slice_index zero_page i ≡ 0
 zero_byte i = elim (cases_lt i 4096) [
@@ -116,6 +146,9 @@ zero_word i = little_from-same (drop (8 * i) zero_page) [] 0 8 (λ j above below
 
 pub places_of-zeros : places_of zero_page ≡ no_versions
 places_of-zeros = sym (filled zero_page no_versions (length-replicate {A = Option ℕ} 512 None) (λ page small. get_or-replicate 512 page None None small ∙ sym (ap place_in (zero_word page))))
+
+pub writable_of-zeros : writable_of zero_page ≡ none_writable
+writable_of-zeros = sym (told zero_page none_writable (length-replicate {A = Bool} 512 false) (λ page small. get_or-replicate 512 page false false small ∙ sym (ap may_write (zero_word page))))
 
 module _ (bytes : List ℕ) (first n : ℕ) (whole : length bytes ≡ 4096) (range : first + n ≤ 512) where
   zeros : List ℕ
@@ -154,6 +187,16 @@ module _ (bytes : List ℕ) (first n : ℕ) (whole : length bytes ≡ 4096) (ran
         | inr outside ↦ without-outside (places_of bytes) first n room k outside ∙ version_at-places_of bytes k small ∙ sym (ap place_in (word_at-left k small outside))
       ]))
 
+  pub writable_of-without_words : writable_of (without_words bytes first n) ≡ without_writable first n (writable_of bytes)
+  unfolding zeros
+  writable_of-without_words = with_writable-is (λ page. false) first n (writable_of bytes) (writable_of (without_words bytes first n)) (length-writable_of (without_words bytes first n))
+      (λ k small. writable_at-writable_of (without_words bytes first n) k small ∙ elim (in-or-out first n k) [
+        | inl within ↦ ap may_write (word_at-zeroed k within.0 within.1)
+            ∙ sym (ap (λ b. cond b (writable_at (writable_of bytes) k) false) (beyond-within first n k within.0 within.1))
+        | inr outside ↦ ap may_write (word_at-left k small outside) ∙ sym (writable_at-writable_of bytes k small)
+            ∙ sym (ap (λ b. cond b (writable_at (writable_of bytes) k) false) (beyond-outside first n k outside))
+      ])
+
 -- the entry of a place is not 0, and holds the place
 pub place_in-entry : (word place : ℕ) → word ≡ entry_of place 1 → number_of word ≡ place → place_in word ≡ Some place
 place_in-entry word place is number =
@@ -166,6 +209,11 @@ place_in-present word place true is number =
     let not_zero : word ≡ 0 → ⊥ = λ zero. absurd (omega (arith, is, zero)) in
     ap (λ b. cond b None (Some (number_of word))) (ne_eqb word 0 not_zero) ∙ ap Some number
 place_in-present word place false is number = place_in-entry word place is number
+
+-- an entry with the bits of a present page tells what they tell
+pub may_write-present : (word place : ℕ) (may : Bool) → word ≡ entry_of place (cond may 3 1) → may_write word ≡ may
+may_write-present word place true is = ap may_write is ∙ ap (λ bits. bit_and bits 2 == 2) (bits_of-entry place 3)
+may_write-present word place false is = ap may_write is ∙ ap (λ bits. bit_and bits 2 == 2) (bits_of-entry place 1)
 
 -- a table with the place at a page that it has there is as it was
 pub same-place : (places : List (Option ℕ)) (page place : ℕ) → version_at places page ≡ Some place → slice_set places page (Some place) ≡ places

@@ -1,6 +1,6 @@
 -- A touch takes each account that a cell stands for to the account with that touch.
 use Rattle.std.proofs.Common.{◌≡◌, ◌≢◌, ℕ, ◌+◌, ◌<◌, ◌≤◌, List, [], ◌∷◌, length, Option, Some, None, refl, sym, ◌∙◌, ap, subst, arith}
-use Rattle.std.specs.Prelude.{is_some, true, false, slice_set, slice_index_or}
+use Rattle.std.specs.Prelude.{Bool, is_some, true, false, slice_set, slice_index_or}
 use Rattle.std.specs.Option.{option_map}
 use Rattle.std.specs.FinMap.{get}
 use Rattle.std.proofs.lemmas.Bool.{false≢true}
@@ -57,7 +57,7 @@ zeros_here pages page absent = ap (λ m. get m page) (with_page_absent pages pag
 zeros_apart : (pages : PageMap) (page p : ℕ) → get pages page ≡ None → p ≢ page → get (with_page pages page) p ≡ get pages p
 zeros_apart pages page p absent apart = ap (λ m. get m p) (with_page_absent pages page (ap is_some absent)) ∙ get_inserted_apart pages page zero_page p apart
 
-module _ (view : CellView) (page place : ℕ) (frame : FrameView) (small : page < 512) (size : length view.leaves.parent ≡ 512)
+module _ (view : CellView) (page place : ℕ) (frame : FrameView) (writable : List Bool) (small : page < 512) (size : length view.leaves.parent ≡ 512)
     (filled : AreFilled view) (empty : slice_index_or view.frames place None ≡ None) (room : place < length view.frames)
     (absent : version_at view.leaves.parent page ≡ None) (unjoined : AreUnjoined view.leaves.kept) (zeros : frame.bytes ≡ zero_page)
     (account : CellAccount) (stands : StandsFor view account) where
@@ -65,13 +65,13 @@ module _ (view : CellView) (page place : ℕ) (frame : FrameView) (small : page 
   no_page = sym (stands.pages page small) ∙ ap (bytes_in view.frames) absent
 
   abbrev next_view : CellView
-  next_view = record { leaves = with_parent_version page place view.leaves; frames = slice_set view.frames place (Some frame) }
+  next_view = record { leaves = with_parent_version page place view.leaves; frames = slice_set view.frames place (Some frame); writable = writable }
 
   stands_next : (version : ℕ) → account.made < version → StandsFor next_view (record {
     state = record { leaves = with_parent_version page version account.state.leaves; pages = with_page account.state.pages page; snapshots = account.state.snapshots };
     made = version;
   })
-  stands_next version above = stands-new_version view account page version place version frame (with_page account.state.pages page) stands small size filled empty room above (omega arith)
+  stands_next version above = stands-new_version view account page version place version frame writable (with_page account.state.pages page) stands small size filled empty room above (omega arith)
       (zeros_here account.state.pages page no_page ∙ ap Some (sym zeros)) (λ p apart. zeros_apart account.state.pages page p no_page apart)
 
   begun : List Answer → Course

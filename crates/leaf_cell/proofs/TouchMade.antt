@@ -13,8 +13,9 @@ use Rattle.kernel_meaning.specs.CellAccount.{Touch}
 use Rattle.leaf_cell.specs.declared.snapshot.Snapshot.{Snapshot}
 use Rattle.leaf_cell.specs.declared.snapshot.SnapshotLeaf.{SnapshotLeaf}
 use Rattle.leaf_cell.specs.declared.snapshot.SnapshotLeaf.TheVariants as code
+use Rattle.leaf_cell.specs.Places.{TableView}
 use Rattle.leaf_cell.specs.CellView.{CellView, AreUnjoined, held_of}
-use Rattle.leaf_cell.specs.Inside.{AreInside, table_places, own_places, snapshot_places, leaf_value, kept_values, cell_value}
+use Rattle.leaf_cell.specs.Inside.{AreInside, table_places, table_writable, own_places, snapshot_places, leaf_value, kept_values, cell_value}
 use Rattle.leaf_cell.specs.Adding.{IsPut, LedByAdding}
 use Rattle.leaf_cell.specs.States.{refused_count}
 use Rattle.leaf_cell.specs.Standing.{TakesAccount, MadeAct}
@@ -35,43 +36,44 @@ kept-unjoined old new (Some it) h =
     ap (λ places. record { number = it.number; mode = it.mode; versions = places; leaf = leaf_value it.leaf } ∷ []) (places-unjoined new old it.leaf h.0)
 
 -- the view of a cell where a page was put
-pub put-view : (parent : Option Versions) (snapshot : Option Snapshot) (frames : List (Option FrameView)) (next : Option Versions) (new : List (Option FrameView)) (bytes : List ℕ) (page : ℕ)
+pub put-view : (parent : Option TableView) (snapshot : Option Snapshot) (frames : List (Option FrameView)) (next : Option TableView) (new : List (Option FrameView)) (bytes : List ℕ) (page : ℕ)
     (put : IsPut bytes page (table_places parent) frames (table_places next) new) → AreUnjoined (kept_values (table_places parent) snapshot)
-    → record { leaves = with_parent_version page put.place (cell_value parent snapshot frames).leaves; frames = slice_set frames put.place (Some put.frame) } ≡ cell_value next snapshot new
+    → record { leaves = with_parent_version page put.place (cell_value parent snapshot frames).leaves; frames = slice_set frames put.place (Some put.frame); writable = table_writable next } ≡ cell_value next snapshot new
 put-view parent snapshot frames next new bytes page put unjoined = λ i. record {
   leaves = record { parent = sym put.named i; kept = sym (kept-unjoined (table_places parent) (table_places next) snapshot unjoined) i };
   frames = sym put.frames i;
+  writable = table_writable next;
 }
 
 module _ {State : Type 0} (goes : State → Deal → State → Type 0) (from to : State) (snapshot : Option Snapshot) (frames : List (Option FrameView)) (page : ℕ) (small : page < 512) where
   -- where the leaf table was there
-  added-there : (places : Versions) (inside : AreInside (Some places) snapshot frames) (next : Option Versions) (new : List (Option FrameView)) (result : Result (Unit {0}) RefusedRequest)
-      → version_at places page ≡ None → AreUnjoined (kept_values places snapshot) → LedByAdding goes from to true result
-      → OnOk result (IsPut zero_page page places frames (table_places next) new × (is_some next ≡ true)) → OnErr result ((next ≡ Some places) × (new ≡ frames))
-      → MadeAct goes from to (Touch page) (cell_value (Some places) snapshot frames) (cell_value next snapshot new) (refused_count result)
-  added-there places inside next new (Ok done) absent unjoined led put kept =
-      let view : CellView = cell_value (Some places) snapshot frames in
+  added-there : (table : TableView) (inside : AreInside (Some table) snapshot frames) (next : Option TableView) (new : List (Option FrameView)) (result : Result (Unit {0}) RefusedRequest)
+      → version_at table.places page ≡ None → AreUnjoined (kept_values table.places snapshot) → LedByAdding goes from to true result
+      → OnOk result (IsPut zero_page page table.places frames (table_places next) new × (is_some next ≡ true)) → OnErr result ((next ≡ Some table) × (new ≡ frames))
+      → MadeAct goes from to (Touch page) (cell_value (Some table) snapshot frames) (cell_value next snapshot new) (refused_count result)
+  added-there table inside next new (Ok done) absent unjoined led put kept =
+      let view : CellView = cell_value (Some table) snapshot frames in
       record {
         deals = led.deals;
         led = led.led;
         follows = λ account stands. subst (λ deals. TakesAccount (Touch page) view (cell_value next snapshot new) deals None account) (sym led.adding)
-            (subst (λ after. TakesAccount (Touch page) view after (Granted want.Page ∷ []) None account) (put-view (Some places) snapshot frames next new zero_page page put.0 unjoined)
-            (touch-added view page put.0.place put.0.frame small inside.parent_size (are_filled (Some places) snapshot frames inside) put.0.free
-            (room (Some places) snapshot frames inside next new zero_page page small put.0 put.1 (λ q there. none_is_not_some (version_at places page) q absent there))
-            absent unjoined put.0.held account stands (inside.used places refl)));
+            (subst (λ after. TakesAccount (Touch page) view after (Granted want.Page ∷ []) None account) (put-view (Some table) snapshot frames next new zero_page page put.0 unjoined)
+            (touch-added view page put.0.place put.0.frame (table_writable next) small inside.parent_size (are_filled (Some table) snapshot frames inside) put.0.free
+            (room (Some table) snapshot frames inside next new zero_page page small put.0 put.1 (λ q there. none_is_not_some (version_at table.places page) q absent there))
+            absent unjoined put.0.held account stands (inside.used table refl)));
       }
-  added-there places inside next new (Err refused) absent unjoined led put kept =
-      let view : CellView = cell_value (Some places) snapshot frames in
+  added-there table inside next new (Err refused) absent unjoined led put kept =
+      let view : CellView = cell_value (Some table) snapshot frames in
       record {
         deals = led.deals;
         led = led.led;
         follows = λ account stands. subst (λ deals. TakesAccount (Touch page) view (cell_value next snapshot new) deals (Some refused.at) account) (sym led.adding)
             (subst (λ after. TakesAccount (Touch page) view after (Denied want.Page refused.at ∷ []) (Some refused.at) account) (λ i. cell_value (sym kept.0 i) snapshot (sym kept.1 i))
-            (page-refused view page refused.at absent unjoined account stands (inside.used places refl)));
+            (page-refused view page refused.at absent unjoined account stands (inside.used table refl)));
       }
 
   -- where it was not
-  added-first : (inside : AreInside None snapshot frames) (next : Option Versions) (new : List (Option FrameView)) (result : Result (Unit {0}) RefusedRequest)
+  added-first : (inside : AreInside None snapshot frames) (next : Option TableView) (new : List (Option FrameView)) (result : Result (Unit {0}) RefusedRequest)
       → version_at no_versions page ≡ None → AreUnjoined (kept_values no_versions snapshot) → LedByAdding goes from to false result
       → OnOk result (IsPut zero_page page no_versions frames (table_places next) new × (is_some next ≡ true)) → OnErr result ((next ≡ None) × (new ≡ frames))
       → MadeAct goes from to (Touch page) (cell_value None snapshot frames) (cell_value next snapshot new) (refused_count result)
@@ -82,7 +84,7 @@ module _ {State : Type 0} (goes : State → Deal → State → Type 0) (from to 
         led = led.led;
         follows = λ account stands. subst (λ deals. TakesAccount (Touch page) view (cell_value next snapshot new) deals None account) (sym led.adding)
             (subst (λ after. TakesAccount (Touch page) view after (Granted want.Leaf ∷ Granted want.Page ∷ []) None account) (put-view None snapshot frames next new zero_page page put.0 unjoined)
-            (touch-first view page put.0.place put.0.frame small inside.parent_size (are_filled None snapshot frames inside) put.0.free
+            (touch-first view page put.0.place put.0.frame (table_writable next) small inside.parent_size (are_filled None snapshot frames inside) put.0.free
             (room None snapshot frames inside next new zero_page page small put.0 put.1 (λ q there. none_is_not_some (version_at no_versions page) q absent there))
             absent unjoined put.0.held account stands refl));
       }
@@ -98,36 +100,37 @@ module _ {State : Type 0} (goes : State → Deal → State → Type 0) (from to 
             ]);
       }
 
-  pub made-added : (parent : Option Versions) (inside : AreInside parent snapshot frames) (next : Option Versions) (new : List (Option FrameView)) (result : Result (Unit {0}) RefusedRequest)
+  pub made-added : (parent : Option TableView) (inside : AreInside parent snapshot frames) (next : Option TableView) (new : List (Option FrameView)) (result : Result (Unit {0}) RefusedRequest)
       → version_at (table_places parent) page ≡ None → AreUnjoined (kept_values (table_places parent) snapshot) → LedByAdding goes from to (is_some parent) result
       → OnOk result (IsPut zero_page page (table_places parent) frames (table_places next) new × (is_some next ≡ true)) → OnErr result ((next ≡ parent) × (new ≡ frames))
       → MadeAct goes from to (Touch page) (cell_value parent snapshot frames) (cell_value next snapshot new) (refused_count result)
-  made-added (Some places) inside next new result absent unjoined led put kept = added-there places inside next new result absent unjoined led put kept
+  made-added (Some table) inside next new result absent unjoined led put kept = added-there table inside next new result absent unjoined led put kept
   made-added None inside next new result absent unjoined led put kept = added-first inside next new result absent unjoined led put kept
 
 -- the order of the cell afterwards
-pub inside-added : (parent : Option Versions) (snapshot : Option Snapshot) (frames : List (Option FrameView)) (inside : AreInside parent snapshot frames) (page : ℕ) (small : page < 512)
-    (next : Option Versions) (new : List (Option FrameView)) (result : Result (Unit {0}) RefusedRequest) → version_at (table_places parent) page ≡ None
-    → OnOk result (IsPut zero_page page (table_places parent) frames (table_places next) new × (is_some next ≡ true)) → OnErr result ((next ≡ parent) × (new ≡ frames)) → AreInside next snapshot new
-inside-added parent snapshot frames inside page small next new (Ok done) absent put kept =
-    inside_put parent snapshot frames inside next new zero_page page small put.0 put.1 (λ q there. none_is_not_some (version_at (table_places parent) page) q absent there)
-inside-added parent snapshot frames inside page small next new (Err refused) absent put kept = subst (λ p. AreInside p snapshot new) (sym kept.0) (subst (AreInside parent snapshot) (sym kept.1) inside)
+pub inside-added : (parent : Option TableView) (snapshot : Option Snapshot) (frames : List (Option FrameView)) (inside : AreInside parent snapshot frames) (page : ℕ) (small : page < 512)
+    (next : Option TableView) (new : List (Option FrameView)) (result : Result (Unit {0}) RefusedRequest) → version_at (table_places parent) page ≡ None
+    → OnOk result (IsPut zero_page page (table_places parent) frames (table_places next) new × (is_some next ≡ true)) → OnErr result ((next ≡ parent) × (new ≡ frames))
+    → OnOk result (table_writable next ≡ slice_set (table_writable parent) page true) → AreInside next snapshot new
+inside-added parent snapshot frames inside page small next new (Ok done) absent put kept set =
+    inside_put parent snapshot frames inside next new zero_page page small put.0 put.1 (λ q there. none_is_not_some (version_at (table_places parent) page) q absent there) set
+inside-added parent snapshot frames inside page small next new (Err refused) absent put kept set = subst (λ p. AreInside p snapshot new) (sym kept.0) (subst (AreInside parent snapshot) (sym kept.1) inside)
 
 -- the parent's leaf counts as one frame where there is a page
 pub leaf-count : (places : Versions) (b : Bool) → has_pages places ≡ b → ◌≡◌ {A = ℕ} (cond (has_pages places) 1 0) (cond b 1 0)
 leaf-count places b is = ap (λ h. cond h 1 0) is
 
-pub old-leaf : (parent : Option Versions) (snapshot : Option Snapshot) (frames : List (Option FrameView)) → AreInside parent snapshot frames → has_pages (table_places parent) ≡ is_some parent
+pub old-leaf : (parent : Option TableView) (snapshot : Option Snapshot) (frames : List (Option FrameView)) → AreInside parent snapshot frames → has_pages (table_places parent) ≡ is_some parent
 old-leaf None snapshot frames inside = refl
-old-leaf (Some places) snapshot frames inside = inside.used places refl
+old-leaf (Some table) snapshot frames inside = inside.used table refl
 
 either-way : (b : Bool) → ◌≡◌ {A = ℕ} (cond b 1 2 + cond b 1 0) 2
 either-way true = refl
 either-way false = refl
 
 -- the frames that the cell holds afterwards
-pub held-added : (parent : Option Versions) (snapshot : Option Snapshot) (frames : List (Option FrameView)) (inside : AreInside parent snapshot frames) (page : ℕ) (small : page < 512)
-    (next : Option Versions) (new : List (Option FrameView)) (result : Result (Unit {0}) RefusedRequest) (before after : ℕ) → version_at (table_places parent) page ≡ None
+pub held-added : (parent : Option TableView) (snapshot : Option Snapshot) (frames : List (Option FrameView)) (inside : AreInside parent snapshot frames) (page : ℕ) (small : page < 512)
+    (next : Option TableView) (new : List (Option FrameView)) (result : Result (Unit {0}) RefusedRequest) (before after : ℕ) → version_at (table_places parent) page ≡ None
     → AreUnjoined (kept_values (table_places parent) snapshot)
     → OnOk result (IsPut zero_page page (table_places parent) frames (table_places next) new × (is_some next ≡ true)) → OnErr result ((next ≡ parent) × (new ≡ frames))
     → OnOk result (after ≡ before + cond (is_some parent) 1 2) → OnErr result (after ≡ before)

@@ -9,9 +9,10 @@ use Rattle.vm_base.specs.Deals.{Deal}
 use Rattle.vm_base.specs.declared.refusals.Refused.{Refused as RefusedRequest}
 use Rattle.vm_base.specs.Frames.{FrameView}
 use Rattle.vm_base.specs.FlatMemory.{zero_page}
-use Rattle.kernel_meaning.specs.Leaves.{Versions, no_versions, version_at, is_own, is_joined, is_lost, Leaf, Own, Joined, Lost, Kept, holds_number, names_version, is_named}
+use Rattle.kernel_meaning.specs.Leaves.{no_versions, version_at, is_own, is_joined, is_lost, Leaf, Own, Joined, Lost, Kept, holds_number, names_version, is_named}
 use Rattle.kernel_meaning.specs.CellAccount.{Touch}
 use Rattle.leaf_cell.specs.declared.snapshot.Snapshot.{Snapshot}
+use Rattle.leaf_cell.specs.Places.{TableView}
 use Rattle.leaf_cell.specs.CellView.{CellView, AreUnjoined, bytes_in, parent_page, page_or_zeros}
 use Rattle.leaf_cell.specs.Inside.{AreInside, table_places, own_places, snapshot_places, kept_values, cell_value}
 use Rattle.leaf_cell.specs.Adding.{IsPut}
@@ -75,8 +76,8 @@ touched-in_place view page place count unjoined there unnamed = record {
   unjoined = unjoined;
 }
 
-module _ (parent : Option Versions) (snapshot : Option Snapshot) (frames : List (Option FrameView)) (inside : AreInside parent snapshot frames)
-    (next : Option Versions) (new : List (Option FrameView)) (bytes : List ℕ) (page : ℕ) (small : page < 512)
+module _ (parent : Option TableView) (snapshot : Option Snapshot) (frames : List (Option FrameView)) (inside : AreInside parent snapshot frames)
+    (next : Option TableView) (new : List (Option FrameView)) (bytes : List ℕ) (page : ℕ) (small : page < 512)
     (put : IsPut bytes page (table_places parent) frames (table_places next) new) (there : is_some next ≡ true)
     (left : (q : ℕ) → version_at (table_places parent) page ≡ Some q → version_at (own_places snapshot) page ≡ Some q)
     (unjoined : AreUnjoined (kept_values (table_places parent) snapshot)) where
@@ -137,7 +138,7 @@ module _ (parent : Option Versions) (snapshot : Option Snapshot) (frames : List 
   }
 
 -- the copy was refused: the snapshot has lost the cell
-pub touched-lost : {State : Type 0} (goes : State → Deal → State → Type 0) (from to : State) (parent : Option Versions) (it : Snapshot) (frames new : List (Option FrameView)) (tables page place at count then : ℕ)
+pub touched-lost : {State : Type 0} (goes : State → Deal → State → Type 0) (from to : State) (parent : Option TableView) (it : Snapshot) (frames new : List (Option FrameView)) (tables page place at count then : ℕ)
     → IsLeafReleased goes from to (snapshot_places no_versions it.leaf) (table_places parent) tables frames new
     → version_at (table_places parent) page ≡ Some place → is_named (cell_value parent (Some it) frames).leaves page place ≡ true → then ≡ next_count count → at ≡ then
     → IsTouched page count then (cell_value parent (Some it) frames) (cell_value parent (Some (lost_at at it)) new)
@@ -168,8 +169,8 @@ made-in_place goes state view page place small there unjoined unnamed filled = r
 }
 
 -- an absent page was added, or refused
-pub touched-added : (parent : Option Versions) (snapshot : Option Snapshot) (frames : List (Option FrameView)) (inside : AreInside parent snapshot frames) (page : ℕ) (small : page < 512)
-    (next : Option Versions) (new : List (Option FrameView)) (result : Result (Unit {0}) RefusedRequest) (count then : ℕ) → version_at (table_places parent) page ≡ None
+pub touched-added : (parent : Option TableView) (snapshot : Option Snapshot) (frames : List (Option FrameView)) (inside : AreInside parent snapshot frames) (page : ℕ) (small : page < 512)
+    (next : Option TableView) (new : List (Option FrameView)) (result : Result (Unit {0}) RefusedRequest) (count then : ℕ) → version_at (table_places parent) page ≡ None
     → AreUnjoined (kept_values (table_places parent) snapshot) → OnOk result (IsPut zero_page page (table_places parent) frames (table_places next) new × (is_some next ≡ true)) → OnOk result (then ≡ count)
     → OnOk result (IsTouched page count then (cell_value parent snapshot frames) (cell_value next snapshot new))
 touched-added parent snapshot frames inside page small next new (Ok done) count then absent unjoined put same =

@@ -88,7 +88,7 @@ renamed-without name versions first n fits =
     ])
 
 -- where no page is left there is none at any place
-none-left : (versions : Versions) → has_pages versions ≡ false → (page : ℕ) → version_at versions page ≡ None
+pub none-left : (versions : Versions) → has_pages versions ≡ false → (page : ℕ) → version_at versions page ≡ None
 none-left [] none page = refl
 none-left (None ∷ versions) none zero = refl
 none-left (None ∷ versions) none (suc page) = none-left versions none page

@@ -1,18 +1,20 @@
 -- A cell as its contracts see it. A page is named by the place of its frame, where the definitions name it by its version.
-use Rattle.std.specs.Prelude.{◌≡◌, ℕ, ◌+◌, false, List, [], ◌∷◌, take, drop, replicate, count_by, Option, None, is_some, unwrap_or, slice_index_or}
+use Rattle.std.specs.Prelude.{◌≡◌, ℕ, ◌+◌, Bool, false, List, [], ◌∷◌, take, drop, replicate, count_by, Option, None, is_some, unwrap_or, slice_index_or}
 use Rattle.std.specs.Option.{option_map, option_and_then}
 use Rattle.vm_base.specs.Frames.{FrameView}
 use Rattle.vm_base.specs.FlatMemory.{zero_page}
+use Rattle.leaf_cell.specs.Writable.{none_writable}
 use Rattle.kernel_meaning.specs.Leaves.{version_at, Kept, CellLeaves, unused_cell, is_joined, parent_leaves, own_leaves, without_kept}
 
--- leaves with places, and what lies at each place
+-- leaves with places, what lies at each place, and for each page whether its entry in the parent's table tells that it may be written to
 pub record CellView : Type 0 where
   pub leaves : CellLeaves
   pub frames : List (Option FrameView)
+  pub writable : List Bool
 
 -- a cell that nobody has: room for two frames of each page
 abbrev pub new_view : CellView
-new_view = record { leaves = unused_cell; frames = replicate 1024 None }
+new_view = record { leaves = unused_cell; frames = replicate 1024 None; writable = none_writable }
 
 -- the frames that a cell holds: the parent's leaf table where it has a page, the snapshots' own, and those at places
 abbrev pub held_of : CellView → ℕ

@@ -1,6 +1,6 @@
 -- How a cell is stored as numbers and lists, so that a proof can tell two of them apart.
-use Rattle.std.specs.Prelude.{◌≡◌, ℕ, ◌==◌, if◌then◌else◌, List, Option, refl}
-use Rattle.std.specs.Coded.{Coded, code_by, coded×, coded_ℕ, coded_list, coded_option}
+use Rattle.std.specs.Prelude.{◌≡◌, ℕ, ◌==◌, if◌then◌else◌, Bool, List, Option, refl}
+use Rattle.std.specs.Coded.{Coded, code_by, coded×, coded_ℕ, coded_bool, coded_list, coded_option}
 use Rattle.vm_base.specs.declared.fork_mode.Mode.{Mode}
 use Rattle.vm_base.specs.declared.fork_mode.Mode.TheVariants.{Eager, OnDemand, Async}
 use Rattle.vm_base.specs.Frames.{FrameView}
@@ -59,5 +59,5 @@ frame_code = code_by (ℕ × List ℕ) (coded× coded_ℕ (coded_list coded_ℕ)
     (λ f. (f.number, f.bytes)) (λ p. record { number = p.0; bytes = p.1 }) (λ _. refl)
 
 abbrev pub cell_view_code : Coded CellView
-cell_view_code = code_by (CellLeaves × List (Option FrameView)) (coded× leaves_code (coded_list (coded_option frame_code)))
-    (λ v. (v.leaves, v.frames)) (λ p. record { leaves = p.0; frames = p.1 }) (λ _. refl)
+cell_view_code = code_by (CellLeaves × (List (Option FrameView) × List Bool)) (coded× leaves_code (coded× (coded_list (coded_option frame_code)) (coded_list coded_bool)))
+    (λ v. (v.leaves, (v.frames, v.writable))) (λ p. record { leaves = p.0; frames = p.1.0; writable = p.1.1 }) (λ _. refl)

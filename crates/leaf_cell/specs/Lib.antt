@@ -1,3 +1,4 @@
+pub mod Writable
 pub mod Places
 pub mod CellView
 pub mod Inside
@@ -9,4 +10,5 @@ pub mod States
 pub mod Losing
 pub mod Clearing
 pub mod Touching
+pub mod Permissions
 pub mod Codes

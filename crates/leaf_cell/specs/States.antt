@@ -4,11 +4,12 @@ use Rattle.std.specs.Option.{option_map}
 use Rattle.std.specs.List.{slice_get}
 use Rattle.vm_base.specs.declared.fork_mode.Mode.{Mode}
 use Rattle.vm_base.specs.declared.refusals.Refused.{Refused as RefusedRequest}
-use Rattle.kernel_meaning.specs.Leaves.{Leaf, Own, Joined, Lost, Kept, Versions, kept_by, is_async, is_joined, is_lost}
+use Rattle.kernel_meaning.specs.Leaves.{Leaf, Own, Joined, Lost, Kept, kept_by, is_async, is_joined, is_lost}
 use Rattle.leaf_cell.specs.declared.snapshot.LeafState.{LeafState}
 use Rattle.leaf_cell.specs.declared.snapshot.LeafState.TheVariants as state
 use Rattle.leaf_cell.specs.declared.snapshot.Snapshot.{Snapshot}
 use Rattle.leaf_cell.specs.declared.snapshot.SnapshotLeaf.TheVariants as code
+use Rattle.leaf_cell.specs.Places.{TableView}
 use Rattle.leaf_cell.specs.CellView.{CellView, kept_page, part_of}
 
 -- the state of a leaf, joined by an async fork or by another
@@ -59,6 +60,6 @@ has_leaf kept = has_leaf_where (λ leaf. not (is_lost leaf)) kept
 abbrev pub has_joined : Option Kept → Bool
 has_joined kept = has_leaf_where is_joined kept
 
--- a snapshot whose leaf table names these places and is its own
-abbrev pub with_own : Versions → Snapshot → Snapshot
-with_own places snapshot = record { number = snapshot.number; mode = snapshot.mode; leaf = code.Own places }
+-- a snapshot whose leaf table is this one, its own
+abbrev pub with_own : TableView → Snapshot → Snapshot
+with_own table snapshot = record { number = snapshot.number; mode = snapshot.mode; leaf = code.Own table }

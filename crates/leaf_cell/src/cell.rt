@@ -1,9 +1,12 @@
 //! A cell, and what is read of it.
-ghost use Rattle.std.specs.Prelude.{◌≡◌, ◌+◌, ◌<◌, ◌≤◌, ℕ, length, IfOk, Ok, Err, OnOk, OnErr, IfErr, replicate, None, Some, is_some, count_by};
+ghost use Rattle.std.specs.Prelude.{◌≡◌, ◌+◌, ◌<◌, ◌≤◌, ℕ, length, IfOk, Ok, Err, OnOk, OnErr, IfErr, replicate, None, Some, is_some, count_by, true};
 ghost use Rattle.std.specs.FinMap.{get};
 ghost use Rattle.kernel_meaning.specs.Leaves.{has_present, kept_by, version_at};
 ghost use Rattle.kernel_meaning.specs.CellAccount.{CellAccount, empty_account, account_share};
-ghost use Rattle.leaf_cell.specs.CellView.{new_view, parent_page, part_of, held_of};
+ghost use Rattle.leaf_cell.specs.CellView.{new_view, parent_page, part_of, held_of, AreUnjoined};
+ghost use Rattle.leaf_cell.specs.Writable.{writable_at};
+ghost use Rattle.leaf_cell.specs.Permissions.{is_unshared};
+ghost use Rattle.leaf_cell.specs.Touching.{IsAlone};
 ghost use Rattle.leaf_cell.specs.Standing.{StandsFor, IsSnapRead};
 ghost use Rattle.leaf_cell.specs.States.{state_of, nth_number, snapshot_part};
 
@@ -142,6 +145,11 @@ impl Cell {
         requires { first + pages ≤ CELL_PAGES }
         ensures covers { result ≡ has_present self.now.leaves.parent first pages }
         ensures filled { (p : ℕ) → is_some (parent_page self.now p) ≡ is_some (version_at self.now.leaves.parent p) }
+
+        // A page that may be written to is present, and no snapshot's own leaf names its frame.
+        // Where no leaf is joined it is the parent's alone.
+        ensures unshared { (p : ℕ) → writable_at self.now.writable p ≡ true → is_unshared self.now.leaves p ≡ true }
+        ensures alone { AreUnjoined self.now.leaves.kept → (p : ℕ) → writable_at self.now.writable p ≡ true → IsAlone self.now.leaves p }
         ensures account { (account : CellAccount) → StandsFor self.now account → result ≡ has_present account.state.leaves.parent first pages }
     {
         covers_in(&self.parent, first, pages)

@@ -1,9 +1,10 @@
 //! Forking and dropping.
-ghost use Rattle.std.specs.Prelude.{◌≡◌, ◌+◌, ◌≤◌, ℕ, [], true, is_some, None, IfErr, OnErr, OnOk};
+ghost use Rattle.std.specs.Prelude.{◌≡◌, ◌+◌, ◌≤◌, ℕ, [], true, false, is_some, None, IfErr, OnErr, OnOk};
 ghost use Rattle.vm_base.specs.declared.fork_mode.Mode.TheVariants as mode;
 ghost use Rattle.vm_base.specs.Counts.{next_count};
 ghost use Rattle.leaf_cell.specs.declared.snapshot.SnapshotLeaf.TheVariants as leaf;
-ghost use Rattle.leaf_cell.specs.Inside.{table_places, kept_values};
+ghost use Rattle.leaf_cell.specs.Inside.{table_of, kept_values};
+ghost use Rattle.leaf_cell.specs.Writable.{none_writable};
 ghost use Rattle.kernel_meaning.specs.Leaves.{has_pages, kept_by, no_versions, Own};
 ghost use Rattle.kernel_meaning.specs.CellActs.{with_fork};
 ghost use Rattle.kernel_meaning.specs.CellAccount.{Fork, Drop as DropAct};
@@ -32,6 +33,7 @@ impl Cell {
         ensures untold { A.grants allot.new ≡ None }
         ensures refused { OnErr result (self.new ≡ self.old) }
         ensures leaves { OnOk result (self.new.leaves ≡ with_fork number mode.Eager Own self.old.leaves) }
+        ensures writable { OnOk result (self.new.writable ≡ none_writable) }
 
         // Refused only where the allot's count rose, and the answer carries it.
         ensures unrefused { OnOk result (A.refused (A.state allot.new) ≡ A.refused (A.state allot.old)) }
@@ -57,6 +59,7 @@ impl Cell {
         ensures untold { A.grants allot.new ≡ None }
         ensures unrefused { A.refused (A.state allot.new) ≡ A.refused (A.state allot.old) }
         ensures leaves { self.new.leaves ≡ without_snapshot number self.old.leaves }
+        ensures writable { self.new.writable ≡ self.old.writable }
     {
         if is_snapshot(&self.snapshot, number) {
             if let Some(snapshot) = self.snapshot.take() {
@@ -66,11 +69,11 @@ impl Cell {
     }
 }
 
-/// A snapshot with a table of its own, which names what the parent's does.
+/// A snapshot with a table of its own, which is as the parent's.
 fn new_snapshot(number: u32, frame: Frame, parent: &Option<LeafTable>) -> Snapshot
     ensures number { result.number ≡ number }
     ensures mode { result.mode ≡ mode.Eager }
-    ensures leaf { result.leaf ≡ leaf.Own (table_places parent.now) }
+    ensures leaf { result.leaf ≡ leaf.Own (table_of parent.now) }
 {
     Snapshot {
         number,
@@ -79,9 +82,9 @@ fn new_snapshot(number: u32, frame: Frame, parent: &Option<LeafTable>) -> Snapsh
     }
 }
 
-/// A table in this frame that names what the parent's does.
+/// A table in this frame that is as the parent's.
 pub(crate) fn own_table(frame: Frame, parent: &Option<LeafTable>) -> LeafTable
-    ensures { result ≡ table_places parent.now }
+    ensures { result ≡ table_of parent.now }
 {
     match parent {
         Some(table) => table.copy_in(frame),

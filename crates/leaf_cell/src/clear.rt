@@ -4,7 +4,8 @@ ghost use Rattle.kernel_meaning.specs.Leaves.{has_present};
 ghost use Rattle.kernel_meaning.specs.CellAccount.{Clear};
 ghost use Rattle.leaf_cell.specs.CellView.{AreUnjoined, held_of};
 ghost use Rattle.leaf_cell.specs.Clearing.{IsLeft, gone_if};
-ghost use Rattle.leaf_cell.specs.Inside.{table_places};
+ghost use Rattle.leaf_cell.specs.Inside.{table_of};
+ghost use Rattle.leaf_cell.specs.Writable.{without_writable};
 ghost use Rattle.leaf_cell.specs.Standing.{MadeAct};
 ghost use Rattle.leaf_cell.specs.Touching.{IsCleared};
 
@@ -27,6 +28,7 @@ impl Cell {
         ensures untold { A.grants allot.new ≡ None }
         ensures unrefused { A.refused (A.state allot.new) ≡ A.refused (A.state allot.old) }
         ensures cleared { IsCleared first pages self.old self.new }
+        ensures writable { self.new.writable ≡ without_writable first pages self.old.writable }
         ensures unchanged { has_present self.old.leaves.parent first pages ≡ false → (self.new ≡ self.old) × (A.state allot.new ≡ A.state allot.old) }
     {
         if covers_in(&self.parent, first, pages) {
@@ -46,6 +48,7 @@ impl Cell {
         ensures untold { A.grants allot.new ≡ None }
         ensures unrefused { A.refused (A.state allot.new) ≡ A.refused (A.state allot.old) }
         ensures cleared { IsCleared first pages self.old self.new }
+        ensures writable { self.new.writable ≡ without_writable first pages self.old.writable }
     {
         release_range(
             &self.parent,
@@ -65,7 +68,7 @@ fn clear_table<A: Allot>(parent: &mut Option<LeafTable>, first: u16, pages: u16,
     requires there { IsSome parent.old }
     requires out { 1 ≤ A.out (A.state allot.old) }
     requires untold { A.grants allot.old ≡ None }
-    ensures left { IsLeft A.goes (A.state allot.old) (A.state allot.new) (table_places parent.old) first pages parent.new }
+    ensures left { IsLeft A.goes (A.state allot.old) (A.state allot.new) (table_of parent.old) first pages parent.new }
     ensures out { A.out (A.state allot.new) + gone_if parent.new ≡ A.out (A.state allot.old) }
     ensures untold { A.grants allot.new ≡ None }
     ensures unrefused { A.refused (A.state allot.new) ≡ A.refused (A.state allot.old) }

@@ -10,7 +10,8 @@ ghost use Rattle.leaf_cell.specs.CellView.{held_of};
 ghost use Rattle.leaf_cell.specs.Losing.{IsLost};
 ghost use Rattle.leaf_cell.specs.Standing.{StandsFor, TakesAccount, TakesPart, MadePart};
 ghost use Rattle.leaf_cell.specs.States.{has_leaf, has_joined, with_own};
-ghost use Rattle.leaf_cell.specs.Inside.{table_places};
+ghost use Rattle.leaf_cell.specs.Inside.{table_of};
+ghost use Rattle.leaf_cell.specs.Writable.{none_writable};
 
 use crate::cell::Cell;
 use crate::changes::own_table;
@@ -44,7 +45,7 @@ impl Cell {
     pub fn own_leaf(&mut self, number: u32, frame: Frame)
         requires joined { has_joined (kept_by self.old.leaves.kept number) ≡ true }
         ensures owned { (account : CellAccount) → StandsFor self.old account → TakesPart (leaf_copy_answered number Yes) self.old self.new [] account }
-        ensures cell { self.new ≡ record self.old { leaves = with_leaf_where (is_number number) Own self.old.leaves } }
+        ensures cell { self.new ≡ record self.old { leaves = with_leaf_where (is_number number) Own self.old.leaves; writable = none_writable } }
         ensures held { held_of self.new ≡ held_of self.old + 1 }
     {
         if is_snapshot(&self.snapshot, number) {
@@ -65,6 +66,7 @@ impl Cell {
         ensures untold { A.grants allot.new ≡ None }
         ensures unrefused { A.refused (A.state allot.new) ≡ A.refused (A.state allot.old) }
         ensures lost { IsLost number at self.old self.new }
+        ensures writable { self.new.writable ≡ self.old.writable }
     {
         if is_snapshot(&self.snapshot, number) {
             lose_leaf(
@@ -80,7 +82,7 @@ impl Cell {
 
 /// The snapshot that is there gets a table of its own in this frame.
 fn own_joined(snapshot: &mut Option<Snapshot>, parent: &Option<LeafTable>, frame: Frame)
-    ensures { snapshot.new ≡ option_map (with_own (table_places parent.now)) snapshot.old }
+    ensures { snapshot.new ≡ option_map (with_own (table_of parent.now)) snapshot.old }
 {
     if let Some(snapshot) = snapshot {
         snapshot.leaf = SnapshotLeaf::Own(own_table(frame, parent));

@@ -2,8 +2,9 @@
 ghost use Rattle.std.specs.Prelude.{◌≡◌, ◌<◌, ◌*◌, ◌+◌, ◌≤◌, slice_set, Some, None, length, replicate, count_by, is_some, cond};
 ghost use Rattle.byteorder.specs.Endian.{little_bytes};
 ghost use Rattle.vm_base.specs.FlatMemory.{zero_page, spliced};
-ghost use Rattle.kernel_meaning.specs.Leaves.{no_versions, version_at, with_version, without_versions, has_present};
-ghost use Rattle.leaf_cell.specs.Places.{word_at, place_in, with_word, without_words};
+ghost use Rattle.kernel_meaning.specs.Leaves.{version_at, has_present};
+ghost use Rattle.leaf_cell.specs.Places.{word_at, place_in, with_word, without_words, no_table, with_entry, without_entries};
+ghost use Rattle.leaf_cell.specs.Writable.{writable_at};
 
 use bitflags::Flags;
 use byteorder::{ByteOrder, LittleEndian};
@@ -16,8 +17,8 @@ pub(crate) const CELL_PAGES: u16 = 512;
 /// Bytes of a table entry.
 const ENTRY_BYTES: usize = 8;
 
-/// For each page of a cell the place of its frame, or none. It is in a frame, with an entry for
-/// each page.
+/// For each page of a cell the place of its frame, or none, and whether the page may be written
+/// to. It is in a frame, with an entry for each page.
 #[derive(Debug, Drop)]
 pub(crate) struct LeafTable {
     frame: Frame,
@@ -25,12 +26,11 @@ pub(crate) struct LeafTable {
 
 impl Model for LeafTable {
     ghost use Rattle.std.specs.Prelude.{◌≡◌, length};
-    ghost use Rattle.kernel_meaning.specs.Leaves.{Versions};
-    ghost use Rattle.leaf_cell.specs.Places.{places_of};
+    ghost use Rattle.leaf_cell.specs.Places.{TableView, places_of, writable_of};
 
-    ghost Value = { Versions };
+    ghost Value = { TableView };
 
-    ghost view = { λ table. places_of table.frame.bytes };
+    ghost view = { λ table. record { places = places_of table.frame.bytes; writable = writable_of table.frame.bytes } };
 
     ghost invariant = { λ table. length table.frame.bytes ≡ 4096 };
 }
@@ -39,14 +39,14 @@ impl LeafTable {
     /// A table without a page, in a frame of zeros.
     pub(crate) fn new(frame: Frame) -> LeafTable
         requires { frame.bytes ≡ zero_page }
-        ensures { result ≡ no_versions }
+        ensures { result ≡ no_table }
     {
         LeafTable { frame }
     }
 
     /// A table without a page, in any frame.
     pub(crate) fn empty_in(frame: Frame) -> LeafTable
-        ensures { result ≡ no_versions }
+        ensures { result ≡ no_table }
     {
         let mut zeros = frame;
         *zeros.bytes_mut() = [0; 4096];
@@ -56,35 +56,34 @@ impl LeafTable {
     /// The place of the frame of a page.
     pub(crate) fn get(&self, page: u16) -> Option<u32>
         requires { page < CELL_PAGES }
-        ensures { result ≡ version_at self.now page }
+        ensures { result ≡ version_at self.now.places page }
     {
         place_of(word_of(self.frame.bytes(), page))
     }
 
-    /// The page's frame is at this place from now on, and may be written to.
-    pub(crate) fn set(&mut self, page: u16, place: u32)
+    /// Whether a page may be written to.
+    pub(crate) fn may_write(&self, page: u16) -> bool
         requires { page < CELL_PAGES }
-        ensures { self.new ≡ with_version self.old page place }
+        ensures { result ≡ writable_at self.now.writable page }
     {
-        put_word(&mut self.frame, page, entry_word(place, page_bits(true)));
+        entry_parts(word_of(self.frame.bytes(), page))
+            .1
+            .contains(Bits::WRITE)
     }
 
-    /// Whether a page may be written to, as its entry says from now on. Where it is absent nothing
-    /// changes.
-    pub(crate) fn allow(&mut self, page: u16, is_writable: bool)
+    /// The page's frame is at this place from now on, and may be written to or not.
+    pub(crate) fn set(&mut self, page: u16, place: u32, is_writable: bool)
         requires { page < CELL_PAGES }
-        ensures { self.new ≡ self.old }
+        ensures { self.new ≡ with_entry self.old page place is_writable }
     {
-        if let Some(place) = self.get(page) {
-            let word = entry_word(place, page_bits(is_writable));
-            put_word(&mut self.frame, page, word);
-        }
+        let word = entry_word(place, page_bits(is_writable));
+        put_word(&mut self.frame, page, word);
     }
 
     /// No page of a range is there from now on.
     pub(crate) fn clear(&mut self, first: u16, pages: u16)
         requires { first + pages ≤ CELL_PAGES }
-        ensures { self.new ≡ without_versions self.old first pages }
+        ensures { self.new ≡ without_entries self.old first pages }
     {
         clear_words(&mut self.frame, first, pages);
     }
@@ -101,7 +100,7 @@ impl LeafTable {
     /// As many entries as the frame has room for, which is one for each page.
     pub(crate) fn entries(&self) -> u16
         ensures count { result ≡ 512 }
-        ensures size { length self.now ≡ 512 }
+        ensures size { length self.now.places ≡ 512 }
     {
         let bytes: &[u8] = self.frame.bytes();
         (bytes.len() / ENTRY_BYTES) as u16
@@ -109,7 +108,7 @@ impl LeafTable {
 
     /// How many pages are present.
     pub(crate) fn pages(&self) -> u32
-        ensures { result ≡ count_by is_some self.now }
+        ensures { result ≡ count_by is_some self.now.places }
     {
         let mut pages = 0;
         for page in 0..self.entries() {
@@ -123,7 +122,7 @@ impl LeafTable {
     /// Whether one of some pages is present.
     pub(crate) fn covers(&self, first: u16, pages: u16) -> bool
         requires { first + pages ≤ CELL_PAGES }
-        ensures { result ≡ has_present self.now first pages }
+        ensures { result ≡ has_present self.now.places first pages }
     {
         for page in first..first + pages {
             if self.get(page).is_some() {

@@ -3,7 +3,8 @@ ghost use Rattle.std.specs.Prelude.{◌≡◌, ◌+◌, ◌<◌, ◌≤◌, leng
 ghost use Rattle.std.specs.Option.{option_map, option_eq};
 ghost use Rattle.kernel_meaning.specs.Leaves.{version_at, has_present, no_versions, kept_by, is_own, Joined};
 ghost use Rattle.leaf_cell.specs.CellView.{bytes_in, part_of};
-ghost use Rattle.leaf_cell.specs.Inside.{table_places, snapshot_places, own_places, leaf_value, kept_values};
+ghost use Rattle.leaf_cell.specs.Writable.{writable_at};
+ghost use Rattle.leaf_cell.specs.Inside.{table_places, table_writable, snapshot_places, own_places, leaf_value, kept_values};
 ghost use Rattle.leaf_cell.specs.States.{unless_lost, leaf_state as leaf_state_of};
 
 use crate::leaf_table::{CELL_PAGES, LeafTable};
@@ -18,6 +19,17 @@ pub(crate) fn place_in(table: &Option<LeafTable>, page: u16) -> Option<u32>
     match table {
         Some(table) => table.get(page),
         None => None,
+    }
+}
+
+/// Whether a table, where there is one, tells that a page may be written to.
+pub(crate) fn may_write_in(table: &Option<LeafTable>, page: u16) -> bool
+    requires { page < CELL_PAGES }
+    ensures { result ≡ writable_at (table_writable table.now) page }
+{
+    match table {
+        Some(table) => table.may_write(page),
+        None => false,
     }
 }
 

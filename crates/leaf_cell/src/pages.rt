@@ -2,8 +2,8 @@
 ghost use Rattle.std.specs.Prelude.{◌≡◌, ◌⊎◌, ◌+◌, ◌<◌, ◌≤◌, length, slice_set, slice_index_or, Some, None, true, cond, is_some, OnOk, OnErr, IfOk, IfErr};
 ghost use Rattle.vm_base.specs.Counts.{next_count};
 ghost use Rattle.vm_base.specs.FlatMemory.{zero_page};
-ghost use Rattle.kernel_meaning.specs.Leaves.{with_version};
-ghost use Rattle.leaf_cell.specs.Inside.{IsPlaceOf, table_places};
+ghost use Rattle.leaf_cell.specs.Places.{with_entry};
+ghost use Rattle.leaf_cell.specs.Inside.{IsPlaceOf, table_places, table_writable};
 ghost use Rattle.leaf_cell.specs.Adding.{IsPut, LedByAdding, LedByTwo};
 
 use crate::leaf_table::{CELL_PAGES, LeafTable};
@@ -23,6 +23,7 @@ pub(crate) fn add_page<A: Allot>(
     requires untold { A.grants allot.old ≡ None }
     ensures led { LedByAdding A.goes (A.state allot.old) (A.state allot.new) (is_some parent.old) result }
     ensures put { OnOk result (IsPut zero_page page (table_places parent.old) frames.old.items (table_places parent.new) frames.new.items × (is_some parent.new ≡ true)) }
+    ensures writable { OnOk result (table_writable parent.new ≡ slice_set (table_writable parent.old) page true) }
     ensures kept { OnErr result ((parent.new ≡ parent.old) × (frames.new.items ≡ frames.old.items)) }
     ensures untold { A.grants allot.new ≡ None }
     ensures taken { OnOk result (A.out (A.state allot.new) ≡ A.out (A.state allot.old) + cond (is_some parent.old) 1 2) }
@@ -89,7 +90,7 @@ pub(crate) fn free_place(frames: &[Option<Frame>], page: u16) -> u32
     }
 }
 
-/// The page lies at this place from now on.
+/// The page lies at this place from now on, and may be written to.
 pub(crate) fn put_page(
     table: &mut LeafTable,
     frames: &mut [Option<Frame>],
@@ -99,9 +100,9 @@ pub(crate) fn put_page(
 )
     requires page { page < CELL_PAGES }
     requires place { place < length frames.old }
-    ensures table { table.new ≡ with_version table.old page place }
+    ensures table { table.new ≡ with_entry table.old page place true }
     ensures frames { frames.new ≡ slice_set frames.old place (Some frame) }
 {
-    table.set(page, place);
+    table.set(page, place, true);
     frames[place as usize] = Some(frame);
 }

@@ -1,8 +1,10 @@
 //! What the parent's pages may be used for.
-ghost use Rattle.std.specs.Prelude.{◌≡◌, ◌+◌, ◌<◌, ◌≤◌, None, true};
+ghost use Rattle.std.specs.Prelude.{◌≡◌, ◌+◌, ◌<◌, ◌≤◌, slice_set, None, true};
 ghost use Rattle.kernel_meaning.specs.Leaves.{has_present};
 ghost use Rattle.kernel_meaning.specs.CellAccount.{Protect};
 ghost use Rattle.leaf_cell.specs.CellView.{AreUnjoined};
+ghost use Rattle.leaf_cell.specs.Inside.{AreWritable, own_places};
+ghost use Rattle.leaf_cell.specs.Permissions.{allowed, is_unshared, with_allowed};
 ghost use Rattle.leaf_cell.specs.Standing.{MadeAct};
 
 use crate::cell::Cell;
@@ -19,7 +21,7 @@ impl Cell {
         requires range { first + pages ≤ CELL_PAGES }
         requires unjoined { has_present self.old.leaves.parent first pages ≡ true → AreUnjoined self.old.leaves.kept }
         ensures made { MadeAct A.goes (A.state allot.old) (A.state allot.new) (Protect first pages perm) self.old self.new None }
-        ensures cell { self.new ≡ self.old }
+        ensures cell { self.new ≡ record self.old { writable = allowed perm first pages self.old } }
         ensures allot { allot.new ≡ allot.old }
     {
         let _ = allot;
@@ -27,10 +29,11 @@ impl Cell {
         allow_range(&mut self.parent, &self.snapshot, first, pages, is_writable);
     }
 
-    /// The page may be written to, where no snapshot's own table names its frame.
+    /// The page may be written to from now on.
     pub(crate) fn allow_page(&mut self, page: u16)
-        requires { page < CELL_PAGES }
-        ensures { self.new ≡ self.old }
+        requires page { page < CELL_PAGES }
+        requires unshared { is_unshared self.old.leaves page ≡ true }
+        ensures { self.new ≡ record self.old { writable = slice_set self.old.writable page true } }
     {
         allow_range(&mut self.parent, &self.snapshot, page, 1, true);
     }
@@ -44,14 +47,15 @@ pub(crate) fn allow_range(
     pages: u16,
     is_writable: bool,
 )
-    requires { first + pages ≤ CELL_PAGES }
-    ensures { parent.new ≡ parent.old }
+    requires range { first + pages ≤ CELL_PAGES }
+    requires writable { AreWritable parent.old (own_places snapshot.now) }
+    ensures { parent.new ≡ with_allowed is_writable (own_places snapshot.now) first pages parent.old }
 {
     if let Some(table) = parent {
         for page in first..first + pages {
             if let Some(place) = table.get(page) {
                 let is_alone = !names_place(snapshot, page, place);
-                table.allow(page, is_writable && is_alone);
+                table.set(page, place, is_writable && is_alone);
             }
         }
     }

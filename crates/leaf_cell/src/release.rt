@@ -45,11 +45,11 @@ fn release_pages<A: Allot>(
     allot: &mut A,
 )
     requires size { length frames.old.items ≡ 1024 }
-    requires home { AreHome table.now }
+    requires home { AreHome table.now.places }
     requires others { AreHome (table_places other.now) }
     requires out { count_by is_some frames.old.items ≤ A.out (A.state allot.old) }
     requires untold { A.grants allot.old ≡ None }
-    ensures released { Releasing A.goes (A.state allot.old) (A.state allot.new) table.now (table_places other.now) frames.old.items frames.new.items 0 512 }
+    ensures released { Releasing A.goes (A.state allot.old) (A.state allot.new) table.now.places (table_places other.now) frames.old.items frames.new.items 0 512 }
     ensures out { A.out (A.state allot.new) + count_by is_some frames.old.items ≡ A.out (A.state allot.old) + count_by is_some frames.new.items }
     ensures untold { A.grants allot.new ≡ None }
     ensures unrefused { A.refused (A.state allot.new) ≡ A.refused (A.state allot.old) }

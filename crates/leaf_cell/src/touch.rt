@@ -10,10 +10,11 @@ ghost use Rattle.leaf_cell.specs.Renaming.{IsNamedBy};
 ghost use Rattle.leaf_cell.specs.Standing.{MadeAct, StandsFor, TakesAccount};
 ghost use Rattle.leaf_cell.specs.States.{refused_count};
 ghost use Rattle.leaf_cell.specs.Touching.{IsTouched};
+ghost use Rattle.leaf_cell.specs.Writable.{writable_at};
 
 use crate::cell::Cell;
 use crate::leaf_table::{CELL_PAGES, put_bytes};
-use crate::lookups::{names_place, place_in};
+use crate::lookups::{may_write_in, names_place, place_in};
 use crate::pages::add_page;
 use vm_base::{Allot, Frame, Refused};
 
@@ -31,6 +32,8 @@ impl Cell {
         ensures held { A.out (A.state allot.new) + held_of self.old ≡ A.out (A.state allot.old) + held_of self.new }
         ensures untold { A.grants allot.new ≡ None }
         ensures touched { OnOk result (IsTouched page (A.refused (A.state allot.old)) (A.refused (A.state allot.new)) self.old self.new) }
+        ensures writable { OnOk result (self.new.writable ≡ slice_set self.old.writable page true) }
+        ensures allowed { OnOk result (writable_at self.new.writable page ≡ true) }
 
         // Refused only at an absent page, where the allot's count rose, and the answer carries it.
         ensures refused { OnErr result (self.new ≡ self.old) }
@@ -38,6 +41,8 @@ impl Cell {
         ensures counted { IfErr result (λ e. (A.refused (A.state allot.new) ≡ next_count (A.refused (A.state allot.old))) × (e.at ≡ A.refused (A.state allot.new))) }
     {
         match place_in(&self.parent, page) {
+            // A page that may be written to is the parent's alone.
+            Some(_) if may_write_in(&self.parent, page) => Ok(()),
             Some(place) => {
                 self.touch_present(page, place, allot);
                 self.allow_page(page);
@@ -60,6 +65,7 @@ impl Cell {
         ensures untold { A.grants allot.new ≡ None }
         ensures refused { OnErr result (self.new ≡ self.old) }
         ensures touched { OnOk result (IsTouched page (A.refused (A.state allot.old)) (A.refused (A.state allot.new)) self.old self.new) }
+        ensures writable { OnOk result (self.new.writable ≡ slice_set self.old.writable page true) }
         ensures counted { IfErr result (λ e. (A.refused (A.state allot.new) ≡ next_count (A.refused (A.state allot.old))) × (e.at ≡ A.refused (A.state allot.new))) }
     {
         add_page(&mut self.parent, &mut self.frames, page, allot)
@@ -76,6 +82,7 @@ impl Cell {
         ensures held { A.out (A.state allot.new) + held_of self.old ≡ A.out (A.state allot.old) + held_of self.new }
         ensures untold { A.grants allot.new ≡ None }
         ensures touched { IsTouched page (A.refused (A.state allot.old)) (A.refused (A.state allot.new)) self.old self.new }
+        ensures writable { slice_set self.new.writable page true ≡ slice_set self.old.writable page true }
     {
         if names_place(&self.snapshot, page, place) {
             self.unshare_page(page, place, allot);
@@ -90,6 +97,7 @@ impl Cell {
         requires unnamed { (place : ℕ) → version_at self.old.leaves.parent page ≡ Some place → IsNamedBy page place self.old.leaves.kept → ⊥ }
         ensures stored { (account : CellAccount) → StandsFor self.old account → TakesAccount (Store page at bytes.now) self.old self.new [] None account }
         ensures leaves { self.new.leaves ≡ self.old.leaves }
+        ensures writable { self.new.writable ≡ self.old.writable }
         ensures held { held_of self.new ≡ held_of self.old }
     {
         if let Some(place) = place_in(&self.parent, page) {

@@ -1,11 +1,11 @@
 //! A page that a snapshot names too becomes the parent's own.
-ghost use Rattle.std.specs.Prelude.{◌≡◌, ◌⊎◌, ◌+◌, ◌<◌, ◌≤◌, length, count_by, is_some, true, None, Some, IsSome, slice_index_or};
+ghost use Rattle.std.specs.Prelude.{◌≡◌, ◌⊎◌, ◌+◌, ◌<◌, ◌≤◌, length, count_by, is_some, true, None, Some, IsSome, slice_set, slice_index_or};
 ghost use Rattle.vm_base.specs.FlatMemory.{zero_page};
 ghost use Rattle.kernel_meaning.specs.Leaves.{version_at, is_named, no_versions, is_own};
 ghost use Rattle.kernel_meaning.specs.CellAccount.{Touch};
 ghost use Rattle.leaf_cell.specs.CellView.{AreUnjoined, held_of, frame_bytes, page_or_zeros};
 ghost use Rattle.leaf_cell.specs.Adding.{IsPut};
-ghost use Rattle.leaf_cell.specs.Inside.{AreInside, table_places, own_places, kept_values};
+ghost use Rattle.leaf_cell.specs.Inside.{AreInside, table_places, table_writable, own_places, kept_values};
 ghost use Rattle.leaf_cell.specs.Losing.{IsLoss};
 ghost use Rattle.leaf_cell.specs.Standing.{MadeAct};
 ghost use Rattle.leaf_cell.specs.Touching.{IsTouched};
@@ -32,6 +32,7 @@ impl Cell {
         ensures held { A.out (A.state allot.new) + held_of self.old ≡ A.out (A.state allot.old) + held_of self.new }
         ensures untold { A.grants allot.new ≡ None }
         ensures touched { IsTouched page (A.refused (A.state allot.old)) (A.refused (A.state allot.new)) self.old self.new }
+        ensures writable { slice_set self.new.writable page true ≡ slice_set self.old.writable page true }
     {
         match allot.take(Want::Page) {
             Ok(frame) => put_copy(&mut self.parent, &mut self.frames, page, place, frame),
@@ -61,6 +62,7 @@ fn put_copy(
     requires free { (slice_index_or frames.old.items page None ≡ None) ⊎ (slice_index_or frames.old.items (page + 512) None ≡ None) }
     requires zeros { frame.bytes ≡ zero_page }
     ensures put { IsPut (page_or_zeros (frame_bytes frames.old.items place)) page (table_places parent.old) frames.old.items (table_places parent.new) frames.new.items }
+    ensures writable { table_writable parent.new ≡ slice_set (table_writable parent.old) page true }
     ensures table { is_some parent.new ≡ true }
 {
     let to = free_place(frames, page);

@@ -13,7 +13,7 @@ pub returns-in-Own-clause-released : goal.returns-in-Own-clause-released
 returns-in-Own-clause-released g c =
     subst (λ leaf. IsLeafReleased g.A.Allot.goes (g.A.Allot.state c.args.allot.now) (g.A.Allot.state c.give.new.self)
     (snapshot_places no_versions leaf) (table_places c.args.parent.now) (own_if (leaf_value leaf)) c.args.frames.now.items c.release_pages.new.frames.items) (sym c.in-Own.is)
-    (leaf-released g.A.Allot.goes (g.A.Allot.state c.args.allot.now) (g.A.Allot.state c.release_pages.new.allot) (g.A.Allot.state c.give.new.self) c.in-Own.table
+    (leaf-released g.A.Allot.goes (g.A.Allot.state c.args.allot.now) (g.A.Allot.state c.release_pages.new.allot) (g.A.Allot.state c.give.new.self) c.in-Own.table.places
     (table_places c.args.parent.now) c.args.frames.now.items c.release_pages.new.frames.items
     (subst (λ leaf. AreHome (snapshot_places no_versions leaf)) c.in-Own.is c.requires.home) c.release_pages.ensures.released c.give.ensures.returned)
 

@@ -12,3 +12,7 @@ returns-in_default-clause-put c = none_is_not_some (version_at no_versions c.arg
 pub returns-in_default-clause-table : goal.returns-in_default-clause-table
 returns-in_default-clause-table c = none_is_not_some (version_at no_versions c.args.page) c.args.place (version_at-none c.args.page)
     (ap (λ table. version_at (table_places table) c.args.page) (sym c.in_default.is) ∙ c.requires.there)
+
+pub returns-in_default-clause-writable : goal.returns-in_default-clause-writable
+returns-in_default-clause-writable c = none_is_not_some (version_at no_versions c.args.page) c.args.place (version_at-none c.args.page)
+    (ap (λ table. version_at (table_places table) c.args.page) (sym c.in_default.is) ∙ c.requires.there)

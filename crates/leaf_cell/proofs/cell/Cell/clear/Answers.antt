@@ -1,7 +1,8 @@
-use Rattle.std.proofs.Common.{◌≡◌, ◌≤◌, ◌+◌, ◌∙◌, sym, ap, length, arith}
+use Rattle.std.proofs.Common.{◌≡◌, ◌≤◌, ◌+◌, ◌∙◌, sym, ap, subst, length, arith}
 use Rattle.std.specs.Prelude.{false}
 use Rattle.kernel_meaning.specs.Leaves.{has_present}
-use Rattle.leaf_cell.proofs.ClearMade.{made-nothing, nothing-cleared}
+use Rattle.leaf_cell.specs.Writable.{without_writable}
+use Rattle.leaf_cell.proofs.ClearMade.{made-nothing, nothing-cleared, nothing-writable}
 use Rattle.leaf_cell.proofs.cell.Cell.clear.Goals as goal
 
 pub returns-else-covers_in-clause-made : goal.returns-else-covers_in-clause-made
@@ -17,3 +18,8 @@ returns-else-covers_in-clause-cleared g c =
     let size : length c.args.self.now.leaves.parent ≡ 512 = ap (λ view. length view.leaves.parent) (sym c.self.view_is) ∙ c.self.invariant.parent_size in
     let fits : c.args.first + c.args.pages ≤ length c.args.self.now.leaves.parent = omega (arith, size, c.requires.range) in
     nothing-cleared c.args.self.now c.args.first c.args.pages none fits
+
+pub returns-else-covers_in-clause-writable : goal.returns-else-covers_in-clause-writable
+returns-else-covers_in-clause-writable g c =
+    subst (λ view. view.writable ≡ without_writable c.args.first c.args.pages view.writable) c.self.view_is
+    (nothing-writable c.self.inside.parent c.self.inside.snapshot c.self.inside.frames.items c.self.invariant c.args.first c.args.pages (sym c.covers_in.ensures ∙ c.if-covers_in.false))

@@ -5,9 +5,10 @@ use Rattle.kernel_meaning.specs.CellAccount.{Clear}
 use Rattle.leaf_cell.specs.CellView.{AreUnjoined, held_of}
 use Rattle.leaf_cell.specs.Inside.{table_places, cell_value}
 use Rattle.leaf_cell.specs.Standing.{MadeAct}
+use Rattle.leaf_cell.specs.Writable.{without_writable}
 use Rattle.leaf_cell.specs.Touching.{IsCleared}
 use Rattle.leaf_cell.proofs.InsideFacts.{parent_at_home, own_at_home}
-use Rattle.leaf_cell.proofs.ClearMade.{inside-cleared, made-cleared, is-cleared, held-cleared, table-there, table-counted}
+use Rattle.leaf_cell.proofs.ClearMade.{next_writable, inside-cleared, made-cleared, is-cleared, held-cleared, table-there, table-counted}
 use Rattle.leaf_cell.proofs.cell.Cell.clear_present.Goals as goal
 
 pub release_range-requires-clause-home : goal.release_range-requires-clause-home
@@ -62,3 +63,11 @@ returns-clause-cleared g c =
     c.self.inside.parent c.self.inside.snapshot c.self.inside.frames.items c.release_range.new.frames.items c.clear_table.new.parent c.args.first c.args.pages c.self.invariant
     (table-there c.self.inside.parent c.args.first c.args.pages present) c.requires.range c.release_range.ensures.released c.clear_table.ensures.left
     (subst (λ view. AreUnjoined view.leaves.kept) (sym c.self.view_is) c.requires.unjoined) present)
+
+pub returns-clause-writable : goal.returns-clause-writable
+returns-clause-writable g c =
+    next_writable g.A.Allot.goes (g.A.Allot.state c.args.allot.now) (g.A.Allot.state c.release_range.new.allot) (g.A.Allot.state c.clear_table.new.allot)
+    c.self.inside.parent c.self.inside.snapshot c.self.inside.frames.items c.release_range.new.frames.items c.clear_table.new.parent c.args.first c.args.pages c.self.invariant
+    (table-there c.self.inside.parent c.args.first c.args.pages (ap (λ view. has_present view.leaves.parent c.args.first c.args.pages) c.self.view_is ∙ c.requires.present))
+    c.requires.range c.release_range.ensures.released c.clear_table.ensures.left
+    ∙ ap (λ view. without_writable c.args.first c.args.pages view.writable) c.self.view_is

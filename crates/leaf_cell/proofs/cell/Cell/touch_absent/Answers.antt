@@ -13,7 +13,7 @@ use Rattle.leaf_cell.proofs.cell.Cell.touch_absent.Goals as goal
 
 pub invariant_of-self : goal.invariant_of-self
 invariant_of-self g c = inside-added c.self.inside.parent c.self.inside.snapshot c.self.inside.frames.items c.self.invariant c.args.page c.requires.page
-    c.add_page.new.parent c.add_page.new.frames.items c.add_page.result (ap (λ view. version_at view.leaves.parent c.args.page) c.self.view_is ∙ c.requires.absent) c.add_page.ensures.put c.add_page.ensures.kept
+    c.add_page.new.parent c.add_page.new.frames.items c.add_page.result (ap (λ view. version_at view.leaves.parent c.args.page) c.self.view_is ∙ c.requires.absent) c.add_page.ensures.put c.add_page.ensures.kept c.add_page.ensures.writable
 
 pub returns-clause-made : goal.returns-clause-made
 returns-clause-made g c =

@@ -5,11 +5,13 @@ use Rattle.kernel_meaning.specs.Leaves.{version_at, is_named}
 use Rattle.kernel_meaning.specs.CellAccount.{Touch}
 use Rattle.leaf_cell.specs.declared.snapshot.Snapshot.{Snapshot}
 use Rattle.leaf_cell.specs.CellView.{AreUnjoined, held_of, bytes_in, page_or_zeros}
-use Rattle.leaf_cell.specs.Inside.{AreInside, table_places, cell_value}
+use Rattle.leaf_cell.specs.Inside.{AreInside, table_places, table_writable, cell_value}
 use Rattle.leaf_cell.specs.Standing.{MadeAct}
 use Rattle.leaf_cell.specs.Touching.{IsTouched}
 use Rattle.leaf_cell.proofs.LossMade.{made-lost, inside-lost}
 use Rattle.leaf_cell.proofs.CopyMade.{made-copied, inside-copied, held-copied, left}
+use Rattle.std.specs.Prelude.{true, slice_set}
+use Rattle.leaf_cell.proofs.WritablePages.{set-again}
 use Rattle.leaf_cell.proofs.Touched.{touched-put, touched-lost}
 use Rattle.leaf_cell.proofs.cell.Cell.unshare_page.Goals as goal
 
@@ -18,7 +20,12 @@ invariant_of-self g c = inside-copied c.self.inside.parent c.self.inside.snapsho
     (ap (λ view. version_at view.leaves.parent c.args.page) c.self.view_is ∙ c.requires.there)
     (ap (λ view. is_named view.leaves c.args.page c.args.place) c.self.view_is ∙ c.requires.named)
     (subst (λ view. AreUnjoined view.leaves.kept) (sym c.self.view_is) c.requires.unjoined)
-    c.put_copy.new.parent c.put_copy.new.frames.items c.put_copy.ensures.put c.put_copy.ensures.table
+    c.put_copy.new.parent c.put_copy.new.frames.items c.put_copy.ensures.put c.put_copy.ensures.table c.put_copy.ensures.writable
+
+pub returns-in-Ok-clause-writable : goal.returns-in-Ok-clause-writable
+returns-in-Ok-clause-writable g c =
+    ap (λ writable. slice_set writable c.args.page true) c.put_copy.ensures.writable ∙ set-again (table_writable c.self.inside.parent) c.args.page
+    ∙ ap (λ view. slice_set view.writable c.args.page true) c.self.view_is
 
 pub returns-in-Ok-clause-made : goal.returns-in-Ok-clause-made
 returns-in-Ok-clause-made g c =

@@ -7,4 +7,4 @@ use Rattle.leaf_cell.proofs.leaf_table.LeafTable.get.Goals as goal
 pub returns : goal.returns
 returns c = c.place_of.ensures ∙ ap place_in c.word_of.ensures ∙ ap (λ bytes. place_in (word_at bytes c.args.page)) c.bytes.ensures.bytes
     ∙ sym (version_at-places_of c.self.inside.frame.bytes c.args.page c.requires)
-    ∙ ap (λ places. version_at places c.args.page) c.self.view_is
+    ∙ ap (λ table. version_at table.places c.args.page) c.self.view_is
