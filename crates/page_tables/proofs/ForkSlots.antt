@@ -18,11 +18,12 @@ use Rattle.leaf_cell.specs.Standing.{StandsFor, TakesAccount, MadeAct}
 use Rattle.leaf_cell.specs.States.{refused_count, nth_number}
 use Rattle.leaf_cell.proofs.Renamed.{has_pages-renamed}
 use Rattle.leaf_cell.proofs.HeldShare.{share-stands}
-use Rattle.table_levels.specs.Requests.{Asks}
+use Rattle.table_levels.specs.Requests.{Asks, returned}
 use Rattle.page_tables.specs.declared.slot.Slot.{Slot}
 use Rattle.page_tables.specs.Forking.{Becomes, forked_leaves, forked_state, dropped_state}
 use Rattle.page_tables.specs.Returning.{Returning}
 use Rattle.page_tables.proofs.SnapshotShares.{share-falls}
+use Rattle.page_tables.proofs.Known.{known-deals, known-below}
 
 -- ---- no snapshot on one side
 
@@ -141,33 +142,39 @@ unforked-becomes n old none = record {
 }
 
 -- one leaf was asked for
-pub fork-asks : {State : Type 0} (goes : State → Deal → State → Type 0) (from to : State) (n : ℕ) (view new : CellView) (account : CellAccount)
-    → StandsFor view account → (result : Result (Unit {0}) Refused)
+pub fork-asks : {State : Type 0} (goes : State → Deal → State → Type 0) (from to : State) (n : ℕ) (view new : CellView)
+    → ∥ ((account : CellAccount) × StandsFor view account) ∥₁ → (result : Result (Unit {0}) Refused)
     → MadeAct goes from to (Fork n Eager 0) view new (refused_count result) → Asks goes from (want.Leaf ∷ []) result to
-fork-asks goes from to n view new account stands (Ok done) made =
-    subst (λ ds. LeadsAlong goes from ds to) (fork-deals n 0 view new made.deals None account (made.follows account stands)) made.led
-fork-asks goes from to n view new account stands (Err e) made = record {
+fork-asks goes from to n view new known (Ok done) made =
+    subst (λ ds. LeadsAlong goes from ds to) (known-deals known (λ it. fork-deals n 0 view new made.deals None it.0 (made.follows it.0 it.1))) made.led
+fork-asks goes from to n view new known (Err e) made = record {
   front = [];
   want = want.Leaf;
   rest = [];
   order = refl;
-  deals = subst (λ ds. LeadsAlong goes from ds to) (fork-deals n 0 view new made.deals (Some e.at) account (made.follows account stands)) made.led;
+  deals = subst (λ ds. LeadsAlong goes from ds to) (known-deals known (λ it. fork-deals n 0 view new made.deals (Some e.at) it.0 (made.follows it.0 it.1))) made.led;
 }
 
 -- ---- the drop
 
--- the frames by which the share has shrunk were given back
-pub drop-returns : {State : Type 0} (goes : State → Deal → State → Type 0) (from to : State) (n : ℕ) (old new : Slot) (account : CellAccount) → StandsFor old.cell account
-    → MadeAct goes from to (DropAct n) old.cell new.cell None → Returning goes from to (old ∷ []) (new ∷ [])
-drop-returns goes from to n old new account stands made =
-    let takes : TakesAccount (DropAct n) old.cell new.cell made.deals None account = made.follows account stands in
+-- as many deals give frames back as the share has shrunk by
+drop-went : (n : ℕ) (old new : Slot) (deals : List Deal) (account : CellAccount) → StandsFor old.cell account → TakesAccount (DropAct n) old.cell new.cell deals None account
+    → (deals ≡ returned (share old.cell.leaves - share new.cell.leaves)) × (share new.cell.leaves ≤ share old.cell.leaves)
+drop-went n old new deals account stands takes =
     let then : CellAccount = record { state = dropped_state n account.state; made = account.made } in
     let before : share old.cell.leaves ≡ share account.state.leaves = share-stands old.cell account stands in
     let after : share new.cell.leaves ≡ share (without_snapshot n account.state.leaves) = share-stands new.cell then takes.stands in
     let falls : share (without_snapshot n account.state.leaves) ≤ share account.state.leaves = share-falls n account.state.leaves in
+    (sym takes.asked ∙ (λ i. returned (sym before i - sym after i)), omega arith)
+
+-- the frames by which the share has shrunk were given back
+pub drop-returns : {State : Type 0} (goes : State → Deal → State → Type 0) (from to : State) (n : ℕ) (old new : Slot) → ∥ ((account : CellAccount) × StandsFor old.cell account) ∥₁
+    → MadeAct goes from to (DropAct n) old.cell new.cell None → Returning goes from to (old ∷ []) (new ∷ [])
+drop-returns goes from to n old new known made =
+    let less : share new.cell.leaves ≤ share old.cell.leaves = known-below known (λ it. (drop-went n old new made.deals it.0 it.1 (made.follows it.0 it.1)).1) in
     record {
-      count = share account.state.leaves - share (without_snapshot n account.state.leaves);
-      led = subst (λ ds. LeadsAlong goes from ds to) (sym takes.asked) made.led;
+      count = share old.cell.leaves - share new.cell.leaves;
+      led = subst (λ ds. LeadsAlong goes from ds to) (known-deals known (λ it. (drop-went n old new made.deals it.0 it.1 (made.follows it.0 it.1)).0)) made.led;
       shrunk = omega arith;
     }
 

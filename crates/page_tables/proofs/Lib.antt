@@ -41,6 +41,8 @@ pub mod OutOfCell
 pub mod PresentPages
 pub mod UnmapSteps
 pub mod ProtectedPages
+pub mod Permissions
+pub mod WrittenPages
 pub mod Vacancies
 pub mod SnapshotShares
 pub mod ForkSlots
@@ -51,3 +53,4 @@ pub mod ForkedLeaves
 pub mod ForkedTables
 pub mod DroppedLeaves
 pub mod DroppedTables
+pub mod Known

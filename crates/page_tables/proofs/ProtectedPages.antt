@@ -1,5 +1,5 @@
 -- To protect pages where no leaf is joined asks for nothing and changes no leaf.
-use Rattle.std.proofs.Common.{◌≡◌, ℕ, List, [], ◌∷◌, None, cond, refl, sym, ◌∙◌, ap, subst, append-nil}
+use Rattle.std.proofs.Common.{◌≡◌, ℕ, List, [], ◌∷◌, None, cond, refl, sym, ◌∙◌, ap, append-nil}
 use Rattle.std.specs.Prelude.{true, false}
 use Rattle.kernel_meaning.specs.Leaves.{has_present}
 use Rattle.kernel_meaning.specs.CellActs.{Course, before_change, protected}
@@ -12,6 +12,7 @@ use Rattle.page_tables.specs.Making.{MadeEvent, pages_as_they_were}
 use Rattle.page_tables.specs.Sides.{Sides}
 use Rattle.page_tables.specs.Courses.{progress_between, Runs}
 use Rattle.page_tables.specs.Standing.{AreKept, TablesStandFor}
+use Rattle.page_tables.specs.Permissions.{LeavesAllButPermissions}
 use Rattle.page_tables.proofs.Again.{with_cell-same}
 
 protected-none : (first n : ℕ) (course : Course) → AreUnjoined course.cell.kept → protected first n course ≡ course
@@ -36,16 +37,16 @@ protect-runs first n tables sides st = record {
       ∙ ap (progress_between sides.leaves sides.made rest) (sym (append-nil before));
 }
 
--- so a call that leaves the tables and the allot as they were has made it
-pub protect-made : {State : Type 0} (goes : State → Deal → State → Type 0) (first n : ℕ) (old new : PageTables) (from to : State) → new ≡ old → to ≡ from
+-- so a call that leaves all but permissions, and the allot as it was, has made it
+pub protect-made : {State : Type 0} (goes : State → Deal → State → Type 0) (first n : ℕ) (old new : PageTables) (from to : State) → LeavesAllButPermissions old new → to ≡ from
     → MadeEvent goes from to (pages_protected first n) pages_as_they_were old new None
-protect-made goes first n old new from to same still = record {
+protect-made goes first n old new from to alike still = record {
   deals = [];
   led = still;
   follows = λ sides st. record {
     leaves = sides.leaves;
     made = sides.made;
     runs = protect-runs first n old sides st;
-    stands = subst (λ tables. TablesStandFor tables sides) (sym same) st;
+    stands = alike.stands sides st;
   };
 }

@@ -1,5 +1,6 @@
 -- Pages that were added are taken out again, one after another.
 use Rattle.std.proofs.Common.{◌≡◌, ℕ, ◌+◌, ◌-◌, ◌%◌, ◌≤◌, ◌<◌, List, [], ◌∷◌, ◌++◌, length, take, drop, drop-cons, refl, sym, ◌∙◌, ap, subst, arith}
+use Rattle.std.proofs.Math.Logic.{∥∥₁_map}
 use Rattle.std.specs.Prelude.{IsSome, slice_index_or, zero, suc, true}
 use Rattle.vm_base.specs.Deals.{LeadsAlong, Deal, Returned}
 use Rattle.vm_base.specs.Places.{cell_of}
@@ -30,9 +31,7 @@ pub record IsTakenBack {State : Type 0} (goes : State → Deal → State → Typ
   pub led : LeadsAlong goes from (returned (frames_of old - frames_of now)) to
   pub shrunk : frames_of now ≤ frames_of old
   pub follows : (sides : Sides) → TablesStandFor old sides → TablesStandFor now (sides_without_pages done sides)
-  pub sides : Sides
-  pub stands : TablesStandFor now sides
-  pub there : AreThere sides.leaves left
+  pub there : ∥ ((sides : Sides) × (TablesStandFor now sides × AreThere sides.leaves left)) ∥₁
   pub held : out to + frames_of old ≡ out from + frames_of now
   pub slots : slot_count now ≡ slot_count old
   pub unrefused : refused to ≡ refused from
@@ -56,9 +55,7 @@ module _ {State : Type 0} (goes : State → Deal → State → Type 0) (refused 
             (LeadsAlong-append goes (returned (frames_of old - frames_of now)) (returned (frames_of now - frames_of next)) from middle to so_far.led led);
         shrunk = omega arith;
         follows = λ sides st. subst (TablesStandFor next) (sym (without-push done page sides)) (follows (sides_without_pages done sides) (so_far.follows sides st));
-        sides = sides_without (cell_of page) (page % 512) 1 so_far.sides;
-        stands = follows so_far.sides so_far.stands;
-        there = so_far.there.1;
+        there = ∥∥₁_map so_far.there (λ it. (sides_without (cell_of page) (page % 512) 1 it.0, (follows it.0 it.1.0, it.1.1.1)));
         held = omega arith;
         slots = slots ∙ so_far.slots;
         unrefused = unrefused ∙ so_far.unrefused;
@@ -67,15 +64,13 @@ module _ {State : Type 0} (goes : State → Deal → State → Type 0) (refused 
       }
 
 -- nothing was taken out yet
-pub none-taken : {State : Type 0} (goes : State → Deal → State → Type 0) (refused : State → ℕ) (out : State → ℕ) (from : State) (left : List ℕ) (old : PageTables) (sides : Sides)
-    → TablesStandFor old sides → AreThere sides.leaves left
+pub none-taken : {State : Type 0} (goes : State → Deal → State → Type 0) (refused : State → ℕ) (out : State → ℕ) (from : State) (left : List ℕ) (old : PageTables)
+    → ∥ ((sides : Sides) × (TablesStandFor old sides × AreThere sides.leaves left)) ∥₁
     → IsTakenBack goes refused out from from [] left old old
-none-taken goes refused out from left old sides st there = record {
+none-taken goes refused out from left old there = record {
   led = subst (λ n. LeadsAlong goes from (returned n) from) (let e : 0 ≡ frames_of old - frames_of old = omega arith in e) refl;
   shrunk = omega arith;
   follows = λ sides st. st;
-  sides = sides;
-  stands = st;
   there = there;
   held = refl;
   slots = refl;

@@ -22,7 +22,7 @@ impl PageTables {
     /// zeros. It is one look-up for each page of the range.
     pub fn read(&self, addr: u64, buf: &mut [u8])
         requires range { addr + length buf.old ≤ 2 ^ 48 }
-        requires stands { (sides : Sides) × TablesStandFor self.now sides }
+        requires stands { ∥ ((sides : Sides) × TablesStandFor self.now sides) ∥₁ }
         ensures read { (sides : Sides) → TablesStandFor self.now sides → buf.new ≡ bytes_at sides.pages addr (length buf.old) }
     {
         let mut done = 0;
@@ -38,7 +38,7 @@ impl PageTables {
     fn read_piece(&self, addr: u64, buf: &mut [u8])
         requires inside { addr < 2 ^ 48 }
         requires room { offset_of addr + length buf.old ≤ 4096 }
-        requires stands { (sides : Sides) × TablesStandFor self.now sides }
+        requires stands { ∥ ((sides : Sides) × TablesStandFor self.now sides) ∥₁ }
         ensures read { (sides : Sides) → TablesStandFor self.now sides → buf.new ≡ bytes_at sides.pages addr (length buf.old) }
     {
         let location = location_of(addr);
@@ -55,8 +55,8 @@ impl PageTables {
     /// touch leaves them. It asks for no frame. It is one look-up for each page of the range.
     pub fn store(&mut self, addr: u64, bytes: &[u8])
         requires range { addr + length bytes.now ≤ 2 ^ 48 }
-        requires stands { (sides : Sides) × (TablesStandFor self.old sides ×
-            ((page : ℕ) → page_of addr ≤ page → page * 4096 < addr + length bytes.now → IsReady sides.leaves page)) }
+        requires stands { ∥ ((sides : Sides) × (TablesStandFor self.old sides ×
+            ((page : ℕ) → page_of addr ≤ page → page * 4096 < addr + length bytes.now → IsReady sides.leaves page))) ∥₁ }
         ensures stored { (sides : Sides) → TablesStandFor self.old sides → TablesStandFor self.new (record sides { pages = with_bytes sides.pages addr bytes.now }) }
         ensures held { frames_of self.new ≡ frames_of self.old }
         ensures frames { frames_in self.new.slots.items ≡ frames_in self.old.slots.items }
@@ -77,7 +77,7 @@ impl PageTables {
     fn store_piece(&mut self, addr: u64, bytes: &[u8])
         requires inside { addr < 2 ^ 48 }
         requires room { offset_of addr + length bytes.now ≤ 4096 }
-        requires stands { (sides : Sides) × (TablesStandFor self.old sides × IsReady sides.leaves (page_of addr)) }
+        requires stands { ∥ ((sides : Sides) × (TablesStandFor self.old sides × IsReady sides.leaves (page_of addr))) ∥₁ }
         ensures stored { (sides : Sides) → TablesStandFor self.old sides → TablesStandFor self.new (record sides { pages = with_bytes sides.pages addr bytes.now }) }
         ensures held { frames_of self.new ≡ frames_of self.old }
         ensures frames { frames_in self.new.slots.items ≡ frames_in self.old.slots.items }
@@ -100,7 +100,7 @@ impl PageTables {
     /// snapshot has lost: `Lost` tells the count of refused requests with which it was.
     pub fn snap_read(&self, number: u32, addr: u64, buf: &mut [u8]) -> Result<(), Lost>
         requires range { addr + length buf.old ≤ 2 ^ 48 }
-        requires stands { (sides : Sides) × TablesStandFor self.now sides }
+        requires stands { ∥ ((sides : Sides) × TablesStandFor self.now sides) ∥₁ }
         ensures read { (sides : Sides) → TablesStandFor self.now sides → IsSnapshotRead sides number addr (length buf.old) result buf.new }
     {
         let mut done = 0;
@@ -120,7 +120,7 @@ impl PageTables {
         requires range { addr + length buf.old ≤ 2 ^ 48 }
         requires room { addr % 2 ^ 21 + length buf.old ≤ 2 ^ 21 }
         requires some { 0 < length buf.old }
-        requires stands { (sides : Sides) × TablesStandFor self.now sides }
+        requires stands { ∥ ((sides : Sides) × TablesStandFor self.now sides) ∥₁ }
         ensures read { (sides : Sides) → TablesStandFor self.now sides → IsSnapshotRead sides number addr (length buf.old) result buf.new }
     {
         match self.snapshot_slot(location_of(addr).cell) {
@@ -137,7 +137,7 @@ impl PageTables {
         requires range { addr + length buf.old ≤ 2 ^ 48 }
         requires room { addr % 2 ^ 21 + length buf.old ≤ 2 ^ 21 }
         requires known { slot_in self.now.snapshot (cell_of (page_of addr)) ≡ Some slot }
-        requires stands { (sides : Sides) × TablesStandFor self.now sides }
+        requires stands { ∥ ((sides : Sides) × TablesStandFor self.now sides) ∥₁ }
         ensures read { (sides : Sides) → TablesStandFor self.now sides → IsSnapshotRead sides number addr (length buf.old) result buf.new }
     {
         let mut done = 0;
@@ -158,7 +158,7 @@ impl PageTables {
         requires room { offset_of addr + length buf.old ≤ 4096 }
         requires some { 0 < length buf.old }
         requires known { slot_in self.now.snapshot (cell_of (page_of addr)) ≡ Some slot }
-        requires stands { (sides : Sides) × TablesStandFor self.now sides }
+        requires stands { ∥ ((sides : Sides) × TablesStandFor self.now sides) ∥₁ }
         ensures read { (sides : Sides) → TablesStandFor self.now sides → IsSnapshotRead sides number addr (length buf.old) result buf.new }
     {
         let location = location_of(addr);
@@ -169,7 +169,7 @@ impl PageTables {
     /// What a snapshot has at a cell, both by their numbers. It is one look-up.
     pub fn state(&self, number: u32, cell: u32) -> LeafState
         requires cell { cell < 2 ^ 27 }
-        requires stands { (sides : Sides) × TablesStandFor self.now sides }
+        requires stands { ∥ ((sides : Sides) × TablesStandFor self.now sides) ∥₁ }
         ensures state { (sides : Sides) → TablesStandFor self.now sides → result ≡ state_of (kept_by (cell_at sides.leaves cell).kept number) }
     {
         match self.snapshot_slot(cell) {

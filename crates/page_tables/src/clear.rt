@@ -26,7 +26,7 @@ impl PageTables {
     /// cells in the range, however long the range is.
     pub fn unmap<A: Allot>(&mut self, first: u64, count: u64, allot: &mut A)
         requires range { first + count ≤ 2 ^ 36 }
-        requires stands { (sides : Sides) × TablesStandFor self.old sides }
+        requires stands { ∥ ((sides : Sides) × TablesStandFor self.old sides) ∥₁ }
         requires lent { frames_of self.old ≤ A.out (A.state allot.old) }
         requires untold { A.grants allot.old ≡ None }
         ensures made { MadeEvent A.goes (A.state allot.old) (A.state allot.new) (pages_unmapped first count) (pages_without first count) self.old self.new None }
@@ -53,7 +53,7 @@ impl PageTables {
         requires range { (first ≤ end) × (end ≤ 2 ^ 36) }
         requires within { (first / 512 ≤ cell) × (cell * 512 < end) }
         requires known { get self.old.directory cell ≡ Some slot }
-        requires stands { (sides : Sides) × TablesStandFor self.old sides }
+        requires stands { ∥ ((sides : Sides) × TablesStandFor self.old sides) ∥₁ }
         requires lent { frames_of self.old ≤ A.out (A.state allot.old) }
         requires untold { A.grants allot.old ≡ None }
         ensures given { LeadsAlong A.goes (A.state allot.old) (returned (frames_of self.old - frames_of self.new)) (A.state allot.new) }
@@ -85,7 +85,7 @@ impl PageTables {
     )
         requires cell { cell < 2 ^ 27 }
         requires range { first + count ≤ 512 }
-        requires stands { (sides : Sides) × (TablesStandFor self.old sides × (has_present (cell_at sides.leaves cell).parent first count ≡ true)) }
+        requires stands { ∥ ((sides : Sides) × (TablesStandFor self.old sides × (has_present (cell_at sides.leaves cell).parent first count ≡ true))) ∥₁ }
         requires lent { frames_of self.old ≤ A.out (A.state allot.old) }
         requires untold { A.grants allot.old ≡ None }
         ensures given { LeadsAlong A.goes (A.state allot.old) (returned (frames_of self.old - frames_of self.new)) (A.state allot.new) }
@@ -112,7 +112,7 @@ impl PageTables {
         requires cell { cell < 2 ^ 27 }
         requires range { first + count ≤ 512 }
         requires known { get self.old.directory cell ≡ Some slot }
-        requires stands { (sides : Sides) × (TablesStandFor self.old sides × (has_present (cell_at sides.leaves cell).parent first count ≡ true)) }
+        requires stands { ∥ ((sides : Sides) × (TablesStandFor self.old sides × (has_present (cell_at sides.leaves cell).parent first count ≡ true))) ∥₁ }
         requires lent { frames_of self.old ≤ A.out (A.state allot.old) }
         requires untold { A.grants allot.old ≡ None }
         ensures given { LeadsAlong A.goes (A.state allot.old) (returned (frames_of self.old - frames_of self.new)) (A.state allot.new) }

@@ -30,7 +30,7 @@ impl PageTables {
     /// been given back, and there is no snapshot.
     pub fn fork<A: Allot>(&mut self, number: u32, allot: &mut A) -> Result<(), Refused>
         requires alone { self.old.snapshot ≡ None }
-        requires stands { (sides : Sides) × TablesStandFor self.old sides }
+        requires stands { ∥ ((sides : Sides) × TablesStandFor self.old sides) ∥₁ }
         requires lent { frames_of self.old ≤ A.out (A.state allot.old) }
         requires untold { A.grants allot.old ≡ None }
         ensures made { MadeOfSnapshots A.goes (A.state allot.old) (A.state allot.new) (snapshot_forked number mode.Eager) (snapshots_with number) self.old self.new (fork_refusal result) }
@@ -69,7 +69,7 @@ impl PageTables {
     /// so do the tables of its directory.
     pub fn drop_snapshot<A: Allot>(&mut self, allot: &mut A)
         requires lives { IsSome self.old.snapshot }
-        requires stands { (sides : Sides) × TablesStandFor self.old sides }
+        requires stands { ∥ ((sides : Sides) × TablesStandFor self.old sides) ∥₁ }
         requires lent { frames_of self.old ≤ A.out (A.state allot.old) }
         requires untold { A.grants allot.old ≡ None }
         ensures made { (number : ℕ) → number_of self.old.snapshot ≡ Some number → MadeOfSnapshots A.goes (A.state allot.old) (A.state allot.new) (snapshot_dropped number) (snapshots_without number) self.old self.new None }
@@ -102,7 +102,7 @@ fn fork_into<A: Allot>(
 ) -> Result<(), Refused>
     requires empty { child.old ≡ empty }
     requires alone { AreAlone slots.old.items }
-    requires known { HaveAccounts slots.old.items }
+    requires known { ∥ HaveAccounts slots.old.items ∥₁ }
     requires lent { frames_in slots.old.items ≤ A.out (A.state allot.old) }
     requires untold { A.grants allot.old ≡ None }
     ensures copied { OnOk result (child.new ≡ parent.now) }
@@ -133,7 +133,7 @@ fn fork_into<A: Allot>(
 /// Forks each cell in which the parent has a page, or none of them.
 fn fork_cells<A: Allot>(slots: &mut Vec<Slot>, number: u32, allot: &mut A) -> Result<(), Refused>
     requires alone { AreAlone slots.old.items }
-    requires known { HaveAccounts slots.old.items }
+    requires known { ∥ HaveAccounts slots.old.items ∥₁ }
     requires lent { frames_in slots.old.items ≤ A.out (A.state allot.old) }
     requires untold { A.grants allot.old ≡ None }
     ensures forked { OnOk result (AllBecome (forked_leaves number) (forked_state number) slots.old.items slots.new.items) }
@@ -159,7 +159,7 @@ fn fork_cells<A: Allot>(slots: &mut Vec<Slot>, number: u32, allot: &mut A) -> Re
 /// Forks the cell, where the parent has a page there.
 fn fork_slot<A: Allot>(slot: &mut Slot, number: u32, allot: &mut A) -> Result<(), Refused>
     requires alone { slot.old.cell.leaves.kept ≡ [] }
-    requires known { (account : CellAccount) × StandsFor slot.old.cell account }
+    requires known { ∥ ((account : CellAccount) × StandsFor slot.old.cell account) ∥₁ }
     requires lent { held_of slot.old.cell ≤ A.out (A.state allot.old) }
     requires untold { A.grants allot.old ≡ None }
     ensures forked { OnOk result (Becomes (forked_leaves number) (forked_state number) slot.old slot.new) }
@@ -181,7 +181,7 @@ fn fork_slot<A: Allot>(slot: &mut Slot, number: u32, allot: &mut A) -> Result<()
 
 /// Drops the snapshot at each cell.
 fn drop_cells<A: Allot>(slots: &mut Vec<Slot>, number: u32, allot: &mut A)
-    requires known { HaveAccounts slots.old.items }
+    requires known { ∥ HaveAccounts slots.old.items ∥₁ }
     requires lent { frames_in slots.old.items ≤ A.out (A.state allot.old) }
     requires untold { A.grants allot.old ≡ None }
     ensures dropped { AllBecome (without_snapshot number) (dropped_state number) slots.old.items slots.new.items }
@@ -198,7 +198,7 @@ fn drop_cells<A: Allot>(slots: &mut Vec<Slot>, number: u32, allot: &mut A)
 
 /// Drops the snapshot at the cell.
 fn drop_slot<A: Allot>(slot: &mut Slot, number: u32, allot: &mut A)
-    requires known { (account : CellAccount) × StandsFor slot.old.cell account }
+    requires known { ∥ ((account : CellAccount) × StandsFor slot.old.cell account) ∥₁ }
     requires lent { held_of slot.old.cell ≤ A.out (A.state allot.old) }
     requires untold { A.grants allot.old ≡ None }
     ensures dropped { Becomes (without_snapshot number) (dropped_state number) slot.old slot.new }

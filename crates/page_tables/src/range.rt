@@ -1,5 +1,5 @@
 //! Touching a range of pages.
-ghost use Rattle.std.specs.Prelude.{◌≡◌, ◌+◌, ◌-◌, ◌≤◌, ◌<◌, ◌^◌, ◌++◌, ◌∷◌, [], Bool, IfErr, None, length, vec_capacity, if◌then◌else◌, is_some, All};
+ghost use Rattle.std.specs.Prelude.{◌≡◌, ◌↔◌, ◌+◌, ◌-◌, ◌≤◌, ◌<◌, ◌^◌, ◌++◌, ◌∷◌, [], Bool, IfErr, OnOk, None, true, length, vec_capacity, if◌then◌else◌, is_some, All};
 ghost use Rattle.std.specs.FinMap.{get};
 ghost use Rattle.vm_base.specs.Counts.{next_count};
 ghost use Rattle.vm_base.specs.Deals.{LeadsAlong};
@@ -7,6 +7,8 @@ ghost use Rattle.table_levels.specs.Requests.{returned};
 ghost use Rattle.kernel_meaning.specs.EventRequests.{page_version};
 ghost use Rattle.page_tables.specs.Sides.{Sides};
 ghost use Rattle.page_tables.specs.Standing.{TablesStandFor, slot_count};
+ghost use Rattle.page_tables.specs.Accesses.{IsReady};
+ghost use Rattle.page_tables.specs.Permissions.{may_write, is_alone, LetsWrite};
 ghost use Rattle.page_tables.specs.Held.{frames_of, frames_in, shares_in};
 ghost use Rattle.page_tables.specs.Ranges.{MadeRange, HasRoom, cells_of_pages, range_refusal, sides_without_pages, AreThere};
 
@@ -41,7 +43,7 @@ impl PageTables {
     ) -> Result<(), FrameRefused>
         requires range { first + count ≤ 2 ^ 36 }
         requires noted { count ≤ vec_capacity added.old }
-        requires stands { (sides : Sides) × (TablesStandFor self.old sides × HasRoom (slot_count self.old) sides.leaves (cells_of_pages first count)) }
+        requires stands { ∥ ((sides : Sides) × (TablesStandFor self.old sides × HasRoom (slot_count self.old) sides.leaves (cells_of_pages first count))) ∥₁ }
         requires lent { frames_of self.old ≤ A.out (A.state allot.old) }
         requires untold { A.grants allot.old ≡ None }
         ensures made { MadeRange A.goes (A.state allot.old) (A.state allot.new) first count self.old self.new (range_refusal result) }
@@ -52,6 +54,7 @@ impl PageTables {
         ensures even { frames_in self.old.slots.items + shares_in self.new.slots.items ≡ shares_in self.old.slots.items + frames_in self.new.slots.items }
         ensures snapshot { self.new.snapshot ≡ self.old.snapshot }
         ensures noted { vec_capacity added.new ≡ vec_capacity added.old }
+        ensures writable { OnOk result (LetsWrite first count self.old self.new) }
     {
         added.clear();
         for page in first..first + count {
@@ -73,9 +76,14 @@ impl PageTables {
     /// Whether the parent has a page, by its number. It is one look-up.
     pub fn is_present(&self, page: u64) -> bool
         requires page { page < 2 ^ 36 }
-        requires stands { (sides : Sides) × TablesStandFor self.now sides }
+        requires stands { ∥ ((sides : Sides) × TablesStandFor self.now sides) ∥₁ }
         ensures version { (sides : Sides) → TablesStandFor self.now sides → result ≡ is_some (page_version sides.leaves page) }
         ensures page { (sides : Sides) → TablesStandFor self.now sides → result ≡ is_some (get sides.pages page) }
+
+        // A page may be stored to exactly where it is the parent's alone, and so it is where its
+        // entry tells that it may be written to.
+        ensures alone { (sides : Sides) → TablesStandFor self.now sides → (is_alone self.now page ≡ true) ↔ IsReady sides.leaves page }
+        ensures ready { may_write self.now page ≡ true → (sides : Sides) → TablesStandFor self.now sides → IsReady sides.leaves page }
     {
         let cell = (page / CELL_PAGES) as u32;
         match self.directory.find(cell) {
@@ -89,7 +97,7 @@ impl PageTables {
 
     /// Takes pages out that were added.
     fn take_back<A: Allot>(&mut self, added: &[u64], allot: &mut A)
-        requires stands { (sides : Sides) × (TablesStandFor self.old sides × AreThere sides.leaves added.now) }
+        requires stands { ∥ ((sides : Sides) × (TablesStandFor self.old sides × AreThere sides.leaves added.now)) ∥₁ }
         requires below { All (λ page. page < 2 ^ 36) added.now }
         requires lent { frames_of self.old ≤ A.out (A.state allot.old) }
         requires untold { A.grants allot.old ≡ None }

@@ -1,5 +1,5 @@
 //! Touching pages.
-ghost use Rattle.std.specs.Prelude.{◌≡◌, ◌+◌, ◌≤◌, ◌<◌, ◌^◌, IfErr, None, Some, false, length, ◌∷◌, []};
+ghost use Rattle.std.specs.Prelude.{◌≡◌, ◌+◌, ◌≤◌, ◌<◌, ◌^◌, IfErr, OnOk, None, Some, false, length, ◌∷◌, []};
 ghost use Rattle.std.specs.FinMap.{get};
 ghost use Rattle.vm_base.specs.Counts.{next_count};
 ghost use Rattle.vm_base.specs.Places.{cell_of};
@@ -7,6 +7,7 @@ ghost use Rattle.kernel_meaning.specs.FrameLaw.{lacks_slots};
 ghost use Rattle.page_tables.specs.Sides.{Sides};
 ghost use Rattle.page_tables.specs.Standing.{TablesStandFor, HasSlotFor, IsSlotOf, IsSlotChosen, slot_count};
 ghost use Rattle.page_tables.specs.Held.{frames_of, frames_in, shares_in};
+ghost use Rattle.page_tables.specs.Permissions.{LetsWrite};
 ghost use Rattle.page_tables.specs.Making.{MadeTouch, page_refusal};
 
 use crate::slot::Slot;
@@ -22,7 +23,7 @@ impl PageTables {
     /// what was granted has been given back, and both sides read as before.
     pub(crate) fn touch_page<A: Allot>(&mut self, page: u64, allot: &mut A) -> Result<(), Refused>
         requires page { page < 2 ^ 36 }
-        requires stands { (sides : Sides) × (TablesStandFor self.old sides × (lacks_slots (slot_count self.old) sides.leaves (cell_of page ∷ []) ≡ false)) }
+        requires stands { ∥ ((sides : Sides) × (TablesStandFor self.old sides × (lacks_slots (slot_count self.old) sides.leaves (cell_of page ∷ []) ≡ false))) ∥₁ }
         requires lent { frames_of self.old ≤ A.out (A.state allot.old) }
         requires untold { A.grants allot.old ≡ None }
         ensures made { MadeTouch A.goes (A.state allot.old) (A.state allot.new) page self.old self.new (page_refusal page result) }
@@ -32,6 +33,7 @@ impl PageTables {
         ensures slots { slot_count self.new ≡ slot_count self.old }
         ensures even { frames_in self.old.slots.items + shares_in self.new.slots.items ≡ shares_in self.old.slots.items + frames_in self.new.slots.items }
         ensures snapshot { self.new.snapshot ≡ self.old.snapshot }
+        ensures writable { OnOk result (LetsWrite page 1 self.old self.new) }
     {
         let cell = (page / CELL_PAGES) as u32;
         match self.directory.find(cell) {
@@ -47,7 +49,7 @@ impl PageTables {
     fn touch_known<A: Allot>(&mut self, slot: u32, page: u64, allot: &mut A) -> Result<(), Refused>
         requires page { page < 2 ^ 36 }
         requires known { get self.old.directory (cell_of page) ≡ Some slot }
-        requires stands { (sides : Sides) × TablesStandFor self.old sides }
+        requires stands { ∥ ((sides : Sides) × TablesStandFor self.old sides) ∥₁ }
         requires lent { frames_of self.old ≤ A.out (A.state allot.old) }
         requires untold { A.grants allot.old ≡ None }
         ensures made { MadeTouch A.goes (A.state allot.old) (A.state allot.new) page self.old self.new (page_refusal page result) }
@@ -57,6 +59,7 @@ impl PageTables {
         ensures slots { slot_count self.new ≡ slot_count self.old }
         ensures even { frames_in self.old.slots.items + shares_in self.new.slots.items ≡ shares_in self.old.slots.items + frames_in self.new.slots.items }
         ensures snapshot { self.new.snapshot ≡ self.old.snapshot }
+        ensures writable { OnOk result (LetsWrite page 1 self.old self.new) }
     {
         let index = (page % CELL_PAGES) as u16;
         let home = &mut self.slots[slot as usize];
@@ -70,7 +73,7 @@ impl PageTables {
     fn touch_new<A: Allot>(&mut self, slot: u32, page: u64, allot: &mut A) -> Result<(), Refused>
         requires page { page < 2 ^ 36 }
         requires new { get self.old.directory (cell_of page) ≡ None }
-        requires stands { (sides : Sides) × (TablesStandFor self.old sides × HasSlotFor self.old sides.leaves (cell_of page) slot) }
+        requires stands { ∥ ((sides : Sides) × (TablesStandFor self.old sides × HasSlotFor self.old sides.leaves (cell_of page) slot)) ∥₁ }
         requires lent { frames_of self.old ≤ A.out (A.state allot.old) }
         requires untold { A.grants allot.old ≡ None }
         ensures made { MadeTouch A.goes (A.state allot.old) (A.state allot.new) page self.old self.new (page_refusal page result) }
@@ -80,6 +83,7 @@ impl PageTables {
         ensures slots { slot_count self.new ≡ slot_count self.old }
         ensures even { frames_in self.old.slots.items + shares_in self.new.slots.items ≡ shares_in self.old.slots.items + frames_in self.new.slots.items }
         ensures snapshot { self.new.snapshot ≡ self.old.snapshot }
+        ensures writable { OnOk result (LetsWrite page 1 self.old self.new) }
     {
         let cell = (page / CELL_PAGES) as u32;
         match self.directory.insert(cell, slot, allot) {

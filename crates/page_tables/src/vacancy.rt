@@ -21,7 +21,7 @@ impl PageTables {
     pub fn lacks_slots(&self, first: u64, count: u64) -> bool
         requires some { 0 < count }
         requires range { first + count ≤ 2 ^ 36 }
-        requires stands { (sides : Sides) × TablesStandFor self.now sides }
+        requires stands { ∥ ((sides : Sides) × TablesStandFor self.now sides) ∥₁ }
         ensures { (sides : Sides) → TablesStandFor self.now sides → result ≡ lacks_slots (slot_count self.now) sides.leaves (cells_of_pages first count) }
     {
         let low = (first / CELL_PAGES) as u32;
@@ -34,7 +34,7 @@ impl PageTables {
     fn missing_slots(&self, low: u32, high: u32) -> usize
         requires order { low ≤ high }
         requires cells { high < 2 ^ 27 }
-        requires stands { (sides : Sides) × TablesStandFor self.now sides }
+        requires stands { ∥ ((sides : Sides) × TablesStandFor self.now sides) ∥₁ }
         ensures { (sides : Sides) → TablesStandFor self.now sides → result ≡ missing_in sides.leaves low (high + 1 - low) }
     {
         let mut missing = 0;
@@ -49,7 +49,7 @@ impl PageTables {
     /// Whether a cell has a slot.
     fn has_slot(&self, cell: u32) -> bool
         requires cell { cell < 2 ^ 27 }
-        requires stands { (sides : Sides) × TablesStandFor self.now sides }
+        requires stands { ∥ ((sides : Sides) × TablesStandFor self.now sides) ∥₁ }
         ensures { (sides : Sides) → TablesStandFor self.now sides → result ≡ is_some (find nat_cmp cell sides.leaves) }
     {
         if self.directory.find(cell).is_some() {

@@ -8,6 +8,7 @@ use Rattle.page_tables.proofs.Changing.{one-changed, all-changed, more-returned}
 use Rattle.kernel_meaning.specs.Leaves.{share}
 use Rattle.page_tables.proofs.ClearedSlot.{shares-set}
 use Rattle.page_tables.proofs.OwnedSlots.{frames-set, read-slot}
+use Rattle.std.proofs.Math.Logic.{∥∥₁_map}
 use Rattle.page_tables.proofs.fork.drop_cells.Goals as goal
 
 pub drop_slot-requires-clause-known : goal.drop_slot-requires-clause-known
@@ -16,7 +17,7 @@ drop_slot-requires-clause-known g c =
     let size : length c.loop-i.slots.items ≡ length c.args.slots.now.items = c.loop-i.invariant.changed.size in
     let within : c.loop-i.i < length c.loop-i.slots.items = omega (arith, c.loop-i-test.true, c.len-i-end.ensures, size) in
     let here : slice_get c.loop-i.slots.items c.loop-i.i ≡ Some c.index_mut.result.now = read-slot c.loop-i.slots.items c.loop-i.i c.index_mut.result.now within c.index_mut.ensures.value in
-    c.requires.known c.loop-i.i c.index_mut.result.now (sym (c.loop-i.invariant.changed.rest c.loop-i.i (omega arith)) ∙ here)
+    ∥∥₁_map c.requires.known (λ known. known c.loop-i.i c.index_mut.result.now (sym (c.loop-i.invariant.changed.rest c.loop-i.i (omega arith)) ∙ here))
 
 pub loop-i-preserved : goal.loop-i-preserved
 loop-i-preserved g c =

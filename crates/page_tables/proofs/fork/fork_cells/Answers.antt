@@ -14,6 +14,7 @@ use Rattle.page_tables.proofs.Changing.{none-changed, one-changed, all-changed, 
 use Rattle.kernel_meaning.specs.Leaves.{share}
 use Rattle.page_tables.proofs.ClearedSlot.{shares-set}
 use Rattle.page_tables.proofs.OwnedSlots.{frames-set, read-slot, held-within}
+use Rattle.std.proofs.Math.Logic.{∥∥₁_map}
 use Rattle.page_tables.proofs.fork.fork_cells.Goals as goal
 
 pub loop-i-init : goal.loop-i-init
@@ -39,7 +40,7 @@ fork_slot-requires-clause-known g c =
     let size : length c.loop-i.slots.items ≡ length c.args.slots.now.items = c.loop-i.invariant.changed.size in
     let within : c.loop-i.i < length c.loop-i.slots.items = omega (arith, c.loop-i-test.true, c.len-i-end.ensures, size) in
     let here : slice_get c.loop-i.slots.items c.loop-i.i ≡ Some c.index_mut.result.now = read-slot c.loop-i.slots.items c.loop-i.i c.index_mut.result.now within c.index_mut.ensures.value in
-    c.requires.known c.loop-i.i c.index_mut.result.now (sym (c.loop-i.invariant.changed.rest c.loop-i.i (omega arith)) ∙ here)
+    ∥∥₁_map c.requires.known (λ known. known c.loop-i.i c.index_mut.result.now (sym (c.loop-i.invariant.changed.rest c.loop-i.i (omega arith)) ∙ here))
 
 pub fork_slot-requires-clause-lent : goal.fork_slot-requires-clause-lent
 fork_slot-requires-clause-lent g c =
@@ -87,7 +88,7 @@ pub drop_cells-requires-clause-known : goal.drop_cells-requires-clause-known
 drop_cells-requires-clause-known g c =
     let same : slice_set c.loop-i.slots.items c.loop-i.i c.fork_slot.new.slot ≡ c.loop-i.slots.items =
     ap (slice_set c.loop-i.slots.items c.loop-i.i) (c.in-Err.ensures.kept ∙ c.index_mut.ensures.value) ∙ set-get_or c.loop-i.slots.items c.loop-i.i c.index_mut.result.now in
-    subst HaveAccounts (sym same) (accounts-now c.args.number c.loop-i.i c.args.slots.now.items c.loop-i.slots.items c.loop-i.invariant.changed c.requires.known)
+    ∥∥₁_map c.requires.known (λ known. subst HaveAccounts (sym same) (accounts-now c.args.number c.loop-i.i c.args.slots.now.items c.loop-i.slots.items c.loop-i.invariant.changed known))
 
 pub returns-in-Err-clause-undone : goal.returns-in-Err-clause-undone
 returns-in-Err-clause-undone g c =

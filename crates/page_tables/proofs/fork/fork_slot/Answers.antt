@@ -9,6 +9,7 @@ use Rattle.page_tables.proofs.ForkSlots.{unforked-becomes, fork-becomes-ok, fork
 use Rattle.kernel_meaning.specs.Leaves.{share}
 use Rattle.leaf_cell.specs.CellView.{held_of}
 use Rattle.leaf_cell.proofs.HeldShare.{share-stands}
+use Rattle.page_tables.proofs.Known.{known-number}
 use Rattle.page_tables.proofs.fork.fork_slot.Goals as goal
 
 pub returns-then-pages-eq0-clause-forked : goal.returns-then-pages-eq0-clause-forked
@@ -33,14 +34,15 @@ pub returns-clause-requests : goal.returns-clause-requests
 returns-clause-requests g c =
     let there : has_pages c.args.slot.now.cell.leaves.parent ≡ true = some-counted c.args.slot.now.cell.leaves.parent (λ e. c.if-pages-eq0.false (c.pages.ensures.pages ∙ e)) in
     subst (λ b. Asks g.A.Allot.goes (g.A.Allot.state c.args.allot.now) (replicate (cond b 1 0) want.Leaf) c.fork_eager-answer.result (g.A.Allot.state c.fork_eager-answer.new.allot)) (sym there)
-    (fork-asks g.A.Allot.goes _ _ c.args.number c.args.slot.now.cell c.fork_eager-answer.new.self c.requires.known.0 c.requires.known.1 c.fork_eager-answer.result (c.fork_eager-answer.ensures.made 0))
+    (fork-asks g.A.Allot.goes _ _ c.args.number c.args.slot.now.cell c.fork_eager-answer.new.self c.requires.known c.fork_eager-answer.result (c.fork_eager-answer.ensures.made 0))
 
 pub returns-clause-even : goal.returns-clause-even
 returns-clause-even g c =
-    let account = c.requires.known.0 in
-    let stands = c.requires.known.1 in
+    known-number c.requires.known (λ it.
+    let account = it.0 in
+    let stands = it.1 in
     let takes = (c.fork_eager-answer.ensures.made 0).follows account stands in
     let before : held_of c.args.slot.now.cell ≡ share c.args.slot.now.cell.leaves = c.tell_share.ensures account stands ∙ sym (share-stands c.args.slot.now.cell account stands) in
     let after : held_of c.fork_eager-answer.new.self ≡ share c.fork_eager-answer.new.self.leaves =
     c.tell_share-2.ensures _ takes.stands ∙ sym (share-stands c.fork_eager-answer.new.self _ takes.stands) in
-    omega (arith, before, after)
+    omega (arith, before, after))

@@ -1,6 +1,6 @@
-use Rattle.std.proofs.Common.{◌≡◌, ◌+◌, ◌-◌, ◌≤◌, ◌<◌, length, Some, sym, ◌∙◌, ap, subst, refl, arith}
+use Rattle.std.proofs.Common.{◌≡◌, ℕ, ◌+◌, ◌-◌, ◌≤◌, ◌<◌, length, Some, sym, ◌∙◌, ap, subst, refl, arith}
 use Rattle.std.specs.Prelude.{slice_set, true, count_by, is_some}
-use Rattle.std.specs.FinMap.{remove}
+use Rattle.std.specs.FinMap.{get, remove}
 use Rattle.std.specs.List.{slice_get}
 use Rattle.vm_base.specs.Deals.{Returned, LeadsAlong}
 use Rattle.vm_base.proofs.DealLemmas.{LeadsAlong-append}
@@ -14,34 +14,44 @@ use Rattle.table_levels.specs.Requests.{returned}
 use Rattle.page_tables.specs.declared.slot.Slot.{Slot}
 use Rattle.page_tables.specs.declared.tables.PageTables.{PageTables}
 use Rattle.page_tables.specs.Clearing.{sides_without}
-use Rattle.page_tables.specs.Standing.{StandFor}
+use Rattle.page_tables.specs.Sides.{Sides}
+use Rattle.page_tables.specs.Standing.{StandFor, TablesStandFor}
 use Rattle.page_tables.specs.Held.{frames_in, snapshot_frames}
-use Rattle.page_tables.proofs.OwnedSlots.{owned-within, held-within, frames-set, read-slot, slot-unjoined}
+use Rattle.page_tables.proofs.OwnedSlots.{owned-within, held-within, frames-set, read-slot}
 use Rattle.page_tables.proofs.ClearedSlot.{present-here, HoldsShare, less-held, deals-are, freed-are, event-made, stays, leaves-cell, even-here}
+use Rattle.page_tables.proofs.Known.{standing, known-owner, known-unjoined, known-number, known-below, known-test, known-deals}
 use Rattle.page_tables.proofs.tables.PageTables.clear_slot.Goals as goal
+
+module _ (tables : PageTables) (c first n : ℕ) (known : ∥ ((sides : Sides) × (TablesStandFor tables sides × (has_present (cell_at sides.leaves c).parent first n ≡ true))) ∥₁) where
+  standing-here : ∥ ((sides : Sides) × TablesStandFor tables sides) ∥₁
+  standing-here = standing tables (λ sides. has_present (cell_at sides.leaves c).parent first n ≡ true) known
+
+  -- the slot of the cell is one of the slots
+  slot-within : (s : ℕ) → get tables.directory c ≡ Some s → s < length tables.slots.items
+  slot-within s there = owned-within tables.slots.items s c (known-owner tables standing-here c s there)
 
 -- src/clear.rt:67:25
 pub index_mut-home-requires : goal.index_mut-home-requires
 index_mut-home-requires g c =
-    let within : c.args.slot < length c.args.self.now.slots.items = owned-within c.args.self.now.slots.items c.args.slot c.args.cell (c.requires.stands.1.0.named c.args.cell c.args.slot c.requires.known) in
+    let within : c.args.slot < length c.args.self.now.slots.items = slot-within c.args.self.now c.args.cell c.args.first c.args.count c.requires.stands c.args.slot c.requires.known in
     subst (λ n. c.args.slot < n) (sym c.args.self.now.slots.ok.0) within
 
 pub clear-requires-clause-unjoined : goal.clear-requires-clause-unjoined
 clear-requires-clause-unjoined g c = λ _.
-    let within : c.args.slot < length c.args.self.now.slots.items = owned-within c.args.self.now.slots.items c.args.slot c.args.cell (c.requires.stands.1.0.named c.args.cell c.args.slot c.requires.known) in
-    slot-unjoined c.args.self.now.directory c.args.self.now.snapshot c.args.self.now.slots.items c.requires.stands.0 c.requires.stands.1.0 c.args.slot c.index_mut-home.result.now
+    let within : c.args.slot < length c.args.self.now.slots.items = slot-within c.args.self.now c.args.cell c.args.first c.args.count c.requires.stands c.args.slot c.requires.known in
+    known-unjoined c.args.self.now (standing-here c.args.self.now c.args.cell c.args.first c.args.count c.requires.stands) c.args.slot c.index_mut-home.result.now
     (read-slot c.args.self.now.slots.items c.args.slot c.index_mut-home.result.now within c.index_mut-home.ensures.value)
 
 pub clear-requires-clause-held : goal.clear-requires-clause-held
 clear-requires-clause-held g c =
-    let within : c.args.slot < length c.args.self.now.slots.items = owned-within c.args.self.now.slots.items c.args.slot c.args.cell (c.requires.stands.1.0.named c.args.cell c.args.slot c.requires.known) in
+    let within : c.args.slot < length c.args.self.now.slots.items = slot-within c.args.self.now c.args.cell c.args.first c.args.count c.requires.stands c.args.slot c.requires.known in
     let part : held_of c.index_mut-home.result.now.cell ≤ frames_in c.args.self.now.slots.items = held-within c.args.self.now.slots.items c.args.slot c.index_mut-home.result.now (read-slot c.args.self.now.slots.items c.args.slot c.index_mut-home.result.now within c.index_mut-home.ensures.value) in
     let lent : tables_of c.args.self.now.directory + snapshot_frames c.args.self.now.snapshot + frames_in c.args.self.now.slots.items ≤ g.A.Allot.out (g.A.Allot.state c.args.allot.now) = c.requires.lent in
     omega (arith, part, lent)
 
 pub remove-requires-clause-lent : goal.remove-requires-clause-lent
 remove-requires-clause-lent g c =
-    let within : c.args.slot < length c.args.self.now.slots.items = owned-within c.args.self.now.slots.items c.args.slot c.args.cell (c.requires.stands.1.0.named c.args.cell c.args.slot c.requires.known) in
+    let within : c.args.slot < length c.args.self.now.slots.items = slot-within c.args.self.now c.args.cell c.args.first c.args.count c.requires.stands c.args.slot c.requires.known in
     let part : held_of c.index_mut-home.result.now.cell ≤ frames_in c.args.self.now.slots.items = held-within c.args.self.now.slots.items c.args.slot c.index_mut-home.result.now (read-slot c.args.self.now.slots.items c.args.slot c.index_mut-home.result.now within c.index_mut-home.ensures.value) in
     let lent : tables_of c.args.self.now.directory + snapshot_frames c.args.self.now.snapshot + frames_in c.args.self.now.slots.items ≤ g.A.Allot.out (g.A.Allot.state c.args.allot.now) = c.requires.lent in
     let held : g.A.Allot.out (g.A.Allot.state c.clear.new.allot) + held_of c.index_mut-home.result.now.cell ≡ g.A.Allot.out (g.A.Allot.state c.args.allot.now) + held_of c.clear.new.self = c.clear.ensures.held in
@@ -50,18 +60,18 @@ remove-requires-clause-lent g c =
 pub returns-then-pages-eq0-clause-given : goal.returns-then-pages-eq0-clause-given
 returns-then-pages-eq0-clause-given g c =
     let old : PageTables = c.args.self.now in
-    let within : c.args.slot < length old.slots.items = owned-within old.slots.items c.args.slot c.args.cell (c.requires.stands.1.0.named c.args.cell c.args.slot c.requires.known) in
+    let within : c.args.slot < length old.slots.items = slot-within c.args.self.now c.args.cell c.args.first c.args.count c.requires.stands c.args.slot c.requires.known in
     let here : slice_get old.slots.items c.args.slot ≡ Some c.index_mut-home.result.now = read-slot old.slots.items c.args.slot c.index_mut-home.result.now within c.index_mut-home.ensures.value in
     let before : HoldsShare c.index_mut-home.result.now.cell = λ account stands. c.tell_share.ensures account stands in
     let later : HoldsShare c.clear.new.self = λ account stands. c.tell_share-2.ensures account stands in
     let slot : Slot = c.index_mut-home.result.now in
     let made = c.clear.ensures.made in
-    let deals : made.deals ≡ returned (held_of slot.cell - held_of c.clear.new.self) = deals-are old c.args.cell c.args.slot c.args.first c.args.count slot c.requires.known here c.requires.range
-    c.clear.new.self made.deals made.follows before later c.requires.stands.0 c.requires.stands.1.0 c.requires.stands.1.1 in
+    let deals : made.deals ≡ returned (held_of slot.cell - held_of c.clear.new.self) = known-deals c.requires.stands (λ it. deals-are old c.args.cell c.args.slot c.args.first c.args.count slot c.requires.known here c.requires.range
+    c.clear.new.self made.deals made.follows before later it.0 it.1.0 it.1.1) in
     let freed : (tables_of old.directory + snapshot_frames old.snapshot + frames_in old.slots.items) - (tables_of c.remove.new.self + snapshot_frames old.snapshot + frames_in (slice_set old.slots.items c.args.slot c.leave_slot.new.home))
     ≡ (held_of slot.cell - held_of c.clear.new.self) + (tables_of old.directory - tables_of c.remove.new.self) =
-    freed-are old c.args.cell c.args.slot c.args.first c.args.count slot c.requires.known here c.requires.range c.clear.new.self made.deals made.follows before later c.requires.stands.0 c.requires.stands.1.0 c.requires.stands.1.1
-    c.remove.new.self c.leave_slot.new.home (ap (λ it. it.cell) c.leave_slot.ensures) c.remove.ensures.shrunk in
+    known-number c.requires.stands (λ it. freed-are old c.args.cell c.args.slot c.args.first c.args.count slot c.requires.known here c.requires.range c.clear.new.self made.deals made.follows before later it.0 it.1.0 it.1.1
+    c.remove.new.self c.leave_slot.new.home (ap (λ it. it.cell) c.leave_slot.ensures) c.remove.ensures.shrunk) in
     subst (λ n. LeadsAlong g.A.Allot.goes (g.A.Allot.state c.args.allot.now) (returned n) (g.A.Allot.state c.remove.new.allot)) (sym freed)
     (subst (λ deals. LeadsAlong g.A.Allot.goes (g.A.Allot.state c.args.allot.now) deals (g.A.Allot.state c.remove.new.allot)) (replicate-both Returned (held_of slot.cell - held_of c.clear.new.self) (tables_of old.directory - tables_of c.remove.new.self))
     (LeadsAlong-append g.A.Allot.goes (returned (held_of slot.cell - held_of c.clear.new.self)) (returned (tables_of old.directory - tables_of c.remove.new.self))
@@ -71,14 +81,14 @@ returns-then-pages-eq0-clause-given g c =
 pub returns-then-pages-eq0-clause-shrunk : goal.returns-then-pages-eq0-clause-shrunk
 returns-then-pages-eq0-clause-shrunk g c =
     let old : PageTables = c.args.self.now in
-    let within : c.args.slot < length old.slots.items = owned-within old.slots.items c.args.slot c.args.cell (c.requires.stands.1.0.named c.args.cell c.args.slot c.requires.known) in
+    let within : c.args.slot < length old.slots.items = slot-within c.args.self.now c.args.cell c.args.first c.args.count c.requires.stands c.args.slot c.requires.known in
     let here : slice_get old.slots.items c.args.slot ≡ Some c.index_mut-home.result.now = read-slot old.slots.items c.args.slot c.index_mut-home.result.now within c.index_mut-home.ensures.value in
     let before : HoldsShare c.index_mut-home.result.now.cell = λ account stands. c.tell_share.ensures account stands in
     let later : HoldsShare c.clear.new.self = λ account stands. c.tell_share-2.ensures account stands in
     let slot : Slot = c.index_mut-home.result.now in
     let made = c.clear.ensures.made in
-    let less : held_of c.clear.new.self ≤ held_of slot.cell = less-held old c.args.cell c.args.slot c.args.first c.args.count slot c.requires.known here c.requires.range
-    c.clear.new.self made.deals made.follows before later c.requires.stands.0 c.requires.stands.1.0 c.requires.stands.1.1 in
+    let less : held_of c.clear.new.self ≤ held_of slot.cell = known-below c.requires.stands (λ it. less-held old c.args.cell c.args.slot c.args.first c.args.count slot c.requires.known here c.requires.range
+    c.clear.new.self made.deals made.follows before later it.0 it.1.0 it.1.1) in
     let sums : frames_in (slice_set old.slots.items c.args.slot c.leave_slot.new.home) + held_of slot.cell ≡ frames_in old.slots.items + held_of c.clear.new.self =
     frames-set old.slots.items c.args.slot slot c.leave_slot.new.home here ∙ ap (λ it. frames_in old.slots.items + held_of it.cell) c.leave_slot.ensures in
     let fewer : tables_of c.remove.new.self ≤ tables_of old.directory = c.remove.ensures.shrunk in
@@ -87,7 +97,7 @@ returns-then-pages-eq0-clause-shrunk g c =
 pub returns-then-pages-eq0-clause-follows : goal.returns-then-pages-eq0-clause-follows
 returns-then-pages-eq0-clause-follows g c = λ sides st.
     let old : PageTables = c.args.self.now in
-    let within : c.args.slot < length old.slots.items = owned-within old.slots.items c.args.slot c.args.cell (c.requires.stands.1.0.named c.args.cell c.args.slot c.requires.known) in
+    let within : c.args.slot < length old.slots.items = slot-within c.args.self.now c.args.cell c.args.first c.args.count c.requires.stands c.args.slot c.requires.known in
     let here : slice_get old.slots.items c.args.slot ≡ Some c.index_mut-home.result.now = read-slot old.slots.items c.args.slot c.index_mut-home.result.now within c.index_mut-home.ensures.value in
     let before : HoldsShare c.index_mut-home.result.now.cell = λ account stands. c.tell_share.ensures account stands in
     let later : HoldsShare c.clear.new.self = λ account stands. c.tell_share-2.ensures account stands in
@@ -95,7 +105,7 @@ returns-then-pages-eq0-clause-follows g c = λ sides st.
     let made = c.clear.ensures.made in
     let seen : has_present (cell_at sides.leaves c.args.cell).parent c.args.first c.args.count ≡ true =
     sym (present-here old c.args.cell c.args.slot c.args.first c.args.count slot c.requires.known here c.requires.range sides st)
-    ∙ present-here old c.args.cell c.args.slot c.args.first c.args.count slot c.requires.known here c.requires.range c.requires.stands.0 c.requires.stands.1.0 ∙ c.requires.stands.1.1 in
+    ∙ known-test c.requires.stands (λ it. present-here old c.args.cell c.args.slot c.args.first c.args.count slot c.requires.known here c.requires.range it.0 it.1.0 ∙ it.1.1) in
     let none : count_by is_some c.clear.new.self.leaves.parent ≡ 0 = sym c.pages.ensures.pages ∙ c.if-pages-eq0.true in
     subst (λ d. StandFor d old.snapshot (slice_set old.slots.items c.args.slot c.leave_slot.new.home) (sides_without c.args.cell c.args.first c.args.count sides)) (sym c.remove.ensures.removed)
     (subst (λ new. StandFor (remove old.directory c.args.cell) old.snapshot (slice_set old.slots.items c.args.slot new) (sides_without c.args.cell c.args.first c.args.count sides)) (sym c.leave_slot.ensures)
@@ -105,7 +115,7 @@ returns-then-pages-eq0-clause-follows g c = λ sides st.
 pub returns-then-pages-eq0-clause-event : goal.returns-then-pages-eq0-clause-event
 returns-then-pages-eq0-clause-event g c = λ sides st.
     let old : PageTables = c.args.self.now in
-    let within : c.args.slot < length old.slots.items = owned-within old.slots.items c.args.slot c.args.cell (c.requires.stands.1.0.named c.args.cell c.args.slot c.requires.known) in
+    let within : c.args.slot < length old.slots.items = slot-within c.args.self.now c.args.cell c.args.first c.args.count c.requires.stands c.args.slot c.requires.known in
     let here : slice_get old.slots.items c.args.slot ≡ Some c.index_mut-home.result.now = read-slot old.slots.items c.args.slot c.index_mut-home.result.now within c.index_mut-home.ensures.value in
     let before : HoldsShare c.index_mut-home.result.now.cell = λ account stands. c.tell_share.ensures account stands in
     let later : HoldsShare c.clear.new.self = λ account stands. c.tell_share-2.ensures account stands in
@@ -113,7 +123,7 @@ returns-then-pages-eq0-clause-event g c = λ sides st.
     let made = c.clear.ensures.made in
     let seen : has_present (cell_at sides.leaves c.args.cell).parent c.args.first c.args.count ≡ true =
     sym (present-here old c.args.cell c.args.slot c.args.first c.args.count slot c.requires.known here c.requires.range sides st)
-    ∙ present-here old c.args.cell c.args.slot c.args.first c.args.count slot c.requires.known here c.requires.range c.requires.stands.0 c.requires.stands.1.0 ∙ c.requires.stands.1.1 in
+    ∙ known-test c.requires.stands (λ it. present-here old c.args.cell c.args.slot c.args.first c.args.count slot c.requires.known here c.requires.range it.0 it.1.0 ∙ it.1.1) in
     let none : count_by is_some c.clear.new.self.leaves.parent ≡ 0 = sym c.pages.ensures.pages ∙ c.if-pages-eq0.true in
     let now : StandFor c.remove.new.self old.snapshot (slice_set old.slots.items c.args.slot c.leave_slot.new.home) (sides_without c.args.cell c.args.first c.args.count sides) =
     subst (λ d. StandFor d old.snapshot (slice_set old.slots.items c.args.slot c.leave_slot.new.home) (sides_without c.args.cell c.args.first c.args.count sides)) (sym c.remove.ensures.removed)
@@ -126,7 +136,7 @@ returns-then-pages-eq0-clause-event g c = λ sides st.
 pub returns-then-pages-eq0-clause-held : goal.returns-then-pages-eq0-clause-held
 returns-then-pages-eq0-clause-held g c =
     let old : PageTables = c.args.self.now in
-    let within : c.args.slot < length old.slots.items = owned-within old.slots.items c.args.slot c.args.cell (c.requires.stands.1.0.named c.args.cell c.args.slot c.requires.known) in
+    let within : c.args.slot < length old.slots.items = slot-within c.args.self.now c.args.cell c.args.first c.args.count c.requires.stands c.args.slot c.requires.known in
     let here : slice_get old.slots.items c.args.slot ≡ Some c.index_mut-home.result.now = read-slot old.slots.items c.args.slot c.index_mut-home.result.now within c.index_mut-home.ensures.value in
     let slot : Slot = c.index_mut-home.result.now in
     let sums : frames_in (slice_set old.slots.items c.args.slot c.leave_slot.new.home) + held_of slot.cell ≡ frames_in old.slots.items + held_of c.clear.new.self =
@@ -138,42 +148,42 @@ returns-then-pages-eq0-clause-held g c =
 pub returns-else-pages-eq0-clause-given : goal.returns-else-pages-eq0-clause-given
 returns-else-pages-eq0-clause-given g c =
     let old : PageTables = c.args.self.now in
-    let within : c.args.slot < length old.slots.items = owned-within old.slots.items c.args.slot c.args.cell (c.requires.stands.1.0.named c.args.cell c.args.slot c.requires.known) in
+    let within : c.args.slot < length old.slots.items = slot-within c.args.self.now c.args.cell c.args.first c.args.count c.requires.stands c.args.slot c.requires.known in
     let here : slice_get old.slots.items c.args.slot ≡ Some c.index_mut-home.result.now = read-slot old.slots.items c.args.slot c.index_mut-home.result.now within c.index_mut-home.ensures.value in
     let before : HoldsShare c.index_mut-home.result.now.cell = λ account stands. c.tell_share.ensures account stands in
     let later : HoldsShare c.clear.new.self = λ account stands. c.tell_share-2.ensures account stands in
     let slot : Slot = c.index_mut-home.result.now in
     let new : Slot = record { owner = slot.owner; cell = c.clear.new.self } in
     let made = c.clear.ensures.made in
-    let deals : made.deals ≡ returned (held_of slot.cell - held_of c.clear.new.self) = deals-are old c.args.cell c.args.slot c.args.first c.args.count slot c.requires.known here c.requires.range
-    c.clear.new.self made.deals made.follows before later c.requires.stands.0 c.requires.stands.1.0 c.requires.stands.1.1 in
+    let deals : made.deals ≡ returned (held_of slot.cell - held_of c.clear.new.self) = known-deals c.requires.stands (λ it. deals-are old c.args.cell c.args.slot c.args.first c.args.count slot c.requires.known here c.requires.range
+    c.clear.new.self made.deals made.follows before later it.0 it.1.0 it.1.1) in
     let same : tables_of old.directory ≤ tables_of old.directory = omega arith in
     let none : held_of slot.cell - held_of c.clear.new.self + (tables_of old.directory - tables_of old.directory) ≡ held_of slot.cell - held_of c.clear.new.self = omega arith in
     let freed : (tables_of old.directory + snapshot_frames old.snapshot + frames_in old.slots.items) - (tables_of old.directory + snapshot_frames old.snapshot + frames_in (slice_set old.slots.items c.args.slot new))
     ≡ held_of slot.cell - held_of c.clear.new.self =
-    freed-are old c.args.cell c.args.slot c.args.first c.args.count slot c.requires.known here c.requires.range c.clear.new.self made.deals made.follows before later c.requires.stands.0 c.requires.stands.1.0 c.requires.stands.1.1
-    old.directory new refl same ∙ none in
+    known-number c.requires.stands (λ it. freed-are old c.args.cell c.args.slot c.args.first c.args.count slot c.requires.known here c.requires.range c.clear.new.self made.deals made.follows before later it.0 it.1.0 it.1.1
+    old.directory new refl same) ∙ none in
     subst (λ deals. LeadsAlong g.A.Allot.goes (g.A.Allot.state c.args.allot.now) deals (g.A.Allot.state c.clear.new.allot)) (deals ∙ ap returned (sym freed)) made.led
 
 pub returns-else-pages-eq0-clause-shrunk : goal.returns-else-pages-eq0-clause-shrunk
 returns-else-pages-eq0-clause-shrunk g c =
     let old : PageTables = c.args.self.now in
-    let within : c.args.slot < length old.slots.items = owned-within old.slots.items c.args.slot c.args.cell (c.requires.stands.1.0.named c.args.cell c.args.slot c.requires.known) in
+    let within : c.args.slot < length old.slots.items = slot-within c.args.self.now c.args.cell c.args.first c.args.count c.requires.stands c.args.slot c.requires.known in
     let here : slice_get old.slots.items c.args.slot ≡ Some c.index_mut-home.result.now = read-slot old.slots.items c.args.slot c.index_mut-home.result.now within c.index_mut-home.ensures.value in
     let before : HoldsShare c.index_mut-home.result.now.cell = λ account stands. c.tell_share.ensures account stands in
     let later : HoldsShare c.clear.new.self = λ account stands. c.tell_share-2.ensures account stands in
     let slot : Slot = c.index_mut-home.result.now in
     let new : Slot = record { owner = slot.owner; cell = c.clear.new.self } in
     let made = c.clear.ensures.made in
-    let less : held_of c.clear.new.self ≤ held_of slot.cell = less-held old c.args.cell c.args.slot c.args.first c.args.count slot c.requires.known here c.requires.range
-    c.clear.new.self made.deals made.follows before later c.requires.stands.0 c.requires.stands.1.0 c.requires.stands.1.1 in
+    let less : held_of c.clear.new.self ≤ held_of slot.cell = known-below c.requires.stands (λ it. less-held old c.args.cell c.args.slot c.args.first c.args.count slot c.requires.known here c.requires.range
+    c.clear.new.self made.deals made.follows before later it.0 it.1.0 it.1.1) in
     let sums : frames_in (slice_set old.slots.items c.args.slot new) + held_of slot.cell ≡ frames_in old.slots.items + held_of c.clear.new.self = frames-set old.slots.items c.args.slot slot new here in
     omega (arith, less, sums)
 
 pub returns-else-pages-eq0-clause-follows : goal.returns-else-pages-eq0-clause-follows
 returns-else-pages-eq0-clause-follows g c = λ sides st.
     let old : PageTables = c.args.self.now in
-    let within : c.args.slot < length old.slots.items = owned-within old.slots.items c.args.slot c.args.cell (c.requires.stands.1.0.named c.args.cell c.args.slot c.requires.known) in
+    let within : c.args.slot < length old.slots.items = slot-within c.args.self.now c.args.cell c.args.first c.args.count c.requires.stands c.args.slot c.requires.known in
     let here : slice_get old.slots.items c.args.slot ≡ Some c.index_mut-home.result.now = read-slot old.slots.items c.args.slot c.index_mut-home.result.now within c.index_mut-home.ensures.value in
     let before : HoldsShare c.index_mut-home.result.now.cell = λ account stands. c.tell_share.ensures account stands in
     let later : HoldsShare c.clear.new.self = λ account stands. c.tell_share-2.ensures account stands in
@@ -181,14 +191,14 @@ returns-else-pages-eq0-clause-follows g c = λ sides st.
     let made = c.clear.ensures.made in
     let seen : has_present (cell_at sides.leaves c.args.cell).parent c.args.first c.args.count ≡ true =
     sym (present-here old c.args.cell c.args.slot c.args.first c.args.count slot c.requires.known here c.requires.range sides st)
-    ∙ present-here old c.args.cell c.args.slot c.args.first c.args.count slot c.requires.known here c.requires.range c.requires.stands.0 c.requires.stands.1.0 ∙ c.requires.stands.1.1 in
+    ∙ known-test c.requires.stands (λ it. present-here old c.args.cell c.args.slot c.args.first c.args.count slot c.requires.known here c.requires.range it.0 it.1.0 ∙ it.1.1) in
     stays old c.args.cell c.args.slot c.args.first c.args.count slot c.requires.known here c.requires.range c.clear.new.self made.deals made.follows before later sides st seen
     (some-counted c.clear.new.self.leaves.parent (λ e. c.if-pages-eq0.false (c.pages.ensures.pages ∙ e)))
 
 pub returns-else-pages-eq0-clause-event : goal.returns-else-pages-eq0-clause-event
 returns-else-pages-eq0-clause-event g c = λ sides st.
     let old : PageTables = c.args.self.now in
-    let within : c.args.slot < length old.slots.items = owned-within old.slots.items c.args.slot c.args.cell (c.requires.stands.1.0.named c.args.cell c.args.slot c.requires.known) in
+    let within : c.args.slot < length old.slots.items = slot-within c.args.self.now c.args.cell c.args.first c.args.count c.requires.stands c.args.slot c.requires.known in
     let here : slice_get old.slots.items c.args.slot ≡ Some c.index_mut-home.result.now = read-slot old.slots.items c.args.slot c.index_mut-home.result.now within c.index_mut-home.ensures.value in
     let before : HoldsShare c.index_mut-home.result.now.cell = λ account stands. c.tell_share.ensures account stands in
     let later : HoldsShare c.clear.new.self = λ account stands. c.tell_share-2.ensures account stands in
@@ -196,7 +206,7 @@ returns-else-pages-eq0-clause-event g c = λ sides st.
     let made = c.clear.ensures.made in
     let seen : has_present (cell_at sides.leaves c.args.cell).parent c.args.first c.args.count ≡ true =
     sym (present-here old c.args.cell c.args.slot c.args.first c.args.count slot c.requires.known here c.requires.range sides st)
-    ∙ present-here old c.args.cell c.args.slot c.args.first c.args.count slot c.requires.known here c.requires.range c.requires.stands.0 c.requires.stands.1.0 ∙ c.requires.stands.1.1 in
+    ∙ known-test c.requires.stands (λ it. present-here old c.args.cell c.args.slot c.args.first c.args.count slot c.requires.known here c.requires.range it.0 it.1.0 ∙ it.1.1) in
     event-made old c.args.cell c.args.slot c.args.first c.args.count slot c.requires.known here c.requires.range c.clear.new.self made.deals made.follows before later sides st seen
     old.directory (record { owner = slot.owner; cell = c.clear.new.self }) refl (omega arith)
     (stays old c.args.cell c.args.slot c.args.first c.args.count slot c.requires.known here c.requires.range c.clear.new.self made.deals made.follows before later sides st seen
@@ -205,7 +215,7 @@ returns-else-pages-eq0-clause-event g c = λ sides st.
 pub returns-else-pages-eq0-clause-held : goal.returns-else-pages-eq0-clause-held
 returns-else-pages-eq0-clause-held g c =
     let old : PageTables = c.args.self.now in
-    let within : c.args.slot < length old.slots.items = owned-within old.slots.items c.args.slot c.args.cell (c.requires.stands.1.0.named c.args.cell c.args.slot c.requires.known) in
+    let within : c.args.slot < length old.slots.items = slot-within c.args.self.now c.args.cell c.args.first c.args.count c.requires.stands c.args.slot c.requires.known in
     let here : slice_get old.slots.items c.args.slot ≡ Some c.index_mut-home.result.now = read-slot old.slots.items c.args.slot c.index_mut-home.result.now within c.index_mut-home.ensures.value in
     let slot : Slot = c.index_mut-home.result.now in
     let new : Slot = record { owner = slot.owner; cell = c.clear.new.self } in
@@ -216,21 +226,21 @@ returns-else-pages-eq0-clause-held g c =
 pub returns-then-pages-eq0-clause-even : goal.returns-then-pages-eq0-clause-even
 returns-then-pages-eq0-clause-even g c =
     let old : PageTables = c.args.self.now in
-    let within : c.args.slot < length old.slots.items = owned-within old.slots.items c.args.slot c.args.cell (c.requires.stands.1.0.named c.args.cell c.args.slot c.requires.known) in
+    let within : c.args.slot < length old.slots.items = slot-within c.args.self.now c.args.cell c.args.first c.args.count c.requires.stands c.args.slot c.requires.known in
     let here : slice_get old.slots.items c.args.slot ≡ Some c.index_mut-home.result.now = read-slot old.slots.items c.args.slot c.index_mut-home.result.now within c.index_mut-home.ensures.value in
     let before : HoldsShare c.index_mut-home.result.now.cell = λ account stands. c.tell_share.ensures account stands in
     let later : HoldsShare c.clear.new.self = λ account stands. c.tell_share-2.ensures account stands in
     let made = c.clear.ensures.made in
-    even-here old c.args.cell c.args.slot c.args.first c.args.count c.index_mut-home.result.now c.requires.known here c.requires.range c.clear.new.self made.deals made.follows before later c.requires.stands.0 c.requires.stands.1.0 c.requires.stands.1.1
-    c.leave_slot.new.home (ap (λ it. it.cell) c.leave_slot.ensures)
+    known-number c.requires.stands (λ it. even-here old c.args.cell c.args.slot c.args.first c.args.count c.index_mut-home.result.now c.requires.known here c.requires.range c.clear.new.self made.deals made.follows before later it.0 it.1.0 it.1.1
+    c.leave_slot.new.home (ap (λ it. it.cell) c.leave_slot.ensures))
 
 pub returns-else-pages-eq0-clause-even : goal.returns-else-pages-eq0-clause-even
 returns-else-pages-eq0-clause-even g c =
     let old : PageTables = c.args.self.now in
-    let within : c.args.slot < length old.slots.items = owned-within old.slots.items c.args.slot c.args.cell (c.requires.stands.1.0.named c.args.cell c.args.slot c.requires.known) in
+    let within : c.args.slot < length old.slots.items = slot-within c.args.self.now c.args.cell c.args.first c.args.count c.requires.stands c.args.slot c.requires.known in
     let here : slice_get old.slots.items c.args.slot ≡ Some c.index_mut-home.result.now = read-slot old.slots.items c.args.slot c.index_mut-home.result.now within c.index_mut-home.ensures.value in
     let before : HoldsShare c.index_mut-home.result.now.cell = λ account stands. c.tell_share.ensures account stands in
     let later : HoldsShare c.clear.new.self = λ account stands. c.tell_share-2.ensures account stands in
     let made = c.clear.ensures.made in
-    even-here old c.args.cell c.args.slot c.args.first c.args.count c.index_mut-home.result.now c.requires.known here c.requires.range c.clear.new.self made.deals made.follows before later c.requires.stands.0 c.requires.stands.1.0 c.requires.stands.1.1
-    (record { owner = c.index_mut-home.result.now.owner; cell = c.clear.new.self }) refl
+    known-number c.requires.stands (λ it. even-here old c.args.cell c.args.slot c.args.first c.args.count c.index_mut-home.result.now c.requires.known here c.requires.range c.clear.new.self made.deals made.follows before later it.0 it.1.0 it.1.1
+    (record { owner = c.index_mut-home.result.now.owner; cell = c.clear.new.self }) refl)

@@ -4,15 +4,18 @@ use Rattle.table_levels.proofs.Counting.{tables_of-empty}
 use Rattle.page_tables.specs.Standing.{StandFor}
 use Rattle.page_tables.proofs.StandingFacts.{alone-slots, known-slots}
 use Rattle.page_tables.proofs.ForkedTables.{fork-made, fork-refused}
+use Rattle.std.proofs.Math.Logic.{∥∥₁_map}
+use Rattle.page_tables.proofs.Known.{known-kept}
 use Rattle.page_tables.proofs.tables.PageTables.fork.Goals as goal
 
 pub fork_into-requires-clause-alone : goal.fork_into-requires-clause-alone
 fork_into-requires-clause-alone g c =
-    alone-slots c.args.self.now.directory c.args.self.now.slots.items c.requires.stands.0
-    (subst (λ snapshot. StandFor c.args.self.now.directory snapshot c.args.self.now.slots.items c.requires.stands.0) c.requires.alone c.requires.stands.1)
+    λ s slot here. known-kept c.requires.stands (λ it.
+    alone-slots c.args.self.now.directory c.args.self.now.slots.items it.0
+    (subst (λ snapshot. StandFor c.args.self.now.directory snapshot c.args.self.now.slots.items it.0) c.requires.alone it.1) s slot here)
 
 pub fork_into-requires-clause-known : goal.fork_into-requires-clause-known
-fork_into-requires-clause-known g c = known-slots c.args.self.now.directory c.args.self.now.snapshot c.args.self.now.slots.items c.requires.stands.0 c.requires.stands.1
+fork_into-requires-clause-known g c = ∥∥₁_map c.requires.stands (λ it. known-slots c.args.self.now.directory c.args.self.now.snapshot c.args.self.now.slots.items it.0 it.1)
 
 pub returns-in-Ok-clause-made : goal.returns-in-Ok-clause-made
 returns-in-Ok-clause-made g c =

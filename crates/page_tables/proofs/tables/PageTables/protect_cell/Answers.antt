@@ -1,14 +1,46 @@
-use Rattle.std.proofs.Common.{◌<◌, length, sym, subst}
-use Rattle.page_tables.proofs.OwnedSlots.{owned-within, read-slot, slot-unjoined}
+use Rattle.std.proofs.Common.{◌≡◌, ◌-◌, ◌*◌, ◌<◌, length, refl, sym, ◌∙◌, ap, subst, arith}
+use Rattle.std.specs.Prelude.{min, slice_set}
+use Rattle.page_tables.proofs.OwnedSlots.{owned-within, read-slot}
+use Rattle.page_tables.proofs.Known.{known-owner, known-unjoined}
+use Rattle.std.specs.Vec.{with_item}
+use Rattle.leaf_cell.specs.Permissions.{allowed}
+use Rattle.page_tables.proofs.ParentPages.{owned-here}
+use Rattle.page_tables.proofs.Permissions.{all-but-permissions, pages-allowed, others-still}
 use Rattle.page_tables.proofs.tables.PageTables.protect_cell.Goals as goal
 
 pub index_mut-requires : goal.index_mut-requires
 index_mut-requires g c =
-    let within : c.args.slot < length c.args.self.now.slots.items = owned-within c.args.self.now.slots.items c.args.slot c.args.cell (c.requires.stands.1.named c.args.cell c.args.slot c.requires.known) in
+    let within : c.args.slot < length c.args.self.now.slots.items = owned-within c.args.self.now.slots.items c.args.slot c.args.cell (known-owner c.args.self.now c.requires.stands c.args.cell c.args.slot c.requires.known) in
     subst (λ n. c.args.slot < n) (sym c.args.self.now.slots.ok.0) within
 
 pub protect-requires-clause-unjoined : goal.protect-requires-clause-unjoined
 protect-requires-clause-unjoined g c = λ _.
-    let within : c.args.slot < length c.args.self.now.slots.items = owned-within c.args.self.now.slots.items c.args.slot c.args.cell (c.requires.stands.1.named c.args.cell c.args.slot c.requires.known) in
-    slot-unjoined c.args.self.now.directory c.args.self.now.snapshot c.args.self.now.slots.items c.requires.stands.0 c.requires.stands.1 c.args.slot c.index_mut.result.now
+    let within : c.args.slot < length c.args.self.now.slots.items = owned-within c.args.self.now.slots.items c.args.slot c.args.cell (known-owner c.args.self.now c.requires.stands c.args.cell c.args.slot c.requires.known) in
+    known-unjoined c.args.self.now c.requires.stands c.args.slot c.index_mut.result.now
     (read-slot c.args.self.now.slots.items c.args.slot c.index_mut.result.now within c.index_mut.ensures.value)
+
+pub returns-clause-tables : goal.returns-clause-tables
+returns-clause-tables g c =
+    all-but-permissions c.args.self.now c.args.cell c.args.slot c.index_mut.result.now c.requires.known
+    (owned-here c.args.self.now.slots.items c.args.slot c.args.cell c.index_mut.result.now (known-owner c.args.self.now c.requires.stands c.args.cell c.args.slot c.requires.known) c.index_mut.ensures.value)
+    (known-owner c.args.self.now c.requires.stands) _ _ refl refl
+    (ap (λ cell. slice_set c.args.self.now.slots.items c.args.slot (record { owner = c.index_mut.result.now.owner; cell = cell })) c.protect.ensures.cell)
+
+pub returns-clause-within : goal.returns-clause-within
+returns-clause-within g c =
+    let low_is : c.saturating_sub-low.result ≡ c.args.first - c.args.cell * 512 = omega (arith, c.saturating_sub-low.ensures, c.from-start.ensures) in
+    let high_is : c.min-high.result ≡ min (c.args.end - c.args.cell * 512) 512 = c.min-high.ensures ∙ ap (λ n. min (c.args.end - n * 512) 512) c.from-start.ensures in
+    pages-allowed c.args.self.now c.args.cell c.args.slot c.index_mut.result.now c.requires.known
+    (owned-here c.args.self.now.slots.items c.args.slot c.args.cell c.index_mut.result.now (known-owner c.args.self.now c.requires.stands c.args.cell c.args.slot c.requires.known) c.index_mut.ensures.value)
+    (known-owner c.args.self.now c.requires.stands) (allowed c.args.perm c.saturating_sub-low.result (c.min-high.result - c.saturating_sub-low.result) c.index_mut.result.now.cell)
+    (record c.args.self.now { slots = with_item c.args.self.now.slots c.args.slot (record { owner = c.index_mut.result.now.owner; cell = c.protect.new.self }) }) refl refl
+    (ap (λ cell. slice_set c.args.self.now.slots.items c.args.slot (record { owner = c.index_mut.result.now.owner; cell = cell })) c.protect.ensures.cell)
+    c.args.perm c.args.first c.args.end c.saturating_sub-low.result c.min-high.result low_is high_is refl
+
+pub returns-clause-others : goal.returns-clause-others
+returns-clause-others g c =
+    others-still c.args.self.now c.args.cell c.args.slot c.index_mut.result.now c.requires.known
+    (owned-here c.args.self.now.slots.items c.args.slot c.args.cell c.index_mut.result.now (known-owner c.args.self.now c.requires.stands c.args.cell c.args.slot c.requires.known) c.index_mut.ensures.value)
+    (known-owner c.args.self.now c.requires.stands) (allowed c.args.perm c.saturating_sub-low.result (c.min-high.result - c.saturating_sub-low.result) c.index_mut.result.now.cell)
+    (record c.args.self.now { slots = with_item c.args.self.now.slots c.args.slot (record { owner = c.index_mut.result.now.owner; cell = c.protect.new.self }) }) refl refl
+    (ap (λ cell. slice_set c.args.self.now.slots.items c.args.slot (record { owner = c.index_mut.result.now.owner; cell = cell })) c.protect.ensures.cell)

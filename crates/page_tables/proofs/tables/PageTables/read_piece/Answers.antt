@@ -4,12 +4,13 @@ use Rattle.std.specs.FinMap.{get}
 use Rattle.vm_base.specs.Places.{page_of, cell_of}
 use Rattle.vm_base.proofs.FlatBytes.{bytes_at-absent}
 use Rattle.page_tables.proofs.ParentPages.{owned-index, parent-read, page-absent}
+use Rattle.page_tables.proofs.Known.{known-owner}
 use Rattle.page_tables.proofs.tables.PageTables.read_piece.Goals as goal
 
 pub index-requires : goal.index-requires
 index-requires c =
     let known = ap (get c.args.self.now.directory) (sym c.location_of-location.ensures.cell) ∙ sym c.find.ensures ∙ c.in-Some.is in
-    owned-index c.args.self.now.slots.items _ c.in-Some.slot (cell_of (page_of c.args.addr)) c.args.self.now.slots.ok.0 (c.requires.stands.1.named (cell_of (page_of c.args.addr)) c.in-Some.slot known)
+    owned-index c.args.self.now.slots.items _ c.in-Some.slot (cell_of (page_of c.args.addr)) c.args.self.now.slots.ok.0 (known-owner c.args.self.now c.requires.stands (cell_of (page_of c.args.addr)) c.in-Some.slot known)
 
 pub returns-in-Some : goal.returns-in-Some
 returns-in-Some c = record {

@@ -3,12 +3,13 @@ use Rattle.std.proofs.Common.{length}
 use Rattle.vm_base.specs.Places.{page_of, cell_of}
 use Rattle.page_tables.proofs.ParentPages.{owned-index}
 use Rattle.page_tables.proofs.SnapshotPages.{snapshot-read}
+use Rattle.page_tables.proofs.Known.{known-snapshot-owner}
 use Rattle.page_tables.proofs.tables.PageTables.snap_read_piece.Goals as goal
 
 pub index-requires : goal.index-requires
 index-requires c =
     owned-index c.args.self.now.slots.items _ c.args.slot (cell_of (page_of c.args.addr)) c.args.self.now.slots.ok.0
-    (c.requires.stands.1.snapshot_of.named (cell_of (page_of c.args.addr)) c.args.slot c.requires.known)
+    (known-snapshot-owner c.args.self.now c.requires.stands (cell_of (page_of c.args.addr)) c.args.slot c.requires.known)
 
 pub returns : goal.returns
 returns c = record {

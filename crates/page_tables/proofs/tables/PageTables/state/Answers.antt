@@ -4,12 +4,13 @@ use Rattle.kernel_meaning.specs.Leaves.{kept_by}
 use Rattle.leaf_cell.specs.States.{state_of}
 use Rattle.page_tables.proofs.ParentPages.{account_at, slot-stands, owned-here, owned-index}
 use Rattle.page_tables.proofs.SnapshotPages.{kept-lacking}
+use Rattle.page_tables.proofs.Known.{known-snapshot-owner}
 use Rattle.page_tables.proofs.tables.PageTables.state.Goals as goal
 
 pub index-requires : goal.index-requires
 index-requires c =
     owned-index c.args.self.now.slots.items _ c.in-Some.slot c.args.cell c.args.self.now.slots.ok.0
-    (c.requires.stands.1.snapshot_of.named c.args.cell c.in-Some.slot (sym c.snapshot_slot.ensures ∙ c.in-Some.is))
+    (known-snapshot-owner c.args.self.now c.requires.stands c.args.cell c.in-Some.slot (sym c.snapshot_slot.ensures ∙ c.in-Some.is))
 
 pub returns-in-Some : goal.returns-in-Some
 returns-in-Some c = record {

@@ -6,16 +6,18 @@ use Rattle.vm_base.specs.FlatStep.{with_bytes}
 use Rattle.page_tables.specs.Sides.{Sides}
 use Rattle.page_tables.specs.Standing.{TablesStandFor}
 use Rattle.page_tables.proofs.PieceByPiece.{store-more}
+use Rattle.std.proofs.Math.Logic.{∥∥₁_map}
 use Rattle.page_tables.proofs.tables.PageTables.store.Goals as goal
 
 pub store_piece-requires-clause-stands : goal.store_piece-requires-clause-stands
 store_piece-requires-clause-stands c =
     let above : page_of c.args.addr ≤ page_of (c.args.addr + c.loop-done.done) = omega arith in
     let below : page_of (c.args.addr + c.loop-done.done) * 4096 < c.args.addr + length c.args.bytes.now = omega arith in
-    let sides : Sides = c.requires.stands.0 in (
+    ∥∥₁_map c.requires.stands (λ it.
+    let sides : Sides = it.0 in (
       record sides { pages = with_bytes sides.pages c.args.addr (take c.loop-done.done c.args.bytes.now) },
-      (c.loop-done.invariant.stored c.requires.stands.0 c.requires.stands.1.0, c.requires.stands.1.1 (page_of (c.args.addr + c.loop-done.done)) above below),
-    )
+      (c.loop-done.invariant.stored sides it.1.0, it.1.1 (page_of (c.args.addr + c.loop-done.done)) above below),
+    ))
 
 pub loop-done-preserved : goal.loop-done-preserved
 loop-done-preserved c =

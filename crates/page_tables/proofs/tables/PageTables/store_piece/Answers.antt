@@ -1,5 +1,5 @@
 -- The cell of the page takes the bytes.
-use Rattle.std.proofs.Common.{◌≡◌, ◌+◌, sym, ◌∙◌, ap, refl, arith}
+use Rattle.std.proofs.Common.{◌≡◌, ℕ, ◌+◌, sym, ◌∙◌, ap, refl, arith}
 use Rattle.std.specs.Prelude.{slice_set}
 use Rattle.std.specs.Vec.{with_item}
 use Rattle.std.specs.FinMap.{get}
@@ -13,25 +13,33 @@ use Rattle.page_tables.proofs.ClearedSlot.{shares-set}
 use Rattle.page_tables.proofs.OwnedSlots.{frames-set}
 use Rattle.page_tables.proofs.ParentPages.{owned-here, owned-index}
 use Rattle.page_tables.proofs.ParentStore.{ready-view, stands-stored}
+use Rattle.page_tables.specs.declared.tables.PageTables.{PageTables}
+use Rattle.page_tables.specs.Sides.{Sides}
+use Rattle.page_tables.specs.Standing.{TablesStandFor}
+use Rattle.page_tables.specs.Accesses.{IsReady}
+use Rattle.page_tables.proofs.Known.{standing, known-owner, known-alone}
 use Rattle.page_tables.proofs.tables.PageTables.store_piece.Goals as goal
+
+standing-ready : (tables : PageTables) (address : ℕ) → ∥ ((sides : Sides) × (TablesStandFor tables sides × IsReady sides.leaves (page_of address))) ∥₁ → ∥ ((sides : Sides) × TablesStandFor tables sides) ∥₁
+standing-ready tables address known = standing tables (λ sides. IsReady sides.leaves (page_of address)) known
 
 pub index_mut-requires : goal.index_mut-requires
 index_mut-requires c =
     let known = ap (get c.args.self.now.directory) (sym c.location_of-location.ensures.cell) ∙ sym c.find.ensures ∙ c.in-Some.is in
-    owned-index c.args.self.now.slots.items _ c.in-Some.slot (cell_of (page_of c.args.addr)) c.args.self.now.slots.ok.0 (c.requires.stands.1.0.named (cell_of (page_of c.args.addr)) c.in-Some.slot known)
+    owned-index c.args.self.now.slots.items _ c.in-Some.slot (cell_of (page_of c.args.addr)) c.args.self.now.slots.ok.0 (known-owner c.args.self.now (standing-ready c.args.self.now c.args.addr c.requires.stands) (cell_of (page_of c.args.addr)) c.in-Some.slot known)
 
 pub store-requires-clause-present : goal.store-requires-clause-present
 store-requires-clause-present c =
     let known = ap (get c.args.self.now.directory) (sym c.location_of-location.ensures.cell) ∙ sym c.find.ensures ∙ c.in-Some.is in
-    let alone : IsAlone c.index_mut.result.now.cell.leaves c.location_of-location.result.page = ready-view c.args.self.now c.requires.stands.0 c.requires.stands.1.0 c.args.addr c.in-Some.slot c.args.bytes.now c.index_mut.result.now known
-    c.index_mut.ensures.value c.location_of-location.result.page c.location_of-location.result.at c.location_of-location.ensures.page c.location_of-location.ensures.at c.requires.stands.1.1 in
+    let alone : IsAlone c.index_mut.result.now.cell.leaves c.location_of-location.result.page = known-alone c.requires.stands (λ it. ready-view c.args.self.now it.0 it.1.0 c.args.addr c.in-Some.slot c.args.bytes.now c.index_mut.result.now known
+    c.index_mut.ensures.value c.location_of-location.result.page c.location_of-location.result.at c.location_of-location.ensures.page c.location_of-location.ensures.at it.1.1) in
     alone.present
 
 pub store-requires-clause-unnamed : goal.store-requires-clause-unnamed
 store-requires-clause-unnamed c =
     let known = ap (get c.args.self.now.directory) (sym c.location_of-location.ensures.cell) ∙ sym c.find.ensures ∙ c.in-Some.is in
-    let alone : IsAlone c.index_mut.result.now.cell.leaves c.location_of-location.result.page = ready-view c.args.self.now c.requires.stands.0 c.requires.stands.1.0 c.args.addr c.in-Some.slot c.args.bytes.now c.index_mut.result.now known
-    c.index_mut.ensures.value c.location_of-location.result.page c.location_of-location.result.at c.location_of-location.ensures.page c.location_of-location.ensures.at c.requires.stands.1.1 in
+    let alone : IsAlone c.index_mut.result.now.cell.leaves c.location_of-location.result.page = known-alone c.requires.stands (λ it. ready-view c.args.self.now it.0 it.1.0 c.args.addr c.in-Some.slot c.args.bytes.now c.index_mut.result.now known
+    c.index_mut.ensures.value c.location_of-location.result.page c.location_of-location.result.at c.location_of-location.ensures.page c.location_of-location.ensures.at it.1.1) in
     alone.unnamed
 
 pub returns-clause-stored : goal.returns-clause-stored
@@ -45,7 +53,7 @@ returns-clause-stored c = λ sides st.
 pub returns-clause-held : goal.returns-clause-held
 returns-clause-held c =
     let known = ap (get c.args.self.now.directory) (sym c.location_of-location.ensures.cell) ∙ sym c.find.ensures ∙ c.in-Some.is in
-    let here = owned-here c.args.self.now.slots.items c.in-Some.slot (cell_of (page_of c.args.addr)) c.index_mut.result.now (c.requires.stands.1.0.named (cell_of (page_of c.args.addr)) c.in-Some.slot known) c.index_mut.ensures.value in
+    let here = owned-here c.args.self.now.slots.items c.in-Some.slot (cell_of (page_of c.args.addr)) c.index_mut.result.now (known-owner c.args.self.now (standing-ready c.args.self.now c.args.addr c.requires.stands) (cell_of (page_of c.args.addr)) c.in-Some.slot known) c.index_mut.ensures.value in
     let new : Slot = record { owner = c.index_mut.result.now.owner; cell = c.store.new.self } in
     let sums : frames_in (slice_set c.args.self.now.slots.items c.in-Some.slot new) + held_of c.index_mut.result.now.cell ≡ frames_in c.args.self.now.slots.items + held_of c.store.new.self =
     frames-set c.args.self.now.slots.items c.in-Some.slot c.index_mut.result.now new here in
@@ -55,7 +63,7 @@ returns-clause-held c =
 pub returns-clause-frames : goal.returns-clause-frames
 returns-clause-frames c =
     let known = ap (get c.args.self.now.directory) (sym c.location_of-location.ensures.cell) ∙ sym c.find.ensures ∙ c.in-Some.is in
-    let here = owned-here c.args.self.now.slots.items c.in-Some.slot (cell_of (page_of c.args.addr)) c.index_mut.result.now (c.requires.stands.1.0.named (cell_of (page_of c.args.addr)) c.in-Some.slot known) c.index_mut.ensures.value in
+    let here = owned-here c.args.self.now.slots.items c.in-Some.slot (cell_of (page_of c.args.addr)) c.index_mut.result.now (known-owner c.args.self.now (standing-ready c.args.self.now c.args.addr c.requires.stands) (cell_of (page_of c.args.addr)) c.in-Some.slot known) c.index_mut.ensures.value in
     let new : Slot = record { owner = c.index_mut.result.now.owner; cell = c.store.new.self } in
     let sums : frames_in (slice_set c.args.self.now.slots.items c.in-Some.slot new) + held_of c.index_mut.result.now.cell ≡ frames_in c.args.self.now.slots.items + held_of c.store.new.self =
     frames-set c.args.self.now.slots.items c.in-Some.slot c.index_mut.result.now new here in
@@ -65,7 +73,7 @@ returns-clause-frames c =
 pub returns-clause-shares : goal.returns-clause-shares
 returns-clause-shares c =
     let known = ap (get c.args.self.now.directory) (sym c.location_of-location.ensures.cell) ∙ sym c.find.ensures ∙ c.in-Some.is in
-    let here = owned-here c.args.self.now.slots.items c.in-Some.slot (cell_of (page_of c.args.addr)) c.index_mut.result.now (c.requires.stands.1.0.named (cell_of (page_of c.args.addr)) c.in-Some.slot known) c.index_mut.ensures.value in
+    let here = owned-here c.args.self.now.slots.items c.in-Some.slot (cell_of (page_of c.args.addr)) c.index_mut.result.now (known-owner c.args.self.now (standing-ready c.args.self.now c.args.addr c.requires.stands) (cell_of (page_of c.args.addr)) c.in-Some.slot known) c.index_mut.ensures.value in
     let new : Slot = record { owner = c.index_mut.result.now.owner; cell = c.store.new.self } in
     let sums : shares_in (slice_set c.args.self.now.slots.items c.in-Some.slot new) + share c.index_mut.result.now.cell.leaves ≡ shares_in c.args.self.now.slots.items + share c.store.new.self.leaves =
     shares-set c.args.self.now.slots.items c.in-Some.slot c.index_mut.result.now new here in

@@ -4,21 +4,22 @@ use Rattle.std.specs.Prelude.{slice_index_or}
 use Rattle.page_tables.specs.Standing.{TablesStandFor}
 use Rattle.page_tables.specs.Ranges.{sides_without_pages, AreThere}
 use Rattle.page_tables.proofs.TakenBack.{IsTakenBack, none-taken, one-more, take-one-more, drop-one-more, there-present}
+use Rattle.std.proofs.Math.Logic.{∥∥₁_map}
 use Rattle.page_tables.proofs.tables.PageTables.take_back.Goals as goal
 
 -- src/range.rt:97:9
 pub loop-page-init : goal.loop-page-init
 loop-page-init g c = record {
-  taken = none-taken g.A.Allot.goes g.A.Allot.refused g.A.Allot.out (g.A.Allot.state c.args.allot.now) c.args.added.now c.args.self.now c.requires.stands.0 c.requires.stands.1.0 c.requires.stands.1.1;
+  taken = none-taken g.A.Allot.goes g.A.Allot.refused g.A.Allot.out (g.A.Allot.state c.args.allot.now) c.args.added.now c.args.self.now c.requires.stands;
   untold = c.requires.untold;
 }
 
 -- src/range.rt:100:13
 pub clear_in_cell-requires-clause-stands : goal.clear_in_cell-requires-clause-stands
 clear_in_cell-requires-clause-stands g c =
-    let so_far = c.loop-page.invariant.taken in
-    let there = subst (AreThere so_far.sides.leaves) (drop-one-more c.args.added.now c.loop-page.page-index c.loop-page-test.true) so_far.there in
-    (so_far.sides, (so_far.stands, there-present so_far.sides.leaves (slice_index_or c.args.added.now c.loop-page.page-index 0) there.0))
+    ∥∥₁_map c.loop-page.invariant.taken.there (λ it.
+    let there = subst (AreThere it.0.leaves) (drop-one-more c.args.added.now c.loop-page.page-index c.loop-page-test.true) it.1.1 in
+    (it.0, (it.1.0, there-present it.0.leaves (slice_index_or c.args.added.now c.loop-page.page-index 0) there.0)))
 
 -- src/range.rt:97:9
 pub loop-page-preserved : goal.loop-page-preserved

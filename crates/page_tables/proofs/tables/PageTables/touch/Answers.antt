@@ -10,9 +10,13 @@ use Rattle.page_tables.specs.Sides.{Sides}
 use Rattle.page_tables.specs.Standing.{TablesStandFor, slot_count}
 use Rattle.page_tables.specs.Held.{frames_of}
 use Rattle.page_tables.specs.Ranges.{IsTouchedUpTo, cells_of_pages, sides_without_pages, AreThere}
+use Rattle.page_tables.specs.Permissions.{LetsWrite}
+use Rattle.page_tables.proofs.WrittenPages.{none-written, one-more-written}
 use Rattle.page_tables.proofs.RangeRoom.{is_among, page-among, room-for}
 use Rattle.page_tables.proofs.RangeSteps.{none-touched, one-page-more, range-granted}
 use Rattle.page_tables.proofs.RangeEnds.{added-there, added-below, range-refused, few-absent}
+use Rattle.std.proofs.Math.Logic.{∥∥₁_map}
+use Rattle.page_tables.proofs.Known.{known-below, known-less}
 use Rattle.page_tables.proofs.tables.PageTables.touch.Goals as goal
 
 -- src/range.rt:50:9
@@ -34,36 +38,38 @@ loop-page-init g c =
       even = omega arith;
       snapshot = refl;
       slots = refl;
+      writable = none-written c.args.first c.args.self.now;
       capacity = c.clear.ensures.capacity;
     }
 
 -- src/range.rt:51:17
 pub is_present-was_present-requires-clause-stands : goal.is_present-was_present-requires-clause-stands
 is_present-was_present-requires-clause-stands g c =
-    let so_far = c.loop-page.invariant.touched.touched c.requires.stands.0 c.requires.stands.1.0 in
-    (_, so_far.stands)
+    ∥∥₁_map c.requires.stands (λ it.
+    let so_far = c.loop-page.invariant.touched.touched it.0 it.1.0 in
+    (_, so_far.stands))
 
 -- src/range.rt:52:19
 pub touch_page-requires-clause-stands : goal.touch_page-requires-clause-stands
 touch_page-requires-clause-stands g c =
-    let sides : Sides = c.requires.stands.0 in
-    let so_far = c.loop-page.invariant.touched.touched sides c.requires.stands.1.0 in
+    ∥∥₁_map c.requires.stands (λ it.
+    let sides : Sides = it.0 in
+    let so_far = c.loop-page.invariant.touched.touched sides it.1.0 in
     let cells : List ℕ = cells_of_pages c.args.first c.args.count in
     let among : is_among (cell_of c.loop-page.page) cells ≡ true = page-among c.args.first c.args.count c.loop-page.page c.loop-page.invariant.from c.loop-page-test.true in (
       _,
       (
         so_far.stands,
         subst (λ n. lacks_slots n so_far.leaves (cell_of c.loop-page.page ∷ []) ≡ false) (sym c.loop-page.invariant.slots)
-            (room-for (slot_count c.args.self.now) so_far.leaves cells (cell_of c.loop-page.page) (so_far.room c.requires.stands.1.1) among),
+            (room-for (slot_count c.args.self.now) so_far.leaves cells (cell_of c.loop-page.page) (so_far.room it.1.1) among),
       ),
-    )
+    ))
 
 -- src/range.rt:53:27
 pub note_added-requires : goal.note_added-requires
 note_added-requires g c =
-    let so_far = c.loop-page.invariant.touched.touched c.requires.stands.0 c.requires.stands.1.0 in
-    let few : length c.loop-page.added.items ≤ c.loop-page.page - c.args.first =
-    few-absent c.requires.stands.0.pages c.args.first (c.loop-page.page - c.args.first) c.loop-page.added.items so_far.new in
+    let few : length c.loop-page.added.items ≤ c.loop-page.page - c.args.first = known-below c.requires.stands (λ it.
+    few-absent it.0.pages c.args.first (c.loop-page.page - c.args.first) c.loop-page.added.items (c.loop-page.invariant.touched.touched it.0 it.1.0).new) in
     let room : c.args.count ≤ vec_capacity c.args.added.now = c.requires.noted in
     let kept : vec_capacity c.loop-page.added ≡ vec_capacity c.args.added.now = c.loop-page.invariant.capacity in
     omega (arith, few, room, kept, c.loop-page.invariant.from, c.loop-page-test.true)
@@ -71,8 +77,9 @@ note_added-requires g c =
 -- src/range.rt:55:21
 pub take_back-requires-clause-stands : goal.take_back-requires-clause-stands
 take_back-requires-clause-stands g c =
-    let sides : Sides = c.requires.stands.0 in
-    let so_far = c.loop-page.invariant.touched.touched sides c.requires.stands.1.0 in
+    ∥∥₁_map c.requires.stands (λ it.
+    let sides : Sides = it.0 in
+    let so_far = c.loop-page.invariant.touched.touched sides it.1.0 in
     let touch = c.in-Err.ensures.made.follows _ so_far.stands in (
       _,
       (
@@ -80,15 +87,14 @@ take_back-requires-clause-stands g c =
         subst (AreThere touch.follows.leaves) (sym c.deref.ensures.value)
             (added-there sides.pages c.args.first (c.loop-page.page - c.args.first) c.loop-page.added.items so_far.new touch.follows.leaves (λ q low high. touch.still q (so_far.ready q low high))),
       ),
-    )
+    ))
 
 -- src/range.rt:55:21
 pub take_back-requires-clause-below : goal.take_back-requires-clause-below
 take_back-requires-clause-below g c =
-    let sides : Sides = c.requires.stands.0 in
-    let so_far = c.loop-page.invariant.touched.touched sides c.requires.stands.1.0 in
     subst (λ added. (k d : ℕ) → k < length added → slice_index_or added k d < 2 ^ 36) (sym c.deref.ensures.value)
-    (added-below sides.pages c.args.first (c.loop-page.page - c.args.first) c.args.count c.loop-page.added.items so_far.new (omega (arith, c.loop-page-test.true)) c.requires.range)
+    (λ k d small. known-less c.requires.stands (λ it.
+    added-below it.0.pages c.args.first (c.loop-page.page - c.args.first) c.args.count c.loop-page.added.items (c.loop-page.invariant.touched.touched it.0 it.1.0).new (omega (arith, c.loop-page-test.true)) c.requires.range k d small))
 
 -- src/range.rt:56:21
 pub returns-in-Err-clause-made : goal.returns-in-Err-clause-made
@@ -147,6 +153,7 @@ loop-page-preserved g c =
       even = omega (arith, c.loop-page.invariant.even, c.touch_page.ensures.even);
       snapshot = c.touch_page.ensures.snapshot ∙ c.loop-page.invariant.snapshot;
       slots = c.touch_page.ensures.slots ∙ c.loop-page.invariant.slots;
+      writable = one-more-written c.args.first c.loop-page.page c.args.self.now c.loop-page.self c.touch_page.new.self c.loop-page.invariant.from c.loop-page.invariant.writable c.in-Ok.ensures.writable;
       capacity = c.note_added.ensures.room ∙ c.loop-page.invariant.capacity;
     }
 
@@ -161,3 +168,8 @@ returns-clause-made g c =
       follows = λ sides st. range-granted c.args.first c.args.count c.loop-page.added.items c.loop-page.self so_far.deals sides (slot_count c.args.self.now)
           (subst (λ i. IsTouchedUpTo c.args.first c.args.count i c.loop-page.added.items c.loop-page.self so_far.deals sides (slot_count c.args.self.now)) whole (so_far.touched sides st));
     }
+
+pub returns-clause-writable : goal.returns-clause-writable
+returns-clause-writable g c =
+    let whole : c.loop-page.page - c.args.first ≡ c.args.count = omega (arith, c.loop-page.invariant.from, c.loop-page-test.false, c.loop-page.auto.page-end) in
+    subst (λ n. LetsWrite c.args.first n c.args.self.now c.loop-page.self) whole c.loop-page.invariant.writable

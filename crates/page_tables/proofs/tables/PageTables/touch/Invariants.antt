@@ -2,6 +2,7 @@ use Rattle.std.proofs.Common.{◌≡◌, ◌+◌, ◌-◌, ◌≤◌, None}
 use Rattle.std.specs.Prelude.{vec_capacity}
 use Rattle.page_tables.specs.Standing.{slot_count}
 use Rattle.page_tables.specs.Held.{frames_of, frames_in, shares_in}
+use Rattle.page_tables.specs.Permissions.{LetsWrite}
 use Rattle.page_tables.specs.Ranges.{HasTouched}
 use Rattle.page_tables.proofs.tables.PageTables.touch.Given as goal
 
@@ -14,5 +15,6 @@ invariant-loop-page g l = record {
   even : frames_in l.fn.self.slots.items + shares_in l.self.slots.items ≡ shares_in l.fn.self.slots.items + frames_in l.self.slots.items;
   snapshot : l.self.snapshot ≡ l.fn.self.snapshot;
   slots : slot_count l.self ≡ slot_count l.fn.self;
+  writable : LetsWrite l.fn.first (l.page - l.fn.first) l.fn.self l.self;
   capacity : vec_capacity l.added ≡ vec_capacity l.fn.added;
 }

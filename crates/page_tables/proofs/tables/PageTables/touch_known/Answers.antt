@@ -1,4 +1,4 @@
-use Rattle.std.proofs.Common.{◌≡◌, ◌+◌, ◌≤◌, ◌<◌, ℕ, length, Some, sym, ◌∙◌, ap, subst, refl, arith}
+use Rattle.std.proofs.Common.{◌≡◌, ◌+◌, ◌%◌, ◌≤◌, ◌<◌, ℕ, length, Some, sym, ◌∙◌, ap, subst, refl, arith}
 use Rattle.std.specs.Prelude.{slice_set}
 use Rattle.std.specs.List.{slice_get}
 use Rattle.std.specs.Option.{option_and_then}
@@ -14,26 +14,30 @@ use Rattle.page_tables.proofs.ClearedSlot.{even-slots, holds-own}
 use Rattle.page_tables.specs.Held.{frames_in, snapshot_frames}
 use Rattle.table_levels.specs.Cells.{tables_of}
 use Rattle.page_tables.proofs.KnownTouch.{known-touches}
-use Rattle.page_tables.proofs.OwnedSlots.{owned-within, held-within, frames-set, read-slot, slot-unjoined}
+use Rattle.page_tables.proofs.OwnedSlots.{owned-within, held-within, frames-set, read-slot}
+use Rattle.page_tables.specs.declared.tables.PageTables.{PageTables}
+use Rattle.page_tables.proofs.SlotLemmas.{slice_get-set-here, slice_get-set-apart}
+use Rattle.page_tables.proofs.WrittenPages.{bit-known, granted-both, page-written, other-slot, still-set}
+use Rattle.page_tables.proofs.Known.{known-owner, known-unjoined, known-number}
 use Rattle.page_tables.proofs.tables.PageTables.touch_known.Goals as goal
 
 -- src/touch.rt:56:9
 pub index_mut-home-requires : goal.index_mut-home-requires
 index_mut-home-requires g c =
-    let within : c.args.slot < length c.args.self.now.slots.items = owned-within c.args.self.now.slots.items c.args.slot (cell_of c.args.page) (c.requires.stands.1.named (cell_of c.args.page) c.args.slot c.requires.known) in
+    let within : c.args.slot < length c.args.self.now.slots.items = owned-within c.args.self.now.slots.items c.args.slot (cell_of c.args.page) (known-owner c.args.self.now c.requires.stands (cell_of c.args.page) c.args.slot c.requires.known) in
     subst (λ n. c.args.slot < n) (sym c.args.self.now.slots.ok.0) within
 
 -- src/touch.rt:56:9
 pub touch-answer-requires-clause-unjoined : goal.touch-answer-requires-clause-unjoined
 touch-answer-requires-clause-unjoined g c =
-    let within : c.args.slot < length c.args.self.now.slots.items = owned-within c.args.self.now.slots.items c.args.slot (cell_of c.args.page) (c.requires.stands.1.named (cell_of c.args.page) c.args.slot c.requires.known) in
-    slot-unjoined c.args.self.now.directory c.args.self.now.snapshot c.args.self.now.slots.items c.requires.stands.0 c.requires.stands.1 c.args.slot c.index_mut-home.result.now
+    let within : c.args.slot < length c.args.self.now.slots.items = owned-within c.args.self.now.slots.items c.args.slot (cell_of c.args.page) (known-owner c.args.self.now c.requires.stands (cell_of c.args.page) c.args.slot c.requires.known) in
+    known-unjoined c.args.self.now c.requires.stands c.args.slot c.index_mut-home.result.now
     (read-slot c.args.self.now.slots.items c.args.slot c.index_mut-home.result.now within c.index_mut-home.ensures.value)
 
 -- src/touch.rt:56:9
 pub touch-answer-requires-clause-held : goal.touch-answer-requires-clause-held
 touch-answer-requires-clause-held g c =
-    let within : c.args.slot < length c.args.self.now.slots.items = owned-within c.args.self.now.slots.items c.args.slot (cell_of c.args.page) (c.requires.stands.1.named (cell_of c.args.page) c.args.slot c.requires.known) in
+    let within : c.args.slot < length c.args.self.now.slots.items = owned-within c.args.self.now.slots.items c.args.slot (cell_of c.args.page) (known-owner c.args.self.now c.requires.stands (cell_of c.args.page) c.args.slot c.requires.known) in
     let part : held_of c.index_mut-home.result.now.cell ≤ frames_in c.args.self.now.slots.items = held-within c.args.self.now.slots.items c.args.slot c.index_mut-home.result.now (read-slot c.args.self.now.slots.items c.args.slot c.index_mut-home.result.now within c.index_mut-home.ensures.value) in
     let lent : tables_of c.args.self.now.directory + snapshot_frames c.args.self.now.snapshot + frames_in c.args.self.now.slots.items ≤ g.A.Allot.out (g.A.Allot.state c.args.allot.now) = c.requires.lent in
     omega (arith, part, lent)
@@ -42,9 +46,9 @@ touch-answer-requires-clause-held g c =
 pub returns-clause-made : goal.returns-clause-made
 returns-clause-made g c =
     let s = c.args.slot in
-    let within : c.args.slot < length c.args.self.now.slots.items = owned-within c.args.self.now.slots.items c.args.slot (cell_of c.args.page) (c.requires.stands.1.named (cell_of c.args.page) c.args.slot c.requires.known) in
+    let within : c.args.slot < length c.args.self.now.slots.items = owned-within c.args.self.now.slots.items c.args.slot (cell_of c.args.page) (known-owner c.args.self.now c.requires.stands (cell_of c.args.page) c.args.slot c.requires.known) in
     let here : slice_get c.args.self.now.slots.items c.args.slot ≡ Some c.index_mut-home.result.now = read-slot c.args.self.now.slots.items c.args.slot c.index_mut-home.result.now within c.index_mut-home.ensures.value in
-    let mine : c.index_mut-home.result.now.owner ≡ Some (cell_of c.args.page) = sym (ap (option_and_then (λ it. it.owner)) here) ∙ c.requires.stands.1.named (cell_of c.args.page) c.args.slot c.requires.known in
+    let mine : c.index_mut-home.result.now.owner ≡ Some (cell_of c.args.page) = sym (ap (option_and_then (λ it. it.owner)) here) ∙ known-owner c.args.self.now c.requires.stands (cell_of c.args.page) c.args.slot c.requires.known in
     record {
       deals = c.touch-answer.ensures.made.deals;
       led = c.touch-answer.ensures.made.led;
@@ -56,7 +60,7 @@ returns-clause-made g c =
 -- src/touch.rt:44:5
 pub returns-clause-held : goal.returns-clause-held
 returns-clause-held g c =
-    let within : c.args.slot < length c.args.self.now.slots.items = owned-within c.args.self.now.slots.items c.args.slot (cell_of c.args.page) (c.requires.stands.1.named (cell_of c.args.page) c.args.slot c.requires.known) in
+    let within : c.args.slot < length c.args.self.now.slots.items = owned-within c.args.self.now.slots.items c.args.slot (cell_of c.args.page) (known-owner c.args.self.now c.requires.stands (cell_of c.args.page) c.args.slot c.requires.known) in
     let here : slice_get c.args.self.now.slots.items c.args.slot ≡ Some c.index_mut-home.result.now = read-slot c.args.self.now.slots.items c.args.slot c.index_mut-home.result.now within c.index_mut-home.ensures.value in
     let new : Slot = record { owner = c.index_mut-home.result.now.owner; cell = c.touch-answer.new.self } in
     let sums : frames_in (slice_set c.args.self.now.slots.items c.args.slot new) + held_of c.index_mut-home.result.now.cell ≡ frames_in c.args.self.now.slots.items + held_of c.touch-answer.new.self = frames-set c.args.self.now.slots.items c.args.slot c.index_mut-home.result.now new here in
@@ -66,9 +70,10 @@ returns-clause-held g c =
 -- src/touch.rt:47:5
 pub returns-clause-even : goal.returns-clause-even
 returns-clause-even g c =
+    known-number c.requires.stands (λ it.
     let old = c.args.self.now in
-    let sides : Sides = c.requires.stands.0 in
-    let st : TablesStandFor old sides = c.requires.stands.1 in
+    let sides : Sides = it.0 in
+    let st : TablesStandFor old sides = it.1 in
     let cell : ℕ = cell_of c.args.page in
     let slot : Slot = c.index_mut-home.result.now in
     let owned : owner_at old.slots.items c.args.slot ≡ Some cell = st.named cell c.args.slot c.requires.known in
@@ -78,4 +83,19 @@ returns-clause-even g c =
     let takes = c.touch-answer.ensures.made.follows account stood in
     even-slots old.slots.items c.args.slot slot (record { owner = slot.owner; cell = c.touch-answer.new.self }) here
     (holds-own slot.cell account stood (λ account stands. c.tell_share.ensures account stands))
-    (holds-own c.touch-answer.new.self _ takes.stands (λ account stands. c.tell_share-2.ensures account stands))
+    (holds-own c.touch-answer.new.self _ takes.stands (λ account stands. c.tell_share-2.ensures account stands)))
+
+pub returns-clause-writable : goal.returns-clause-writable
+returns-clause-writable g c =
+    let old : PageTables = c.args.self.now in
+    let cell : ℕ = cell_of c.args.page in
+    let home : Slot = c.index_mut-home.result.now in
+    let it : Slot = record { owner = home.owner; cell = c.touch-answer.new.self } in
+    let owned : owner_at old.slots.items c.args.slot ≡ Some cell = known-owner old c.requires.stands cell c.args.slot c.requires.known in
+    let within : c.args.slot < length old.slots.items = owned-within old.slots.items c.args.slot cell owned in
+    let here : slice_get old.slots.items c.args.slot ≡ Some home = read-slot old.slots.items c.args.slot home within c.index_mut-home.ensures.value in
+    granted-both c.touch-answer.result c.touch-answer.ensures.writable c.touch-answer.ensures.allowed (λ set allowed.
+    page-written c.args.page c.args.slot old _ it c.requires.known (slice_get-set-here old.slots.items c.args.slot it within) (λ q apart. refl)
+    (λ t apart. slice_get-set-apart old.slots.items c.args.slot t it apart)
+    (λ q t apart is. other-slot old.slots.items c.args.slot t cell q owned (known-owner old c.requires.stands q t is) apart) allowed
+    (λ q same may. still-set home.cell.writable c.touch-answer.new.self.writable (c.args.page % 512) (q % 512) set allowed (sym (bit-known old cell c.args.slot home c.requires.known here q same) ∙ may)))

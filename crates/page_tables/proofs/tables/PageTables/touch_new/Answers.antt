@@ -1,8 +1,7 @@
 use Rattle.std.proofs.Common.{◌≡◌, ◌+◌, ◌-◌, ◌≤◌, ◌<◌, ℕ, length, List, [], ◌++◌, Some, None, sym, ◌∙◌, ap, subst, refl, arith}
 use Rattle.std.specs.Prelude.{slice_set}
-use Rattle.std.specs.FinMap.{remove, keys}
+use Rattle.std.specs.FinMap.{get, remove, keys}
 use Rattle.std.specs.List.{slice_get}
-use Rattle.std.proofs.lemmas.Option.{slice_get_within}
 use Rattle.vm_base.specs.Places.{cell_of}
 use Rattle.vm_base.specs.Deals.{LeadsAlong}
 use Rattle.vm_base.specs.declared.frame_request.Want.{Want}
@@ -14,34 +13,43 @@ use Rattle.table_levels.proofs.Counting.{tables_of-insert}
 use Rattle.page_tables.specs.declared.slot.Slot.{Slot}
 use Rattle.page_tables.specs.declared.tables.PageTables.{PageTables}
 use Rattle.page_tables.specs.Sides.{Sides}
-use Rattle.page_tables.specs.Standing.{StandFor, IsSlotFor}
+use Rattle.page_tables.specs.Standing.{StandFor, HasSlotFor, IsSlotFor}
 use Rattle.page_tables.specs.Held.{frames_in, snapshot_frames}
 use Rattle.page_tables.specs.Making.{FollowsTouch}
 use Rattle.page_tables.proofs.ClearedSlot.{even-slots, holds-own}
-use Rattle.page_tables.proofs.Room.{room-left, fits-again}
+use Rattle.page_tables.proofs.Room.{room-left}
 use Rattle.page_tables.proofs.Rows.{deals_behind, deals_up_to}
 use Rattle.page_tables.proofs.NewTouch.{granted-touches, refused-touches, lacking-touches, added-removed, account, stood}
-use Rattle.page_tables.proofs.OwnedSlots.{held-within, frames-set, read-slot, slot-unjoined, set-same, same_slot}
+use Rattle.page_tables.proofs.OwnedSlots.{held-within, frames-set, read-slot, set-same}
+use Rattle.page_tables.proofs.Changing.{slice_get_there}
+use Rattle.std.proofs.lemmas.Bool.{false≢true}
+use Rattle.vm_base.proofs.NumberedMaps.{get_inserted_here, get_inserted_apart}
+use Rattle.page_tables.proofs.SlotLemmas.{slice_get-set-here, slice_get-set-apart}
+use Rattle.page_tables.proofs.Permissions.{never-written}
+use Rattle.page_tables.proofs.WrittenPages.{page-written, other-home}
+use Rattle.page_tables.proofs.Known.{standing, known-home, known-fits, known-unjoined, known-less, known-number, known-impossible}
 use Rattle.page_tables.proofs.tables.PageTables.touch_new.Goals as goal
 
 -- src/touch.rt:72:15
 pub insert-requires-clause-fewer : goal.insert-requires-clause-fewer
 insert-requires-clause-fewer g c =
-    let home = c.requires.stands.1.1 in
-    room-left c.args.self.now.directory c.args.self.now.snapshot c.args.self.now.slots.items c.requires.stands.0 c.requires.stands.1.0 (cell_of c.args.page) c.args.slot home.slot home.here home.fits c.requires.new
+    known-less c.requires.stands (λ it.
+    let home = it.1.1 in
+    room-left c.args.self.now.directory c.args.self.now.snapshot c.args.self.now.slots.items it.0 it.1.0 (cell_of c.args.page) c.args.slot home.slot home.here home.fits c.requires.new)
 
 -- src/touch.rt:74:29
 pub returns-in-Err-clause-made : goal.returns-in-Err-clause-made
 returns-in-Err-clause-made g c =
-    let home = c.requires.stands.1.1 in
     let refuses = c.in-Err.ensures.requests in
     let old : PageTables = c.args.self.now in
+    let there : (slot : Slot) × (slice_get old.slots.items c.args.slot ≡ Some slot) =
+    slice_get_there old.slots.items c.args.slot (known-home old (cell_of c.args.page) c.args.slot c.requires.stands) in
     record {
       deals = deals_up_to refuses.front refuses.want c.in-Err.refused.at;
       led = refuses.deals;
       follows = λ sides st.
           let before : FollowsTouch c.args.page old (deals_up_to refuses.front refuses.want c.in-Err.refused.at) (Some (record { at = c.in-Err.refused.at; page = Some c.args.page })) sides =
-          lacking-touches old sides st c.args.page c.args.slot home.slot c.requires.new home.here (fits-again old.directory old.snapshot old.slots.items c.requires.stands.0 sides c.requires.stands.1.0 st (cell_of c.args.page) home.slot.owner home.fits)
+          lacking-touches old sides st c.args.page c.args.slot there.0 c.requires.new there.1 (known-fits old (cell_of c.args.page) c.args.slot c.requires.stands sides st there.0 there.1)
           refuses.front refuses.want refuses.rest refuses.order c.in-Err.refused.at in
           let then : Sides = record { leaves = before.follows.leaves; pages = sides.pages; snapshots = sides.snapshots; made = before.follows.made } in
           record {
@@ -61,22 +69,19 @@ returns-in-Err-clause-made g c =
 -- src/touch.rt:77:25
 pub index_mut-home-requires : goal.index_mut-home-requires
 index_mut-home-requires g c =
-    let home = c.requires.stands.1.1 in
-    subst (λ n. c.args.slot < n) (sym c.args.self.now.slots.ok.0) (slice_get_within c.args.self.now.slots.items c.args.slot home.slot home.here)
+    subst (λ n. c.args.slot < n) (sym c.args.self.now.slots.ok.0) (known-home c.args.self.now (cell_of c.args.page) c.args.slot c.requires.stands)
 
 -- src/touch.rt:78:15
 pub touch-requires-clause-unjoined : goal.touch-requires-clause-unjoined
 touch-requires-clause-unjoined g c =
-    let home = c.requires.stands.1.1 in
-    let within : c.args.slot < length c.args.self.now.slots.items = slice_get_within c.args.self.now.slots.items c.args.slot home.slot home.here in
-    slot-unjoined c.args.self.now.directory c.args.self.now.snapshot c.args.self.now.slots.items c.requires.stands.0 c.requires.stands.1.0 c.args.slot c.index_mut-home.result.now
+    let within : c.args.slot < length c.args.self.now.slots.items = known-home c.args.self.now (cell_of c.args.page) c.args.slot c.requires.stands in
+    known-unjoined c.args.self.now (standing c.args.self.now (λ sides. HasSlotFor c.args.self.now sides.leaves (cell_of c.args.page) c.args.slot) c.requires.stands) c.args.slot c.index_mut-home.result.now
     (read-slot c.args.self.now.slots.items c.args.slot c.index_mut-home.result.now within c.index_mut-home.ensures.value)
 
 -- src/touch.rt:78:15
 pub touch-requires-clause-held : goal.touch-requires-clause-held
 touch-requires-clause-held g c =
-    let home = c.requires.stands.1.1 in
-    let within : c.args.slot < length c.args.self.now.slots.items = slice_get_within c.args.self.now.slots.items c.args.slot home.slot home.here in
+    let within : c.args.slot < length c.args.self.now.slots.items = known-home c.args.self.now (cell_of c.args.page) c.args.slot c.requires.stands in
     let part : held_of c.index_mut-home.result.now.cell ≤ frames_in c.args.self.now.slots.items = held-within c.args.self.now.slots.items c.args.slot c.index_mut-home.result.now (read-slot c.args.self.now.slots.items c.args.slot c.index_mut-home.result.now within c.index_mut-home.ensures.value) in
     let lent : tables_of c.args.self.now.directory + snapshot_frames c.args.self.now.snapshot + frames_in c.args.self.now.slots.items ≤ g.A.Allot.out (g.A.Allot.state c.args.allot.now) = c.requires.lent in
     let moved : g.A.Allot.out (g.A.Allot.state c.insert.new.allot) + tables_of c.args.self.now.directory ≡ g.A.Allot.out (g.A.Allot.state c.args.allot.now) + tables_of c.insert.new.self = c.insert.ensures.out in
@@ -85,9 +90,8 @@ touch-requires-clause-held g c =
 -- src/touch.rt:60:5
 pub returns-in-Ok-touch-clause-made : goal.returns-in-Ok-touch-clause-made
 returns-in-Ok-touch-clause-made g c =
-    let home = c.requires.stands.1.1 in
     let old : PageTables = c.args.self.now in
-    let within : c.args.slot < length c.args.self.now.slots.items = slice_get_within c.args.self.now.slots.items c.args.slot home.slot home.here in
+    let within : c.args.slot < length c.args.self.now.slots.items = known-home c.args.self.now (cell_of c.args.page) c.args.slot c.requires.stands in
     let here : slice_get c.args.self.now.slots.items c.args.slot ≡ Some c.index_mut-home.result.now = read-slot c.args.self.now.slots.items c.args.slot c.index_mut-home.result.now within c.index_mut-home.ensures.value in
     let made = c.in-Ok-touch.ensures.made in
     let wants : List Want = missing_tables (keys old.directory) (cell_of c.args.page) in
@@ -97,7 +101,7 @@ returns-in-Ok-touch-clause-made g c =
           (LeadsAlong-append g.A.Allot.goes made.deals [] (g.A.Allot.state c.insert.new.allot) (g.A.Allot.state c.touch.new.allot) (g.A.Allot.state c.touch.new.allot) made.led refl);
       follows = λ sides st.
           let fits : IsSlotFor sides.leaves (cell_of c.args.page) c.index_mut-home.result.now.owner =
-          fits-again old.directory old.snapshot old.slots.items c.requires.stands.0 sides c.requires.stands.1.0 st (cell_of c.args.page) c.index_mut-home.result.now.owner (subst (λ it. IsSlotFor c.requires.stands.0.leaves (cell_of c.args.page) it.owner) (same_slot home.slot c.index_mut-home.result.now (sym home.here ∙ here)) home.fits) in
+          known-fits old (cell_of c.args.page) c.args.slot c.requires.stands sides st c.index_mut-home.result.now here in
           granted-touches old sides st c.args.page c.args.slot c.index_mut-home.result.now c.requires.new here fits c.touch.new.self made.deals
           (made.follows (account old sides st c.args.page c.args.slot c.index_mut-home.result.now c.requires.new here fits) (stood old sides st c.args.page c.args.slot c.index_mut-home.result.now c.requires.new here fits))
           (g.A.Allot.refused (g.A.Allot.state c.insert.new.allot)) (g.A.Allot.refused (g.A.Allot.state c.touch.new.allot)) c.in-Ok-touch.ensures.touched
@@ -108,8 +112,7 @@ returns-in-Ok-touch-clause-made g c =
 -- src/touch.rt:60:5
 pub returns-in-Ok-touch-clause-held : goal.returns-in-Ok-touch-clause-held
 returns-in-Ok-touch-clause-held g c =
-    let home = c.requires.stands.1.1 in
-    let within : c.args.slot < length c.args.self.now.slots.items = slice_get_within c.args.self.now.slots.items c.args.slot home.slot home.here in
+    let within : c.args.slot < length c.args.self.now.slots.items = known-home c.args.self.now (cell_of c.args.page) c.args.slot c.requires.stands in
     let here : slice_get c.args.self.now.slots.items c.args.slot ≡ Some c.index_mut-home.result.now = read-slot c.args.self.now.slots.items c.args.slot c.index_mut-home.result.now within c.index_mut-home.ensures.value in
     let new : Slot = record { owner = Some (cell_of c.args.page); cell = c.touch.new.self } in
     let sums : frames_in (slice_set c.args.self.now.slots.items c.args.slot new) + held_of c.index_mut-home.result.now.cell ≡ frames_in c.args.self.now.slots.items + held_of c.touch.new.self = frames-set c.args.self.now.slots.items c.args.slot c.index_mut-home.result.now new here in
@@ -120,10 +123,9 @@ returns-in-Ok-touch-clause-held g c =
 -- src/touch.rt:60:5
 pub returns-in-Err-touch-clause-made : goal.returns-in-Err-touch-clause-made
 returns-in-Err-touch-clause-made g c =
-    let home = c.requires.stands.1.1 in
     let old : PageTables = c.args.self.now in
     let cell : ℕ = cell_of c.args.page in
-    let within : c.args.slot < length c.args.self.now.slots.items = slice_get_within c.args.self.now.slots.items c.args.slot home.slot home.here in
+    let within : c.args.slot < length c.args.self.now.slots.items = known-home c.args.self.now (cell_of c.args.page) c.args.slot c.requires.stands in
     let here : slice_get c.args.self.now.slots.items c.args.slot ≡ Some c.index_mut-home.result.now = read-slot c.args.self.now.slots.items c.args.slot c.index_mut-home.result.now within c.index_mut-home.ensures.value in
     let made = c.in-Err-touch.ensures.made in
     let wants : List Want = missing_tables (keys old.directory) cell in
@@ -139,7 +141,7 @@ returns-in-Err-touch-clause-made g c =
           (subst (λ n. LeadsAlong g.A.Allot.goes (g.A.Allot.state c.touch.new.allot) (returned n) (g.A.Allot.state c.remove.new.allot)) back c.remove.ensures.given));
       follows = λ sides st.
           let fits : IsSlotFor sides.leaves cell c.index_mut-home.result.now.owner =
-          fits-again old.directory old.snapshot old.slots.items c.requires.stands.0 sides c.requires.stands.1.0 st cell c.index_mut-home.result.now.owner (subst (λ it. IsSlotFor c.requires.stands.0.leaves cell it.owner) (same_slot home.slot c.index_mut-home.result.now (sym home.here ∙ here)) home.fits) in
+          known-fits old cell c.args.slot c.requires.stands sides st c.index_mut-home.result.now here in
           refused-touches old sides st c.args.page c.args.slot c.index_mut-home.result.now c.requires.new here fits c.touch.new.self made.deals at
           (made.follows (account old sides st c.args.page c.args.slot c.index_mut-home.result.now c.requires.new here fits) (stood old sides st c.args.page c.args.slot c.index_mut-home.result.now c.requires.new here fits))
           _
@@ -150,14 +152,32 @@ returns-in-Err-touch-clause-made g c =
 -- src/touch.rt:70:5
 pub returns-in-Ok-touch-clause-even : goal.returns-in-Ok-touch-clause-even
 returns-in-Ok-touch-clause-even g c =
-    let home = c.requires.stands.1.1 in
     let old : PageTables = c.args.self.now in
     let slot : Slot = c.index_mut-home.result.now in
-    let within : c.args.slot < length old.slots.items = slice_get_within old.slots.items c.args.slot home.slot home.here in
+    let within : c.args.slot < length old.slots.items = known-home old (cell_of c.args.page) c.args.slot c.requires.stands in
     let here : slice_get old.slots.items c.args.slot ≡ Some slot = read-slot old.slots.items c.args.slot slot within c.index_mut-home.ensures.value in
-    let fits : IsSlotFor c.requires.stands.0.leaves (cell_of c.args.page) slot.owner = subst (λ it. IsSlotFor c.requires.stands.0.leaves (cell_of c.args.page) it.owner) (same_slot home.slot slot (sym home.here ∙ here)) home.fits in
-    let stood_here = stood old c.requires.stands.0 c.requires.stands.1.0 c.args.page c.args.slot slot c.requires.new here fits in
-    let takes = c.in-Ok-touch.ensures.made.follows (account old c.requires.stands.0 c.requires.stands.1.0 c.args.page c.args.slot slot c.requires.new here fits) stood_here in
+    known-number c.requires.stands (λ it.
+    let fits : IsSlotFor it.0.leaves (cell_of c.args.page) slot.owner = known-fits old (cell_of c.args.page) c.args.slot c.requires.stands it.0 it.1.0 slot here in
+    let stood_here = stood old it.0 it.1.0 c.args.page c.args.slot slot c.requires.new here fits in
+    let takes = c.in-Ok-touch.ensures.made.follows (account old it.0 it.1.0 c.args.page c.args.slot slot c.requires.new here fits) stood_here in
     even-slots old.slots.items c.args.slot slot (record { owner = Some (cell_of c.args.page); cell = c.touch.new.self }) here
     (holds-own slot.cell _ stood_here (λ account stands. c.tell_share.ensures account stands))
-    (holds-own c.touch.new.self _ takes.stands (λ account stands. c.tell_share-in-Ok-touch.ensures account stands))
+    (holds-own c.touch.new.self _ takes.stands (λ account stands. c.tell_share-in-Ok-touch.ensures account stands)))
+
+pub returns-in-Ok-touch-clause-writable : goal.returns-in-Ok-touch-clause-writable
+returns-in-Ok-touch-clause-writable g c =
+    let old : PageTables = c.args.self.now in
+    let cell : ℕ = cell_of c.args.page in
+    let home : Slot = c.index_mut-home.result.now in
+    let it : Slot = record { owner = Some cell; cell = c.touch.new.self } in
+    let within : c.args.slot < length old.slots.items = known-home old cell c.args.slot c.requires.stands in
+    let here : slice_get old.slots.items c.args.slot ≡ Some home = read-slot old.slots.items c.args.slot home within c.index_mut-home.ensures.value in
+    page-written c.args.page c.args.slot old _ it
+    (ap (λ d. get d cell) c.in-Ok.ensures.added ∙ get_inserted_here old.directory cell c.args.slot cell refl)
+    (slice_get-set-here old.slots.items c.args.slot it within)
+    (λ q apart. ap (λ d. get d q) c.in-Ok.ensures.added ∙ get_inserted_apart old.directory cell c.args.slot q apart)
+    (λ t apart. slice_get-set-apart old.slots.items c.args.slot t it apart)
+    (λ q t apart is same. known-impossible c.requires.stands (λ known.
+    other-home known.0.leaves old.slots.items c.args.slot t cell q home here (known-fits old cell c.args.slot c.requires.stands known.0 known.1.0 home here) (known.1.0.named q t is) apart same))
+    c.in-Ok-touch.ensures.allowed
+    (λ q same may. absurd (false≢true (sym (never-written old q (ap (get old.directory) same ∙ c.requires.new)) ∙ may)))

@@ -9,6 +9,7 @@ use Rattle.page_tables.specs.Standing.{TablesStandFor}
 use Rattle.page_tables.specs.Held.{frames_of, frames_in, shares_in}
 use Rattle.page_tables.proofs.FirstCell.{IsFirstFrom, first-none, first-some}
 use Rattle.page_tables.proofs.UnmapSteps.{GoesOnFrom, unmap-begins, unmap-goes-on, unmap-ends}
+use Rattle.std.proofs.Math.Logic.{∥∥₁_map}
 use Rattle.page_tables.proofs.tables.PageTables.unmap.Goals as goal
 
 -- frames and shares moved alike at first, and then once more
@@ -32,8 +33,9 @@ unmap_cell-requires-clause-known g c =
 
 pub unmap_cell-requires-clause-stands : goal.unmap_cell-requires-clause-stands
 unmap_cell-requires-clause-stands g c =
-    let on : GoesOnFrom c.args.first c.args.count c.loop-cell.next c.requires.stands.0 c.loop-cell.invariant.2.deals c.loop-cell.self = c.loop-cell.invariant.2.follows c.requires.stands.0 c.requires.stands.1 in
-    (on.mid, on.stands)
+    ∥∥₁_map c.requires.stands (λ it.
+    let on : GoesOnFrom c.args.first c.args.count c.loop-cell.next it.0 c.loop-cell.invariant.2.deals c.loop-cell.self = c.loop-cell.invariant.2.follows it.0 it.1 in
+    (on.mid, on.stands))
 
 pub loop-cell-smaller : goal.loop-cell-smaller
 loop-cell-smaller g c =

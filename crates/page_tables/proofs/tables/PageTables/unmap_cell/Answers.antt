@@ -12,21 +12,24 @@ use Rattle.page_tables.specs.Held.{frames_of}
 use Rattle.page_tables.proofs.OwnedSlots.{owned-within, read-slot}
 use Rattle.page_tables.proofs.ClearedTables.{account, stood}
 use Rattle.page_tables.proofs.OutOfCell.{are-out, none-out}
+use Rattle.std.proofs.Math.Logic.{∥∥₁_map}
+use Rattle.page_tables.proofs.Known.{known-owner}
 use Rattle.page_tables.proofs.tables.PageTables.unmap_cell.Goals as goal
 
 pub index-requires : goal.index-requires
 index-requires g c =
-    let within : c.args.slot < length c.args.self.now.slots.items = owned-within c.args.self.now.slots.items c.args.slot c.args.cell (c.requires.stands.1.named c.args.cell c.args.slot c.requires.known) in
+    let within : c.args.slot < length c.args.self.now.slots.items = owned-within c.args.self.now.slots.items c.args.slot c.args.cell (known-owner c.args.self.now c.requires.stands c.args.cell c.args.slot c.requires.known) in
     subst (λ n. c.args.slot < n) (sym c.args.self.now.slots.ok.0) within
 
 pub clear_in_cell-requires-clause-stands : goal.clear_in_cell-requires-clause-stands
 clear_in_cell-requires-clause-stands g c =
     let old : PageTables = c.args.self.now in
-    let within : c.args.slot < length old.slots.items = owned-within old.slots.items c.args.slot c.args.cell (c.requires.stands.1.named c.args.cell c.args.slot c.requires.known) in
+    let within : c.args.slot < length old.slots.items = owned-within old.slots.items c.args.slot c.args.cell (known-owner c.args.self.now c.requires.stands c.args.cell c.args.slot c.requires.known) in
     let slot : Slot = c.index.result.now in
     let here : slice_get old.slots.items c.args.slot ≡ Some slot = read-slot old.slots.items c.args.slot slot within c.index.ensures in
-    let sides : Sides = c.requires.stands.0 in
-    let st : TablesStandFor old sides = c.requires.stands.1 in (
+    ∥∥₁_map c.requires.stands (λ it.
+    let sides : Sides = it.0 in
+    let st : TablesStandFor old sides = it.1 in (
       sides,
       (
         st,
@@ -35,12 +38,12 @@ clear_in_cell-requires-clause-stands g c =
             (stood old.directory old.snapshot old.slots.items sides st c.args.cell c.args.slot slot c.requires.known here))
             ∙ c.if-covers.true,
       ),
-    )
+    ))
 
 pub returns-then-covers-clause-follows : goal.returns-then-covers-clause-follows
 returns-then-covers-clause-follows g c = λ sides st.
     let old : PageTables = c.args.self.now in
-    let within : c.args.slot < length old.slots.items = owned-within old.slots.items c.args.slot c.args.cell (c.requires.stands.1.named c.args.cell c.args.slot c.requires.known) in
+    let within : c.args.slot < length old.slots.items = owned-within old.slots.items c.args.slot c.args.cell (known-owner c.args.self.now c.requires.stands c.args.cell c.args.slot c.requires.known) in
     let slot : Slot = c.index.result.now in
     let here : slice_get old.slots.items c.args.slot ≡ Some slot = read-slot old.slots.items c.args.slot slot within c.index.ensures in
     let low : ℕ = c.saturating_sub-low.result in
@@ -58,7 +61,7 @@ returns-then-covers-clause-follows g c = λ sides st.
 pub returns-else-covers-clause-follows : goal.returns-else-covers-clause-follows
 returns-else-covers-clause-follows g c = λ sides st.
     let old : PageTables = c.args.self.now in
-    let within : c.args.slot < length old.slots.items = owned-within old.slots.items c.args.slot c.args.cell (c.requires.stands.1.named c.args.cell c.args.slot c.requires.known) in
+    let within : c.args.slot < length old.slots.items = owned-within old.slots.items c.args.slot c.args.cell (known-owner c.args.self.now c.requires.stands c.args.cell c.args.slot c.requires.known) in
     let slot : Slot = c.index.result.now in
     let here : slice_get old.slots.items c.args.slot ≡ Some slot = read-slot old.slots.items c.args.slot slot within c.index.ensures in
     let low : ℕ = c.saturating_sub-low.result in
