@@ -16,6 +16,7 @@ use Rattle.page_tables.specs.Held.{frames_of, frames_in, shares_in}
 use Rattle.page_tables.specs.Making.{Follows}
 use Rattle.page_tables.specs.Clearing.{pages_without}
 use Rattle.page_tables.specs.Standing.{number_of, slot_count}
+use Rattle.page_tables.specs.Permissions.{LeavesAllButPermissions}
 use Rattle.page_tables.proofs.ProtectedPages.{protect-runs}
 use Rattle.trace_events.specs.declared.event.Event.TheVariants.{Unmap}
 use Rattle.trace_events.specs.declared.outcome.Outcome.{Outcome}
@@ -56,6 +57,34 @@ memory_without memory start n = record memory { present = retain_keys memory.pre
 
 unmapped-on : (memory : FlatMemory) (start n : ℕ) → unmap_of memory start n ≡ on_memory (memory_without memory start n) (areas_unmapped memory.areas start n)
 unmapped-on memory start n = few-on (memory_without memory start n) (areas_without start n memory.areas)
+
+-- ---- tables that differ in permissions alone
+
+-- a kernel with them stands for the same state, and the event ran on it
+ran-permissions : (from new : KernelParts) (machine : Machine) (end : List Answer → EventEnd) (outcome : Outcome) (tables : PageTables) → LeavesAllButPermissions new.tables tables
+    → EventRan from new machine end outcome → EventRan from (record { areas = new.areas; tables = tables; supply = new.supply; snapshot = new.snapshot; last = new.last }) machine end outcome
+ran-permissions from new machine end outcome tables alike ran = record {
+  deals = ran.deals;
+  led = ran.led;
+  after = ran.after;
+  ends = ran.ends;
+  further = ran.further;
+  stands = record {
+    pages = ran.stands.pages;
+    areas = ran.stands.areas;
+    tables = alike.stands (sides_of ran.after ran.stands.pages) ran.stands.tables;
+    number = ap number_of alike.snapshot ∙ ran.stands.number;
+    memories = ran.stands.memories;
+    losses = ran.stands.losses;
+    last = ran.stands.last;
+    counts = ran.stands.counts;
+    supply = ran.stands.supply;
+    out = ran.stands.out ∙ sym alike.held;
+    even = alike.frames ∙ ran.stands.even ∙ sym alike.shares;
+    slots = alike.slots ∙ ran.stands.slots;
+    limit = ran.stands.limit;
+  };
+}
 
 -- ---- a change ends
 
@@ -133,13 +162,12 @@ module _ (parts : KernelParts) (machine : Machine) (state : KernelState) (st : K
     ran-protected areas e = ran-areas_alone parts machine state st (protect_of memory first n perm) (pages_protected first n) areas (protect-is (Ok areas) e)
         (λ answers. (protect-runs first n parts.tables (sides_of state st.pages) st.tables).runs [] answers)
 
-    -- with tables and a supply that are as they were
-    pub ran-protected_entries : (areas : List Area) → areas_protected parts.areas first n perm ≡ Ok areas → (tables : PageTables) (supply : SupplyState) → tables ≡ parts.tables → supply ≡ parts.supply
+    -- with tables that differ in permissions alone, and a supply that is as it was
+    pub ran-protected_entries : (areas : List Area) → areas_protected parts.areas first n perm ≡ Ok areas → (tables : PageTables) (supply : SupplyState) → LeavesAllButPermissions parts.tables tables → supply ≡ parts.supply
         → EventRan parts (record { areas = areas; tables = tables; supply = supply; snapshot = parts.snapshot; last = parts.last }) machine protect_end Done
-    ran-protected_entries areas e tables supply same still =
-        subst (λ tables. EventRan parts (record { areas = areas; tables = tables; supply = supply; snapshot = parts.snapshot; last = parts.last }) machine protect_end Done) (sym same)
-        (subst (λ supply. EventRan parts (record { areas = areas; tables = parts.tables; supply = supply; snapshot = parts.snapshot; last = parts.last }) machine protect_end Done) (sym still)
-        (ran-protected areas e))
+    ran-protected_entries areas e tables supply alike still =
+        subst (λ supply. EventRan parts (record { areas = areas; tables = tables; supply = supply; snapshot = parts.snapshot; last = parts.last }) machine protect_end Done) (sym still)
+        (ran-permissions parts (with_areas areas) machine protect_end Done tables alike (ran-protected areas e))
 
   -- ---- unmaps
 
@@ -195,3 +223,7 @@ module _ (parts : KernelParts) (machine : Machine) (state : KernelState) (st : K
         limit = st.limit;
       };
     }
+
+-- where the areas are as they were, so are the parts
+pub with_areas-same : (parts : KernelParts) (areas : List Area) → areas ≡ parts.areas → record parts { areas = areas } ≡ parts
+with_areas-same parts areas same = ap (λ (it : List Area). record parts { areas = it }) same

@@ -48,7 +48,7 @@ counted-touch_answered : (state : KernelState) (memory : FlatMemory) (refused : 
 counted-touch_answered state memory None progress tally = counted-parent state (with_parent state.world memory) Done progress refl tally
 counted-touch_answered state memory (Some refusal) progress tally = counted-parent state state.world (NoFrame refusal.at) progress refl tally
 
-counted-touch : (machine : Machine) (state : KernelState) (answers : List Answer) (address n : ℕ) (answer : Result FlatMemory Refusal) → HasCounted state (touch_judged machine state answers address n answer)
+pub counted-touch : (machine : Machine) (state : KernelState) (answers : List Answer) (address n : ℕ) (answer : Result FlatMemory Refusal) → HasCounted state (touch_judged machine state answers address n answer)
 counted-touch machine state answers address n (Ok memory) =
     let progress = pages_touched (page_of address) (page_count address n) (begun state answers) in
     choose state (lacks_slots machine.slots state.leaves (cells_of_range address n)) (only_answers state CellsFull) (touch_answered state memory progress.refused progress)

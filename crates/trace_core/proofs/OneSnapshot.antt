@@ -12,7 +12,7 @@ use Rattle.kernel_meaning.specs.Leaves.{holds_number, unused_cell}
 use Rattle.kernel_meaning.specs.FrameLaw.{Leaves, cell_at, with_cell, is_used}
 use Rattle.page_tables.specs.Standing.{AreKept}
 use Rattle.page_tables.proofs.LeafMap.{same_number, used-found, found-used}
-use Rattle.trace_core.specs.declared.kernel.SnapshotAreas.{SnapshotAreas}
+use Rattle.trace_core.specs.declared.parts.SnapshotAreas.{SnapshotAreas}
 use Rattle.trace_core.specs.KernelStanding.{kept_memories, kept_counts, kept_number}
 
 -- ---- maps of one entry

@@ -9,7 +9,7 @@ use Rattle.vm_base.specs.FlatStep.{outside}
 use Rattle.vm_base.specs.TwoSides.{SnapRefusal, NotLive, OutsideSnapshot, CellLost, first_loss, kept_read_of, or_snap_refused, snap_read_of}
 use Rattle.kernel_meaning.specs.Leaves.{holds_number}
 use Rattle.page_tables.specs.Accesses.{lost_in_range}
-use Rattle.trace_core.specs.declared.kernel.SnapshotAreas.{SnapshotAreas}
+use Rattle.trace_core.specs.declared.parts.SnapshotAreas.{SnapshotAreas}
 use Rattle.trace_core.specs.KernelState.{Machine, KernelState}
 use Rattle.trace_core.specs.KernelStanding.{KernelParts, KernelStands, kept_memories, kept_number}
 use Rattle.trace_core.proofs.OneSnapshot.{nothing-there, live-is, get-inserted}

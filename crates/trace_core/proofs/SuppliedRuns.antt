@@ -1,5 +1,5 @@
 -- An event whose deals a supply made is an event of the run, and the supply stands in its new state.
-use Rattle.std.proofs.Common.{◌≡◌, ℕ, ◌+◌, ◌<◌, false, List, ◌++◌, Option, refl, sym, ◌∙◌, ap, subst}
+use Rattle.std.proofs.Common.{◌≡◌, ℕ, ◌+◌, ◌<◌, false, List, [], ◌++◌, Option, refl, sym, ◌∙◌, ap, subst}
 use Rattle.std.specs.Prelude.{Some}
 use Rattle.vm_base.specs.declared.frame_request.Asker.{Asker}
 use Rattle.vm_base.specs.declared.frame_request.Asker.TheVariants.{Parent, Snapshot}
@@ -12,10 +12,10 @@ use Rattle.trace_events.specs.declared.event.Event.TheVariants.{Copy}
 use Rattle.trace_core.specs.SupplyState.{SupplyState, SupplyGoes, opening_supply}
 use Rattle.trace_core.specs.Answering.{AreCounted, made_after, pending_of, HaveLed, LeadOn}
 use Rattle.trace_core.specs.KernelState.{Machine, KernelState, opening_state}
-use Rattle.trace_core.specs.EventMeaning.{asker_of, copies_refused, refused_so_far}
+use Rattle.trace_core.specs.EventMeaning.{EventEnd, asker_of, copies_refused, refused_so_far}
 use Rattle.trace_core.specs.RunMeaning.{end_with, event_requests}
 use Rattle.trace_core.specs.Supplied.{IsSupplied}
-use Rattle.trace_core.proofs.AnswerLemmas.{deals_lead_on}
+use Rattle.trace_core.proofs.AnswerLemmas.{no_request_has_led, deals_lead_on}
 use Rattle.trace_core.proofs.EventCounts.{HasCounted, HasCopied, is_refuse, parent_counts, copy_counts}
 use Rattle.trace_core.proofs.RunLemmas.{pending_of-refuse}
 
@@ -34,6 +34,20 @@ same_requests one other named made out held deals asker same = λ i. requests_of
 pub supplied-opening : (machine : Machine) (last : ℕ) (policies : PolicySum) → IsSupplied machine (opening_state last) (opening_supply machine.frames policies)
 supplied-opening machine last policies = record { frames = refl; held = refl; asker = refl; refused = refl; pending = refl }
 
+-- an end of an event of the parent that has counted its deals
+pub supplied-end : (machine : Machine) (state : KernelState) (end : EventEnd) (deals : List Deal) (from to : SupplyState)
+    → IsSupplied machine state from → LeadsAlong SupplyGoes from deals to → HasCounted state end → end.deals ≡ deals → to.out ≡ held_frames end.after.leaves → IsSupplied machine end.after to
+supplied-end machine state end deals from to supplied along counts makes held =
+    let on : LeadOn from.policies state.named state.made [] from deals to =
+    deals_lead_on from.policies state.named state.made [] from to deals supplied.pending (no_request_has_led from.made from.policies) along in
+    record {
+      frames = on.all ∙ supplied.frames;
+      held = held;
+      asker = on.asker ∙ supplied.asker;
+      refused = on.refused ∙ ap (λ count. count_after count deals) supplied.refused ∙ sym (counts.refused ∙ ap (count_after state.world.refused) makes);
+      pending = on.pending ∙ sym (ap (λ named. pending_of named end.after.made) counts.named ∙ ap (pending_of state.named) (counts.made ∙ ap (made_after state.made) makes));
+    }
+
 -- an event of the parent
 pub supplied-parent : (machine : Machine) (opening : PolicySum) (requests : List Request) (state : KernelState) (event : Event) (deals : List Deal) (from to : SupplyState)
     → asker_of event ≡ Parent → is_refuse event ≡ false
@@ -45,17 +59,10 @@ supplied-parent machine opening requests state event deals from to parents plain
     let on : LeadOn opening state.named state.made requests from deals to =
     deals_lead_on opening state.named state.made requests from to deals supplied.pending
     (subst (λ frames. HaveLed frames opening requests from.policies) (sym supplied.frames) led) along in
-    let counts : HasCounted state end = parent_counts machine state (answers_of deals) event parents plain in
     record {
       counted = subst (λ asker. AreCounted (refused_so_far state.world asker) deals) (sym parents)
           (subst (λ count. AreCounted count deals) supplied.refused on.counted);
-      supplied = record {
-        frames = on.all ∙ supplied.frames;
-        held = held;
-        asker = on.asker ∙ supplied.asker;
-        refused = on.refused ∙ ap (λ count. count_after count deals) supplied.refused ∙ sym (counts.refused ∙ ap (count_after state.world.refused) makes);
-        pending = on.pending ∙ sym (ap (λ named. pending_of named end.after.made) counts.named ∙ ap (pending_of state.named) (counts.made ∙ ap (made_after state.made) makes));
-      };
+      supplied = supplied-end machine state end deals from to supplied along (parent_counts machine state (answers_of deals) event parents plain) makes held;
       led = subst (λ frames. HaveLed frames opening (requests ++ event_requests state event deals) to.policies) supplied.frames
           (subst (λ list. HaveLed from.made opening (requests ++ list) to.policies)
           (same_requests from.asker (asker_of event) state.named state.made from.out (held_frames state.leaves) deals (supplied.asker ∙ sym parents) supplied.held) on.led);

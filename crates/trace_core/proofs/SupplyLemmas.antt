@@ -10,8 +10,10 @@ use Rattle.vm_base.specs.Counts.{next_count}
 use Rattle.vm_base.specs.Frames.{FrameView}
 use Rattle.vm_base.specs.declared.frame_request.Asker.{Asker}
 use Rattle.vm_base.specs.declared.frame_request.Asker.TheVariants.{Parent}
+use Rattle.vm_base.specs.declared.frame_request.Want.{Want}
 use Rattle.frame_pool.specs.Policies.{PolicyView, AllGrant, AllSpare, standing}
-use Rattle.frame_pool.specs.Frames.{PoolView, TakesOut, IsDenied}
+use Rattle.frame_pool.specs.declared.ask.Ask.{Ask}
+use Rattle.frame_pool.specs.Frames.{PoolView, ask_of, TakesOut, IsDenied}
 use Rattle.frame_pool.proofs.LeftLemmas.{left-taken, left-denied}
 use Rattle.frame_pool.proofs.SparingLemmas.{spares-taken, spares-denied, spares-parent}
 use Rattle.frame_pool.specs.declared.one_pool.Why.{Why}
@@ -39,9 +41,9 @@ all_spare (policy ∷ policies) all =
     ∙ all_spare policies (All-tail (λ policy. policy.spares ≡ true) policy policies all)
 
 -- where there was no policy, there is none
-still_empty : (old new : List PolicyView) → (length old == 0) ≡ true → AllGrant (standing old) new → (length new == 0) ≡ true
-still_empty [] new none all = ap (λ list. length list == 0) all
-still_empty (policy ∷ old) new none all = absurd (grind arith)
+still_empty : (ask : Ask) (old new : List PolicyView) → (length old == 0) ≡ true → AllGrant ask (standing old) new → (length new == 0) ≡ true
+still_empty ask [] new none all = ap (λ list. length list == 0) all
+still_empty ask (policy ∷ old) new none all = absurd (grind arith)
 
 -- where one denied, there was one
 was_some : (old before : List PolicyView) (policy : PolicyView) (behind : List PolicyView) → standing old ≡ before ++ policy ∷ behind → (length old == 0) ≡ false
@@ -49,21 +51,21 @@ was_some [] before policy behind is =
     let lengths : length (standing []) ≡ length before + length (policy ∷ behind) = ap length is ∙ length-append before (policy ∷ behind) in absurd (grind arith)
 was_some (other ∷ old) before policy behind is = grind arith
 
-policies_stay : (frame : FrameView) (old new : PoolView) → TakesOut frame old new → PoliciesStay (policy_sum old.policies) (policy_sum new.policies)
-policies_stay frame old new taken = record {
-  is_empty = λ none. still_empty old.policies new.policies none taken.policies;
-  left = left-taken frame old new taken;
-  spares = λ all. all_spare new.policies (spares-taken frame old new taken (each_spares old.policies all));
+policies_stay : (asker : Asker) (want : Want) (frame : FrameView) (old new : PoolView) → TakesOut asker want frame old new → PoliciesStay (policy_sum old.policies) (policy_sum new.policies)
+policies_stay asker want frame old new taken = record {
+  is_empty = λ none. still_empty (ask_of asker want old) old.policies new.policies none taken.policies;
+  left = left-taken asker want frame old new taken;
+  spares = λ all. all_spare new.policies (spares-taken asker want frame old new taken (each_spares old.policies all));
 }
 
-policies_deny : (asker : Asker) (place : ℕ) (old new : PoolView) → IsDenied asker place old new → PoliciesDeny asker (policy_sum old.policies) (policy_sum new.policies)
-policies_deny asker place old new denied =
+policies_deny : (asker : Asker) (want : Want) (place : ℕ) (old new : PoolView) → IsDenied asker want place old new → PoliciesDeny asker (policy_sum old.policies) (policy_sum new.policies)
+policies_deny asker want place old new denied =
     let at = denied.policies in
     record {
       some = was_some old.policies at.before at.policy at.behind at.was;
-      left = left-denied asker place old new denied;
-      spared = λ all. spares-parent asker place old new denied (each_spares old.policies all);
-      spares = λ all. all_spare new.policies (spares-denied asker place old new denied (each_spares old.policies all));
+      left = left-denied asker want place old new denied;
+      spared = λ all. spares-parent asker want place old new denied (each_spares old.policies all);
+      spares = λ all. all_spare new.policies (spares-denied asker want place old new denied (each_spares old.policies all));
     }
 
 -- a state is told by its parts
@@ -72,16 +74,16 @@ same_state old new made out asker refused pending policies =
     λ i. record { made = made i; out = out i; asker = asker i; refused = refused i; pending = pending i; policies = policies i }
 
 -- the pool gave a frame
-pub granted-taken : (frame : FrameView) (old new : PoolView) (asker : Asker) (refused : ℕ) (pending behind : Option ℕ)
-    → length old.free ≤ old.made → is_next pending ≡ false → TakesOut frame old new → behind ≡ pending_behind pending
+pub granted-taken : (want : Want) (frame : FrameView) (old new : PoolView) (asker : Asker) (refused : ℕ) (pending behind : Option ℕ)
+    → length old.free ≤ old.made → is_next pending ≡ false → TakesOut asker want frame old new → behind ≡ pending_behind pending
     → IsGranted (state_of old asker refused pending) (state_of new asker refused behind)
-granted-taken frame old new asker refused pending behind within unnamed taken is_behind =
+granted-taken want frame old new asker refused pending behind within unnamed taken is_behind =
     let fewer : length old.free ≡ length new.free + 1 = ap length taken.free ∙ length-append new.free (frame.number ∷ []) in
     let made : new.made ≡ old.made = taken.made in
     record {
       unnamed = unnamed;
       some_free = omega arith;
-      policies = policies_stay frame old new taken;
+      policies = policies_stay asker want frame old new taken;
       is = same_state _ (state_of new asker refused behind) made (omega arith) refl refl is_behind refl;
     }
 
@@ -108,30 +110,30 @@ refused-spent old new asker refused count at pending behind unnamed spent same c
     }
 
 -- a policy denied
-refused-denied : (place : ℕ) (old new : PoolView) (asker : Asker) (refused count at : ℕ) (pending behind : Option ℕ)
-    → length old.free ≤ old.made → is_next pending ≡ false → IsDenied asker place old new → count ≡ next_count refused → at ≡ count → behind ≡ pending_behind pending
+refused-denied : (want : Want) (place : ℕ) (old new : PoolView) (asker : Asker) (refused count at : ℕ) (pending behind : Option ℕ)
+    → length old.free ≤ old.made → is_next pending ≡ false → IsDenied asker want place old new → count ≡ next_count refused → at ≡ count → behind ≡ pending_behind pending
     → IsRefused at (state_of old asker refused pending) (state_of new asker count behind)
-refused-denied place old new asker refused count at pending behind within unnamed denied counted at_is is_behind =
+refused-denied want place old new asker refused count at pending behind within unnamed denied counted at_is is_behind =
     let made : new.made ≡ old.made = denied.made in
     let free : length new.free ≡ length old.free = ap length denied.free in
     let some : 0 < length old.free = denied.some_free in
     record {
-      cause = inr (inr (record { unnamed = unnamed; some_free = omega arith; policies = policies_deny asker place old new denied }));
+      cause = inr (inr (record { unnamed = unnamed; some_free = omega arith; policies = policies_deny asker want place old new denied }));
       count = at_is ∙ counted;
       is = same_state _ (state_of new asker count behind) made (omega arith) refl counted is_behind refl;
     }
 
 -- the pool refused, whatever its reason
-pub refused-by_pool : {X : Type 0} (why : Why) (old new : PoolView) (asker : Asker) (refused count at : ℕ) (pending behind : Option ℕ)
+pub refused-by_pool : {X : Type 0} (want : Want) (why : Why) (old new : PoolView) (asker : Asker) (refused count at : ℕ) (pending behind : Option ℕ)
     → length old.free ≤ old.made → is_next pending ≡ false
     → (IsErrOf {T = X} (Err why) Empty → old.free ≡ []) → (IsErrOf {T = X} (Err why) Empty → new ≡ old)
-    → ((place : ℕ) → IsErrOf {T = X} (Err why) (Denied place) → IsDenied asker place old new)
+    → ((place : ℕ) → IsErrOf {T = X} (Err why) (Denied place) → IsDenied asker want place old new)
     → count ≡ next_count refused → at ≡ count → behind ≡ pending_behind pending
     → IsRefused at (state_of old asker refused pending) (state_of new asker count behind)
-refused-by_pool Empty old new asker refused count at pending behind within unnamed empty unasked denied counted at_is is_behind =
+refused-by_pool want Empty old new asker refused count at pending behind within unnamed empty unasked denied counted at_is is_behind =
     refused-spent old new asker refused count at pending behind unnamed (empty refl) (unasked refl) counted at_is is_behind
-refused-by_pool (Denied place) old new asker refused count at pending behind within unnamed empty unasked denied counted at_is is_behind =
-    refused-denied place old new asker refused count at pending behind within unnamed (denied place refl) counted at_is is_behind
+refused-by_pool want (Denied place) old new asker refused count at pending behind within unnamed empty unasked denied counted at_is is_behind =
+    refused-denied want place old new asker refused count at pending behind within unnamed (denied place refl) counted at_is is_behind
 
 -- all frames are there
 pub state_of-opening : (frames : ℕ) (pool : PoolView) (policies : List PolicyView)

@@ -11,7 +11,7 @@ use Rattle.page_tables.specs.Sides.{Sides}
 use Rattle.page_tables.specs.Standing.{TablesStandFor, number_of, slot_count}
 use Rattle.page_tables.specs.Held.{frames_of, frames_in, shares_in}
 use Rattle.trace_events.specs.declared.outcome.Outcome.{Outcome}
-use Rattle.trace_core.specs.declared.kernel.SnapshotAreas.{SnapshotAreas}
+use Rattle.trace_core.specs.declared.parts.SnapshotAreas.{SnapshotAreas}
 use Rattle.trace_core.specs.declared.writing.NoArea.{NoArea}
 use Rattle.vm_base.specs.FlatStep.{Refusal, OutsideAreas}
 use Rattle.trace_core.specs.SupplyState.{SupplyState, SupplyGoes}
@@ -61,6 +61,10 @@ pub record KernelStands (parts : KernelParts) (machine : Machine) (state : Kerne
   pub even : frames_in parts.tables.slots.items ≡ shares_in parts.tables.slots.items
   pub slots : slot_count parts.tables ≡ machine.slots
   pub limit : machine.limit ≡ 1
+
+-- the parts are those of a kernel: they stand for the state of a run on some machine
+abbrev pub IsKernel : KernelParts → Type 0
+IsKernel parts = (machine : Machine) × ((state : KernelState) × KernelStands parts machine state)
 
 -- an event ran on a kernel: its deals led the supply on, and with their answers the event ends with this outcome and in the state for which the kernel stands then
 pub record EventRan (from new : KernelParts) (machine : Machine) (end : List Answer → EventEnd) (outcome : Outcome) : Type 0 where

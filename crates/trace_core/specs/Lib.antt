@@ -2,9 +2,12 @@
 pub mod SupplyState
 pub mod Answering
 pub mod KernelStanding
+pub mod TablesSeen
+pub mod KernelSeen
 pub mod KernelState
 pub mod EventMeaning
 pub mod RunMeaning
 pub mod Supplied
 pub mod KernelRun
 pub mod SnapshotAnswers
+pub mod TouchAnswers

@@ -7,16 +7,16 @@ ghost use Rattle.trace_core.specs.KernelState.{Machine, KernelState};
 ghost use Rattle.trace_core.specs.KernelStanding.{KernelStands};
 ghost use Rattle.trace_core.specs.KernelRun.{Ran};
 
-use crate::kernel::{Kernel, Standing};
+use crate::parts::{Parts, Standing};
 use std::alloc::Global;
 use trace_events::{AreaRow, Outcome};
 use vm_base::NoMemory;
 
-impl Kernel {
+impl Parts {
     /// How many frames are out of the pool: those of the tables and of the pages, each counted
     /// once.
     pub fn held(&self) -> u32
-        ensures held { (machine : Machine) (state : KernelState) → KernelStands (⟦<Kernel as Standing>⟧.parts self.now) machine state
+        ensures held { (machine : Machine) (state : KernelState) → KernelStands (⟦<Parts as Standing>⟧.parts self.now) machine state
             → result ≡ held_frames state.leaves }
     {
         self.supply.held()
@@ -24,7 +24,7 @@ impl Kernel {
 
     /// How many frames are left in the pool.
     pub fn free(&self) -> u32
-        ensures free { (machine : Machine) (state : KernelState) → KernelStands (⟦<Kernel as Standing>⟧.parts self.now) machine state
+        ensures free { (machine : Machine) (state : KernelState) → KernelStands (⟦<Parts as Standing>⟧.parts self.now) machine state
             → result + held_frames state.leaves ≡ machine.frames }
     {
         self.supply.free()
@@ -32,7 +32,7 @@ impl Kernel {
 
     /// How many requests of the parent were refused.
     pub fn refused(&self) -> u64
-        ensures refused { (machine : Machine) (state : KernelState) → KernelStands (⟦<Kernel as Standing>⟧.parts self.now) machine state
+        ensures refused { (machine : Machine) (state : KernelState) → KernelStands (⟦<Parts as Standing>⟧.parts self.now) machine state
             → result ≡ state.world.refused }
     {
         self.supply.refused()
@@ -40,7 +40,7 @@ impl Kernel {
 
     /// The frames that are out and those that are left.
     pub fn frames(&self) -> Outcome
-        ensures ran { Ran (⟦<Kernel as Standing>⟧.parts self.now) (⟦<Kernel as Standing>⟧.parts self.now) event.Frames result }
+        ensures ran { Ran (⟦<Parts as Standing>⟧.parts self.now) (⟦<Parts as Standing>⟧.parts self.now) event.Frames result }
     {
         Outcome::Held {
             held: self.held(),
@@ -50,7 +50,7 @@ impl Kernel {
 
     /// The parent's areas as they are now.
     pub fn list_areas(&self, alloc: Global) -> Result<Outcome, NoMemory>
-        ensures ran { IfOk result (Ran (⟦<Kernel as Standing>⟧.parts self.now) (⟦<Kernel as Standing>⟧.parts self.now) event.ListAreas) }
+        ensures ran { IfOk result (Ran (⟦<Parts as Standing>⟧.parts self.now) (⟦<Parts as Standing>⟧.parts self.now) event.ListAreas) }
     {
         match AreaRow::new(alloc, self.areas.list()) {
             Ok(row) => Ok(Outcome::AreaRow(row)),
@@ -61,7 +61,7 @@ impl Kernel {
     /// Names the nth request for a frame from here on, counted from 1, to be refused.
     pub fn refuse(&mut self, nth: u32) -> Outcome
         requires some { 0 < nth }
-        ensures ran { Ran (⟦<Kernel as Standing>⟧.parts self.old) (⟦<Kernel as Standing>⟧.parts self.new) (event.Refuse nth) result }
+        ensures ran { Ran (⟦<Parts as Standing>⟧.parts self.old) (⟦<Parts as Standing>⟧.parts self.new) (event.Refuse nth) result }
     {
         self.supply.refuse(nth);
         Outcome::Done

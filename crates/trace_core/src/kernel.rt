@@ -1,61 +1,57 @@
-//! The kernel: the parent's areas, the page tables, and where frames come from.
-ghost use Rattle.std.specs.Prelude.{◌≡◌, ◌≤◌, ◌<◌, IfOk, length, map, [], vec_capacity};
+//! The kernel: its parts, which stand for the state of a run.
+ghost use Rattle.std.specs.Prelude.{◌≡◌, ◌≤◌, ◌+◌, IfOk, OnErr, List, ℕ, map, [], ◌∷◌, ◌++◌, length};
+ghost use Rattle.trace_events.specs.declared.event.Event.{Event};
+ghost use Rattle.trace_events.specs.declared.outcome.Outcome.{Outcome};
+ghost use Rattle.trace_events.specs.EventBounds.{IsWithinBounds};
+ghost use Rattle.kernel_meaning.specs.FrameLaw.{held_frames};
+ghost use Rattle.kernel_meaning.specs.RefusedRequests.{PolicySum};
 ghost use Rattle.frame_pool.specs.Policies.{standing};
 ghost use Rattle.trace_core.specs.SupplyState.{state_of, opening_supply, policy_sum};
-ghost use Rattle.trace_core.specs.KernelState.{opening_state};
-ghost use Rattle.trace_core.specs.KernelRun.{HasRun};
-ghost use Rattle.trace_core.specs.KernelStanding.{KernelParts, KernelStands};
+ghost use Rattle.trace_core.specs.KernelState.{Machine, KernelState, opening_state};
+ghost use Rattle.trace_core.specs.KernelRun.{Ran, HasRun};
+ghost use Rattle.trace_core.specs.KernelStanding.{KernelStands};
+ghost use Rattle.trace_core.specs.KernelSeen.{IsKernelNoted};
 
-use crate::supply::Supply;
-use area_list::Areas;
+use crate::notes::Notes;
+use crate::parts::{Parts, Standing};
 use frame_pool::FramePolicy;
-use page_tables::PageTables;
 use std::alloc::Global;
+use std::snapshot::Snapshot;
+use trace_events::{Event, Outcome};
 use vm_base::NoMemory;
 
-/// The most pages that one touch may meet.
-pub(crate) const MOST_PAGES: usize = 1025;
-
-/// What the kernel keeps of the snapshot that lives, beside its page tables.
-#[derive(Drop)]
-pub(crate) struct SnapshotAreas {
-    pub(crate) number: u32,
-    pub(crate) areas: Areas,
-    /// Its refused copies.
-    pub(crate) refused: u64,
-}
-
-/// A parent and its snapshot over counted frames.
+/// A parent and its snapshot over counted frames. It stands for the state of a run at each moment.
 #[derive(Drop)]
 pub struct Kernel {
-    pub(crate) areas: Areas,
-    pub(crate) tables: PageTables,
-    pub(crate) supply: Supply,
-    pub(crate) snapshot: Option<SnapshotAreas>,
-    pub(crate) last: u32,
-    /// Room for the pages that one touch adds.
-    pub(crate) added: Vec<u64>,
-
-    ghost room: { 1025 ≤ vec_capacity added },
-}
-
-/// What clauses may know of a value with a kernel in it.
-pub trait Standing {
-    ghost parts: { Self → KernelParts };
+    pub(crate) parts: Parts,
+    pub(crate) notes: Notes,
+    /// The state of a run on some machine, whatever the policies of the pool are.
+    ghost stood: { ∥ IsKernelNoted (record {
+      areas = parts.areas;
+      tables = parts.tables;
+      supply = state_of (record {
+        made = parts.supply.pool.stack.made;
+        free = parts.supply.pool.stack.free;
+        asks = parts.supply.pool.asks;
+        policies = [];
+      }) parts.supply.asker parts.supply.refused parts.supply.pending;
+      snapshot = parts.snapshot;
+      last = parts.last;
+    }) (record { most = notes.most.value; forked = notes.forked.value; born = notes.born.value }) ∥₁ },
 }
 
 impl Standing for Kernel {
     ghost parts = { λ kernel. record {
-      areas = kernel.areas;
-      tables = kernel.tables;
+      areas = kernel.parts.areas;
+      tables = kernel.parts.tables;
       supply = state_of (record {
-        made = kernel.supply.pool.stack.made;
-        free = kernel.supply.pool.stack.free;
-        asks = kernel.supply.pool.asks;
-        policies = map (λ b. (FramePolicy-box b).told b.value) kernel.supply.pool.policies.items;
-      }) kernel.supply.asker kernel.supply.refused kernel.supply.pending;
-      snapshot = kernel.snapshot;
-      last = kernel.last;
+        made = kernel.parts.supply.pool.stack.made;
+        free = kernel.parts.supply.pool.stack.free;
+        asks = kernel.parts.supply.pool.asks;
+        policies = map (λ b. (FramePolicy-box b).told b.value) kernel.parts.supply.pool.policies.items;
+      }) kernel.parts.supply.asker kernel.parts.supply.refused kernel.parts.supply.pending;
+      snapshot = kernel.parts.snapshot;
+      last = kernel.parts.last;
     } };
 }
 
@@ -83,16 +79,52 @@ impl Kernel {
             (record { frames = frames; slots = cells; limit = 1 }) last
             (policy_sum (standing (map (λ policy. told policy) policies.items))) [] []) }
     {
-        let supply = Supply::new(alloc, frames, policies)?;
-        let tables = PageTables::new(alloc, cells)?;
-        let added = Vec::with_capacity(alloc, MOST_PAGES)?;
-        Ok(Kernel {
-            areas: Areas::new(),
-            tables,
-            supply,
-            snapshot: None,
-            last,
-            added,
-        })
+        let parts = Parts::new(alloc, frames, cells, last, policies)?;
+        let notes = Notes::new(&parts.tables);
+        Ok(Kernel { parts, notes })
+    }
+
+    /// Runs an event whose fields lie within their bounds. After `NoMemory` nothing has happened.
+    pub fn step(&mut self, alloc: Global, event: &Event) -> Result<Outcome, NoMemory>
+        requires within { IsWithinBounds event.now }
+        ensures ran { IfOk result (Ran (⟦<Kernel as Standing>⟧.parts self.old) (⟦<Kernel as Standing>⟧.parts self.new) event.now) }
+
+        // A run goes on by this event and its answer, whatever was run before.
+        ensures run { IfOk result (λ outcome. (machine : Machine) (last : ℕ) (policies : PolicySum) (events : List Event) (outcomes : List Outcome)
+            → HasRun (⟦<Kernel as Standing>⟧.parts self.old) machine last policies events outcomes
+            → HasRun (⟦<Kernel as Standing>⟧.parts self.new) machine last policies (events ++ event.now ∷ []) (outcomes ++ outcome ∷ [])) }
+        ensures kept { OnErr result (⟦<Kernel as Standing>⟧.parts self.new ≡ ⟦<Kernel as Standing>⟧.parts self.old) }
+    {
+        let before = Snapshot::of(&self.parts.tables);
+        let answer = self.parts.step(alloc, event);
+        let refused = self.parts.refused();
+        self.notes
+            .answered(&before, event, &answer, &self.parts.tables, refused);
+        answer
+    }
+
+    /// How many frames are out of the pool: those of the tables and of the pages, each counted
+    /// once.
+    pub fn held(&self) -> u32
+        ensures held { (machine : Machine) (state : KernelState) → KernelStands (⟦<Kernel as Standing>⟧.parts self.now) machine state
+            → result ≡ held_frames state.leaves }
+    {
+        self.parts.held()
+    }
+
+    /// How many frames are left in the pool.
+    pub fn free(&self) -> u32
+        ensures free { (machine : Machine) (state : KernelState) → KernelStands (⟦<Kernel as Standing>⟧.parts self.now) machine state
+            → result + held_frames state.leaves ≡ machine.frames }
+    {
+        self.parts.free()
+    }
+
+    /// How many requests of the parent were refused.
+    pub fn refused(&self) -> u64
+        ensures refused { (machine : Machine) (state : KernelState) → KernelStands (⟦<Kernel as Standing>⟧.parts self.now) machine state
+            → result ≡ state.world.refused }
+    {
+        self.parts.refused()
     }
 }

@@ -1,28 +1,31 @@
 //! The calls of the parent that take pages out of its areas, and that change what pages may be
 //! used for.
-ghost use Rattle.std.specs.Prelude.{◌≡◌, ◌+◌, ◌<◌, ◌≤◌, ◌^◌};
+ghost use Rattle.std.specs.Prelude.{◌≡◌, ◌≢◌, ◌+◌, ◌<◌, ◌≤◌, ◌^◌};
 ghost use Rattle.vm_base.specs.FlatStep.{unmap_of, protect_of};
 ghost use Rattle.kernel_meaning.specs.EventRequests.{pages_unmapped, pages_protected};
+ghost use Rattle.trace_events.specs.declared.outcome.Outcome.TheVariants.{Done};
 ghost use Rattle.trace_core.specs.KernelState.{Machine, KernelState};
 ghost use Rattle.trace_core.specs.EventMeaning.{begun, areas_changed};
 ghost use Rattle.trace_core.specs.KernelStanding.{KernelStands, EventRan};
 
-use crate::kernel::{Kernel, Standing};
+use crate::parts::{Parts, Standing};
 use crate::writing::outcome_of;
 use trace_events::Outcome;
 use vm_base::Perm;
 
-impl Kernel {
+impl Parts {
     /// Takes pages out of the areas, with the frames that no side needs then. Pages that lie in no
     /// area are passed over. It is refused only where more areas would be left than may be, and
     /// then nothing has changed.
     pub fn unmap(&mut self, first: u64, pages: u64) -> Outcome
         requires some { 0 < pages }
         requires within { first + pages ≤ 2 ^ 36 }
-        requires stands { (machine : Machine) × ((state : KernelState) × KernelStands (⟦<Kernel as Standing>⟧.parts self.old) machine state) }
-        ensures ran { (machine : Machine) (state : KernelState) → KernelStands (⟦<Kernel as Standing>⟧.parts self.old) machine state
-            → EventRan (⟦<Kernel as Standing>⟧.parts self.old) (⟦<Kernel as Standing>⟧.parts self.new) machine
+        requires stands { ∥ ((machine : Machine) × ((state : KernelState) × KernelStands (⟦<Parts as Standing>⟧.parts self.old) machine state)) ∥₁ }
+        ensures ran { (machine : Machine) (state : KernelState) → KernelStands (⟦<Parts as Standing>⟧.parts self.old) machine state
+            → EventRan (⟦<Parts as Standing>⟧.parts self.old) (⟦<Parts as Standing>⟧.parts self.new) machine
             (λ answers. areas_changed state (unmap_of state.world.parent first pages) (pages_unmapped first pages (begun state answers))) result }
+        ensures refused { result ≢ Done → ⟦<Parts as Standing>⟧.parts self.new ≡ ⟦<Parts as Standing>⟧.parts self.old }
+        ensures beside { ((⟦<Parts as Standing>⟧.parts self.new).snapshot ≡ (⟦<Parts as Standing>⟧.parts self.old).snapshot) × ((⟦<Parts as Standing>⟧.parts self.new).last ≡ (⟦<Parts as Standing>⟧.parts self.old).last) }
     {
         match self.areas.unmap(first, pages) {
             Ok(()) => {
@@ -39,10 +42,12 @@ impl Kernel {
     pub fn protect(&mut self, first: u64, pages: u64, perm: Perm) -> Outcome
         requires some { 0 < pages }
         requires within { first + pages ≤ 2 ^ 36 }
-        requires stands { (machine : Machine) × ((state : KernelState) × KernelStands (⟦<Kernel as Standing>⟧.parts self.old) machine state) }
-        ensures ran { (machine : Machine) (state : KernelState) → KernelStands (⟦<Kernel as Standing>⟧.parts self.old) machine state
-            → EventRan (⟦<Kernel as Standing>⟧.parts self.old) (⟦<Kernel as Standing>⟧.parts self.new) machine
+        requires stands { ∥ ((machine : Machine) × ((state : KernelState) × KernelStands (⟦<Parts as Standing>⟧.parts self.old) machine state)) ∥₁ }
+        ensures ran { (machine : Machine) (state : KernelState) → KernelStands (⟦<Parts as Standing>⟧.parts self.old) machine state
+            → EventRan (⟦<Parts as Standing>⟧.parts self.old) (⟦<Parts as Standing>⟧.parts self.new) machine
             (λ answers. areas_changed state (protect_of state.world.parent first pages perm) (pages_protected first pages (begun state answers))) result }
+        ensures refused { result ≢ Done → ⟦<Parts as Standing>⟧.parts self.new ≡ ⟦<Parts as Standing>⟧.parts self.old }
+        ensures beside { ((⟦<Parts as Standing>⟧.parts self.new).snapshot ≡ (⟦<Parts as Standing>⟧.parts self.old).snapshot) × ((⟦<Parts as Standing>⟧.parts self.new).last ≡ (⟦<Parts as Standing>⟧.parts self.old).last) }
     {
         match self.areas.protect(first, pages, perm) {
             Ok(()) => {

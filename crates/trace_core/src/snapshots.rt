@@ -8,20 +8,20 @@ ghost use Rattle.trace_core.specs.EventMeaning.{fork_end, copy_end_of, drop_end}
 ghost use Rattle.trace_core.specs.KernelStanding.{KernelStands, EventRan, kept_number};
 ghost use Rattle.trace_core.specs.SnapshotAnswers.{snap_read_answer, KeepsUnlessLost};
 
-use crate::kernel::{Kernel, SnapshotAreas, Standing};
+use crate::parts::{Parts, SnapshotAreas, Standing};
 use crate::writing::{PAGE_BYTES, first_outside, page_count};
 use leaf_cell::LeafState;
 use trace_events::Outcome;
 
-impl Kernel {
+impl Parts {
     /// Forks the snapshot of this number, which has the parent's areas and pages as they are now.
     /// It asks for the tables of the snapshot's directory, and for a leaf table for each cell in
     /// which the parent has a page. One snapshot may live at a time. After a refusal there is none,
     /// and what was granted has gone back.
     pub fn fork(&mut self, number: u32) -> Outcome
-        requires stands { (machine : Machine) × ((state : KernelState) × KernelStands (⟦<Kernel as Standing>⟧.parts self.old) machine state) }
-        ensures ran { (machine : Machine) (state : KernelState) → KernelStands (⟦<Kernel as Standing>⟧.parts self.old) machine state
-            → EventRan (⟦<Kernel as Standing>⟧.parts self.old) (⟦<Kernel as Standing>⟧.parts self.new) machine (λ answers. fork_end machine state answers number Eager) result }
+        requires stands { ∥ ((machine : Machine) × ((state : KernelState) × KernelStands (⟦<Parts as Standing>⟧.parts self.old) machine state)) ∥₁ }
+        ensures ran { (machine : Machine) (state : KernelState) → KernelStands (⟦<Parts as Standing>⟧.parts self.old) machine state
+            → EventRan (⟦<Parts as Standing>⟧.parts self.old) (⟦<Parts as Standing>⟧.parts self.new) machine (λ answers. fork_end machine state answers number Eager) result }
     {
         if self.snapshot.is_some() {
             return Outcome::TooMany;
@@ -45,9 +45,9 @@ impl Kernel {
     /// cell that the snapshot has lost is told.
     pub fn copy(&mut self, number: u32, cell: u32) -> Outcome
         requires cell { cell < 2 ^ 27 }
-        requires stands { (machine : Machine) × ((state : KernelState) × KernelStands (⟦<Kernel as Standing>⟧.parts self.old) machine state) }
-        ensures ran { (machine : Machine) (state : KernelState) → KernelStands (⟦<Kernel as Standing>⟧.parts self.old) machine state
-            → EventRan (⟦<Kernel as Standing>⟧.parts self.old) (⟦<Kernel as Standing>⟧.parts self.new) machine (λ answers. copy_end_of state answers number cell) result }
+        requires stands { ∥ ((machine : Machine) × ((state : KernelState) × KernelStands (⟦<Parts as Standing>⟧.parts self.old) machine state)) ∥₁ }
+        ensures ran { (machine : Machine) (state : KernelState) → KernelStands (⟦<Parts as Standing>⟧.parts self.old) machine state
+            → EventRan (⟦<Parts as Standing>⟧.parts self.old) (⟦<Parts as Standing>⟧.parts self.new) machine (λ answers. copy_end_of state answers number cell) result }
     {
         if !is_live(&self.snapshot, number) {
             return Outcome::NoSnap;
@@ -60,9 +60,9 @@ impl Kernel {
 
     /// Drops the snapshot of this number, and gives back what it alone holds.
     pub fn drop_snapshot(&mut self, number: u32) -> Outcome
-        requires stands { (machine : Machine) × ((state : KernelState) × KernelStands (⟦<Kernel as Standing>⟧.parts self.old) machine state) }
-        ensures ran { (machine : Machine) (state : KernelState) → KernelStands (⟦<Kernel as Standing>⟧.parts self.old) machine state
-            → EventRan (⟦<Kernel as Standing>⟧.parts self.old) (⟦<Kernel as Standing>⟧.parts self.new) machine (λ answers. drop_end state answers number) result }
+        requires stands { ∥ ((machine : Machine) × ((state : KernelState) × KernelStands (⟦<Parts as Standing>⟧.parts self.old) machine state)) ∥₁ }
+        ensures ran { (machine : Machine) (state : KernelState) → KernelStands (⟦<Parts as Standing>⟧.parts self.old) machine state
+            → EventRan (⟦<Parts as Standing>⟧.parts self.old) (⟦<Parts as Standing>⟧.parts self.new) machine (λ answers. drop_end state answers number) result }
     {
         if !is_live(&self.snapshot, number) {
             return Outcome::NoSnap;
@@ -77,8 +77,8 @@ impl Kernel {
     pub fn snap_read(&self, number: u32, addr: u64, buf: &mut [u8]) -> Result<(), SnapshotFault>
         requires some { 0 < length buf.old }
         requires range { addr + length buf.old ≤ 2 ^ 48 }
-        requires stands { (machine : Machine) × ((state : KernelState) × KernelStands (⟦<Kernel as Standing>⟧.parts self.now) machine state) }
-        ensures read { (machine : Machine) (state : KernelState) → KernelStands (⟦<Kernel as Standing>⟧.parts self.now) machine state
+        requires stands { ∥ ((machine : Machine) × ((state : KernelState) × KernelStands (⟦<Parts as Standing>⟧.parts self.now) machine state)) ∥₁ }
+        ensures read { (machine : Machine) (state : KernelState) → KernelStands (⟦<Parts as Standing>⟧.parts self.now) machine state
             → snap_read_of state.world number addr (length buf.old) ≡ snap_read_answer result buf.new }
         ensures kept { KeepsUnlessLost result buf.old buf.new }
     {

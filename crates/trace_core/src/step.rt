@@ -11,33 +11,33 @@ ghost use Rattle.trace_core.specs.SnapshotAnswers.{snap_refusal};
 ghost use Rattle.trace_core.specs.KernelStanding.{KernelStands};
 ghost use Rattle.trace_core.specs.KernelRun.{Ran, HasRun};
 
-use crate::kernel::{Kernel, Standing};
+use crate::parts::{Parts, Standing};
 use crate::snapshots::SnapshotFault;
 use std::alloc::Global;
 use trace_events::{Event, Outcome};
 use vm_base::{Bytes, NoMemory};
 
-impl Kernel {
+impl Parts {
     /// Runs an event whose fields lie within their bounds. After `NoMemory` nothing has happened.
     pub fn step(&mut self, alloc: Global, event: &Event) -> Result<Outcome, NoMemory>
         requires within { IsWithinBounds event.now }
-        requires stands { (machine : Machine) × ((state : KernelState) × KernelStands (⟦<Kernel as Standing>⟧.parts self.old) machine state) }
-        ensures ran { IfOk result (Ran (⟦<Kernel as Standing>⟧.parts self.old) (⟦<Kernel as Standing>⟧.parts self.new) event.now) }
+        requires stands { ∥ ((machine : Machine) × ((state : KernelState) × KernelStands (⟦<Parts as Standing>⟧.parts self.old) machine state)) ∥₁ }
+        ensures ran { IfOk result (Ran (⟦<Parts as Standing>⟧.parts self.old) (⟦<Parts as Standing>⟧.parts self.new) event.now) }
 
         // A run goes on by this event and its answer, whatever was run before.
         ensures run { IfOk result (λ outcome. (machine : Machine) (last : ℕ) (policies : PolicySum) (events : List Event) (outcomes : List Outcome)
-            → HasRun (⟦<Kernel as Standing>⟧.parts self.old) machine last policies events outcomes
-            → HasRun (⟦<Kernel as Standing>⟧.parts self.new) machine last policies (events ++ event.now ∷ []) (outcomes ++ outcome ∷ [])) }
-        ensures kept { OnErr result (⟦<Kernel as Standing>⟧.parts self.new ≡ ⟦<Kernel as Standing>⟧.parts self.old) }
+            → HasRun (⟦<Parts as Standing>⟧.parts self.old) machine last policies events outcomes
+            → HasRun (⟦<Parts as Standing>⟧.parts self.new) machine last policies (events ++ event.now ∷ []) (outcomes ++ outcome ∷ [])) }
+        ensures kept { OnErr result (⟦<Parts as Standing>⟧.parts self.new ≡ ⟦<Parts as Standing>⟧.parts self.old) }
     {
         self.run_event(alloc, event)
     }
 
     fn run_event(&mut self, alloc: Global, event: &Event) -> Result<Outcome, NoMemory>
         requires within { IsWithinBounds event.now }
-        requires stands { (machine : Machine) × ((state : KernelState) × KernelStands (⟦<Kernel as Standing>⟧.parts self.old) machine state) }
-        ensures ran { IfOk result (Ran (⟦<Kernel as Standing>⟧.parts self.old) (⟦<Kernel as Standing>⟧.parts self.new) event.now) }
-        ensures kept { OnErr result (⟦<Kernel as Standing>⟧.parts self.new ≡ ⟦<Kernel as Standing>⟧.parts self.old) }
+        requires stands { ∥ ((machine : Machine) × ((state : KernelState) × KernelStands (⟦<Parts as Standing>⟧.parts self.old) machine state)) ∥₁ }
+        ensures ran { IfOk result (Ran (⟦<Parts as Standing>⟧.parts self.old) (⟦<Parts as Standing>⟧.parts self.new) event.now) }
+        ensures kept { OnErr result (⟦<Parts as Standing>⟧.parts self.new ≡ ⟦<Parts as Standing>⟧.parts self.old) }
     {
         match event {
             Event::Map { first, pages, perm } => Ok(self.map(*first, *pages, *perm)),
@@ -61,8 +61,8 @@ impl Kernel {
     fn read_event(&self, alloc: Global, addr: u64, len: u32) -> Result<Outcome, NoMemory>
         requires some { 0 < len }
         requires range { addr + len ≤ 2 ^ 48 }
-        requires stands { (machine : Machine) × ((state : KernelState) × KernelStands (⟦<Kernel as Standing>⟧.parts self.now) machine state) }
-        ensures ran { IfOk result (Ran (⟦<Kernel as Standing>⟧.parts self.now) (⟦<Kernel as Standing>⟧.parts self.now) (event.Read addr len)) }
+        requires stands { ∥ ((machine : Machine) × ((state : KernelState) × KernelStands (⟦<Parts as Standing>⟧.parts self.now) machine state)) ∥₁ }
+        ensures ran { IfOk result (Ran (⟦<Parts as Standing>⟧.parts self.now) (⟦<Parts as Standing>⟧.parts self.now) (event.Read addr len)) }
     {
         let mut buf = vec![in alloc; 0; len as usize]?;
         match self.read(addr, &mut buf) {
@@ -80,8 +80,8 @@ impl Kernel {
     ) -> Result<Outcome, NoMemory>
         requires some { 0 < len }
         requires range { addr + len ≤ 2 ^ 48 }
-        requires stands { (machine : Machine) × ((state : KernelState) × KernelStands (⟦<Kernel as Standing>⟧.parts self.now) machine state) }
-        ensures ran { IfOk result (Ran (⟦<Kernel as Standing>⟧.parts self.now) (⟦<Kernel as Standing>⟧.parts self.now) (event.SnapRead number addr len)) }
+        requires stands { ∥ ((machine : Machine) × ((state : KernelState) × KernelStands (⟦<Parts as Standing>⟧.parts self.now) machine state)) ∥₁ }
+        ensures ran { IfOk result (Ran (⟦<Parts as Standing>⟧.parts self.now) (⟦<Parts as Standing>⟧.parts self.now) (event.SnapRead number addr len)) }
     {
         let mut buf = vec![in alloc; 0; len as usize]?;
         match self.snap_read(number, addr, &mut buf) {

@@ -1,8 +1,8 @@
-//! A supply at concrete values.
-use crate::Supply;
+//! A supply, and the kernel as a memory, at concrete values.
+use crate::{Kernel, Supply};
 use frame_pool::{DenyNth, FramePolicy, SnapQuota};
 use std::test::Fail;
-use vm_base::{Allot, Asker, Frame, Refused, Want};
+use vm_base::{Allot, Asker, Fault, Frame, Memory, Perm, Refused, Want, write_at};
 
 // The count of a refusal, where there was one.
 fn refusal(answer: Result<Frame, Refused>) -> Option<u64> {
@@ -61,5 +61,31 @@ fn each_asker_has_its_own_count(rt: HostRuntime) -> Result<(), Fail> {
     supply.give(frame);
     assert_eq!(rt; supply.free(), 1);
     assert_eq!(rt; supply.held(), 0);
+    Ok(())
+}
+
+#[test]
+fn the_kernel_is_a_memory(rt: HostRuntime) -> Result<(), Fail> {
+    let mut kernel = Kernel::new(rt.alloc(), 5, 8, 0, Vec::new(rt.alloc()))?;
+    assert_eq!(rt; kernel.map(0x100, 2, Perm::ReadWrite), Ok(()));
+    assert_eq!(rt; write_at(&mut kernel, 0x10_0000, b"ab"), Ok(()));
+    let mut bytes = [7; 3];
+    assert_eq!(rt; kernel.read(0x10_0000, &mut bytes), Ok(()));
+    assert_eq!(rt; bytes, [97, 98, 0]);
+    assert_eq!(rt; kernel.held(), 5);
+    // The second page would take a sixth frame.
+    let lacks = Fault::NoFrame { at: 1, page: 0x101 };
+    assert_eq!(rt; write_at(&mut kernel, 0x10_1000, b"a"), Err(lacks));
+    assert_eq!(rt;
+        write_at(&mut kernel, 0x30_0000, b"a"),
+        Err(Fault::NoArea(0x300))
+    );
+    assert_eq!(rt; kernel.protect(0x100, 1, Perm::Read), Ok(()));
+    assert_eq!(rt;
+        write_at(&mut kernel, 0x10_0000, b"a"),
+        Err(Fault::NoWrite(0x100))
+    );
+    assert_eq!(rt; kernel.unmap(0x100, 1), Ok(()));
+    assert_eq!(rt; kernel.held(), 0);
     Ok(())
 }

@@ -1,29 +1,33 @@
-//! The calls of the parent: an area mapped, and bytes read and written.
-ghost use Rattle.std.specs.Prelude.{◌≡◌, ◌+◌, ◌<◌, ◌≤◌, ◌^◌, not, length, IfErr, replicate, IfOk, OnErr};
+//! The calls of the parent: an area mapped, and bytes read, touched, stored and written.
+ghost use Rattle.std.specs.Prelude.{◌≡◌, ◌≢◌, ◌+◌, ◌<◌, ◌≤◌, ◌^◌, not, length, IfErr, replicate, IfOk, OnErr};
 ghost use Rattle.vm_base.specs.Places.{page_of, page_count};
-ghost use Rattle.vm_base.specs.FlatStep.{is_writable, outside, unwritable, read_of};
+ghost use Rattle.vm_base.specs.FlatStep.{is_writable, outside, unwritable, read_of, touch_of};
 ghost use Rattle.area_list.specs.Answers.{refusal_of};
+ghost use Rattle.trace_events.specs.declared.outcome.Outcome.TheVariants.{Done};
 ghost use Rattle.trace_core.specs.KernelState.{Machine, KernelState};
-ghost use Rattle.trace_core.specs.EventMeaning.{refusal_outcome, mapped, written};
+ghost use Rattle.trace_core.specs.EventMeaning.{refusal_outcome, mapped, touch_judged, written};
 ghost use Rattle.trace_core.specs.KernelStanding.{KernelStands, EventRan, read_answer};
+ghost use Rattle.trace_core.specs.TouchAnswers.{fault_outcome, touch_outcome, IsReadyKernel, LeavesReady, LacksPage, with_stored};
 
-use crate::kernel::{Kernel, Standing};
+use crate::parts::{Parts, Standing};
 use area_list::{AreaFault, Areas};
 use std::alloc::Global;
 use trace_events::Outcome;
-use vm_base::{NoMemory, Perm};
+use vm_base::{Fault, NoMemory, Perm};
 
 /// Bytes in a page.
 pub(crate) const PAGE_BYTES: u64 = 4096;
 
-impl Kernel {
+impl Parts {
     /// Maps pages as an area, or says why not. No frame is asked for: a page takes its frames when
     /// it is written first.
     pub fn map(&mut self, first: u64, pages: u64, perm: Perm) -> Outcome
         requires some { 0 < pages }
         requires within { first + pages ≤ 2 ^ 36 }
-        ensures ran { (machine : Machine) (state : KernelState) → KernelStands (⟦<Kernel as Standing>⟧.parts self.old) machine state
-            → EventRan (⟦<Kernel as Standing>⟧.parts self.old) (⟦<Kernel as Standing>⟧.parts self.new) machine (λ answers. mapped state answers first pages perm) result }
+        ensures ran { (machine : Machine) (state : KernelState) → KernelStands (⟦<Parts as Standing>⟧.parts self.old) machine state
+            → EventRan (⟦<Parts as Standing>⟧.parts self.old) (⟦<Parts as Standing>⟧.parts self.new) machine (λ answers. mapped state answers first pages perm) result }
+        ensures refused { result ≢ Done → ⟦<Parts as Standing>⟧.parts self.new ≡ ⟦<Parts as Standing>⟧.parts self.old }
+        ensures others { ⟦<Parts as Standing>⟧.parts self.new ≡ record (⟦<Parts as Standing>⟧.parts self.old) { areas = (⟦<Parts as Standing>⟧.parts self.new).areas } }
     {
         match self.areas.map(first, pages, perm) {
             Ok(()) => Outcome::Done,
@@ -36,8 +40,8 @@ impl Kernel {
     pub fn read(&self, addr: u64, buf: &mut [u8]) -> Result<(), NoArea>
         requires some { 0 < length buf.old }
         requires range { addr + length buf.old ≤ 2 ^ 48 }
-        requires stands { (machine : Machine) × ((state : KernelState) × KernelStands (⟦<Kernel as Standing>⟧.parts self.now) machine state) }
-        ensures read { (machine : Machine) (state : KernelState) → KernelStands (⟦<Kernel as Standing>⟧.parts self.now) machine state
+        requires stands { ∥ ((machine : Machine) × ((state : KernelState) × KernelStands (⟦<Parts as Standing>⟧.parts self.now) machine state)) ∥₁ }
+        ensures read { (machine : Machine) (state : KernelState) → KernelStands (⟦<Parts as Standing>⟧.parts self.now) machine state
             → read_of state.world.parent addr (length buf.old) ≡ read_answer result buf.new }
         ensures kept { IfErr result (λ refused. buf.new ≡ buf.old) }
     {
@@ -50,6 +54,64 @@ impl Kernel {
         Ok(())
     }
 
+    /// Makes each page of a range, in bytes, present and ready to be stored to. An absent page
+    /// takes its frames and is of zeros, and one that a snapshot shares is copied. What is refused
+    /// leaves no new page behind.
+    pub fn touch(&mut self, addr: u64, len: u64) -> Result<(), Fault>
+        requires some { 0 < len }
+        requires few { len ≤ 4194304 }
+        requires range { addr + len ≤ 2 ^ 48 }
+        requires stands { ∥ ((machine : Machine) × ((state : KernelState) × KernelStands (⟦<Parts as Standing>⟧.parts self.old) machine state)) ∥₁ }
+        ensures ran { (machine : Machine) (state : KernelState) → KernelStands (⟦<Parts as Standing>⟧.parts self.old) machine state
+            → EventRan (⟦<Parts as Standing>⟧.parts self.old) (⟦<Parts as Standing>⟧.parts self.new) machine
+            (λ answers. touch_judged machine state answers addr len (touch_of state.world.parent addr len)) (touch_outcome result) }
+        ensures ready { (machine : Machine) (state : KernelState) → KernelStands (⟦<Parts as Standing>⟧.parts self.old) machine state
+            → LeavesReady (⟦<Parts as Standing>⟧.parts self.new) machine state.leaves addr len result }
+        ensures page { IfErr result (λ fault. (machine : Machine) (state : KernelState) → KernelStands (⟦<Parts as Standing>⟧.parts self.old) machine state
+            → LacksPage state.world.parent addr len fault) }
+        ensures beside { ((⟦<Parts as Standing>⟧.parts self.new).areas ≡ (⟦<Parts as Standing>⟧.parts self.old).areas)
+            × ((⟦<Parts as Standing>⟧.parts self.new).snapshot ≡ (⟦<Parts as Standing>⟧.parts self.old).snapshot)
+            × ((⟦<Parts as Standing>⟧.parts self.new).last ≡ (⟦<Parts as Standing>⟧.parts self.old).last) }
+    {
+        let first = addr / PAGE_BYTES;
+        let count = page_count(addr, len);
+        if let Some(page) = first_outside(&self.areas, first, count) {
+            return Err(Fault::NoArea(page));
+        }
+        if let Some(page) = first_read_only(&self.areas, first, count) {
+            return Err(Fault::NoWrite(page));
+        }
+        if self.tables.lacks_slots(first, count) {
+            return Err(Fault::CellsFull);
+        }
+        match self
+            .tables
+            .touch(first, count, &mut self.added, &mut self.supply)
+        {
+            Ok(()) => Ok(()),
+            Err(refused) => Err(Fault::NoFrame {
+                at: refused.at,
+                page: refused.page,
+            }),
+        }
+    }
+
+    /// Stores bytes in pages that were touched. It asks for no frame.
+    pub fn store(&mut self, addr: u64, bytes: &[u8])
+        requires range { addr + length bytes.now ≤ 2 ^ 48 }
+        requires ready { ∥ IsReadyKernel (⟦<Parts as Standing>⟧.parts self.old) addr (length bytes.now) ∥₁ }
+        ensures stored { (machine : Machine) (state : KernelState) → KernelStands (⟦<Parts as Standing>⟧.parts self.old) machine state
+            → KernelStands (⟦<Parts as Standing>⟧.parts self.new) machine (with_stored state addr bytes.now) }
+        ensures others { ⟦<Parts as Standing>⟧.parts self.new
+            ≡ record (⟦<Parts as Standing>⟧.parts self.old) { tables = (⟦<Parts as Standing>⟧.parts self.new).tables } }
+    {
+        // A store of no bytes needs no page.
+        if bytes.is_empty() {
+            return;
+        }
+        self.tables.store(addr, bytes);
+    }
+
     /// Touches the range of the bytes, and then stores them. An absent page takes its frames first,
     /// and one that a snapshot shares is copied. What is refused stores nothing, and leaves
     /// no new page behind.
@@ -57,30 +119,16 @@ impl Kernel {
         requires some { 0 < length bytes.now }
         requires few { length bytes.now ≤ 4194304 }
         requires range { addr + length bytes.now ≤ 2 ^ 48 }
-        requires stands { (machine : Machine) × ((state : KernelState) × KernelStands (⟦<Kernel as Standing>⟧.parts self.old) machine state) }
-        ensures ran { (machine : Machine) (state : KernelState) → KernelStands (⟦<Kernel as Standing>⟧.parts self.old) machine state
-            → EventRan (⟦<Kernel as Standing>⟧.parts self.old) (⟦<Kernel as Standing>⟧.parts self.new) machine (λ answers. written machine state answers addr bytes.now) result }
+        requires stands { ∥ ((machine : Machine) × ((state : KernelState) × KernelStands (⟦<Parts as Standing>⟧.parts self.old) machine state)) ∥₁ }
+        ensures ran { (machine : Machine) (state : KernelState) → KernelStands (⟦<Parts as Standing>⟧.parts self.old) machine state
+            → EventRan (⟦<Parts as Standing>⟧.parts self.old) (⟦<Parts as Standing>⟧.parts self.new) machine (λ answers. written machine state answers addr bytes.now) result }
     {
-        let first = addr / PAGE_BYTES;
-        let count = page_count(addr, bytes.len() as u64);
-        if let Some(page) = first_outside(&self.areas, first, count) {
-            return Outcome::NoArea(page);
-        }
-        if let Some(page) = first_read_only(&self.areas, first, count) {
-            return Outcome::NoWrite(page);
-        }
-        if self.tables.lacks_slots(first, count) {
-            return Outcome::CellsFull;
-        }
-        match self
-            .tables
-            .touch(first, count, &mut self.added, &mut self.supply)
-        {
+        match self.touch(addr, bytes.len() as u64) {
             Ok(()) => {
-                self.tables.store(addr, bytes);
+                self.store(addr, bytes);
                 Outcome::Done
             }
-            Err(refused) => Outcome::NoFrame(refused.at),
+            Err(fault) => refused_by(fault),
         }
     }
 
@@ -95,10 +143,10 @@ impl Kernel {
         requires some { 0 < len }
         requires few { len ≤ 4194304 }
         requires range { addr + len ≤ 2 ^ 48 }
-        requires stands { (machine : Machine) × ((state : KernelState) × KernelStands (⟦<Kernel as Standing>⟧.parts self.old) machine state) }
-        ensures ran { IfOk result (λ outcome. (machine : Machine) (state : KernelState) → KernelStands (⟦<Kernel as Standing>⟧.parts self.old) machine state
-            → EventRan (⟦<Kernel as Standing>⟧.parts self.old) (⟦<Kernel as Standing>⟧.parts self.new) machine (λ answers. written machine state answers addr (replicate len byte)) outcome) }
-        ensures kept { OnErr result (⟦<Kernel as Standing>⟧.parts self.new ≡ ⟦<Kernel as Standing>⟧.parts self.old) }
+        requires stands { ∥ ((machine : Machine) × ((state : KernelState) × KernelStands (⟦<Parts as Standing>⟧.parts self.old) machine state)) ∥₁ }
+        ensures ran { IfOk result (λ outcome. (machine : Machine) (state : KernelState) → KernelStands (⟦<Parts as Standing>⟧.parts self.old) machine state
+            → EventRan (⟦<Parts as Standing>⟧.parts self.old) (⟦<Parts as Standing>⟧.parts self.new) machine (λ answers. written machine state answers addr (replicate len byte)) outcome) }
+        ensures kept { OnErr result (⟦<Parts as Standing>⟧.parts self.new ≡ ⟦<Parts as Standing>⟧.parts self.old) }
     {
         let bytes = vec![in alloc; byte; len as usize]?;
         Ok(self.write(addr, &bytes))
@@ -120,6 +168,20 @@ pub(crate) fn outcome_of(fault: AreaFault) -> Outcome
         AreaFault::NoArea(page) => Outcome::NoArea(page),
         AreaFault::Overlap(page) => Outcome::Overlap(page),
         AreaFault::AreasFull => Outcome::AreasFull,
+    }
+}
+
+// What an event answers when a touch is refused.
+fn refused_by(fault: Fault) -> Outcome
+    ensures { result ≡ fault_outcome fault }
+{
+    match fault {
+        Fault::NoArea(page) => Outcome::NoArea(page),
+        Fault::NoWrite(page) => Outcome::NoWrite(page),
+        Fault::NoFrame { at, .. } => Outcome::NoFrame(at),
+        Fault::Overlap(page) => Outcome::Overlap(page),
+        Fault::AreasFull => Outcome::AreasFull,
+        Fault::CellsFull => Outcome::CellsFull,
     }
 }
 

@@ -1,11 +1,15 @@
-use Rattle.std.proofs.Common.{ap}
-use Rattle.trace_core.proofs.Writes.{opening-stands}
-use Rattle.trace_core.proofs.RunSteps.{run-opens}
+use Rattle.trace_core.specs.KernelState.{opening_state}
+use Rattle.trace_core.proofs.Stood.{stands-under}
+use Rattle.trace_core.proofs.SoundEvents.{opening-sound}
 use Rattle.trace_core.proofs.kernel.Kernel.new.Goals as goal
 
-pub returns : goal.returns
-returns g c =
-    let opens = c.in_ok-supply.ensures in
-    let stands = opening-stands c.args.frames c.args.cells c.args.last c.new-3.result c.new-3.ensures c.in_ok-tables.tables _ _
-    opens c.in_ok-tables.ensures.stands c.in_ok-tables.ensures.slots c.in_ok-tables.ensures.held in
-    record { stands = stands; supply = opens; begins = run-opens _ _ c.args.last _ stands (ap (λ s. s.policies) opens) }
+pub invariant_of-result : goal.invariant_of-result
+invariant_of-result g c = record {
+  stood = ∣ (
+    record { frames = c.args.frames; slots = c.args.cells; limit = 1 },
+    (
+      opening_state c.args.last,
+      opening-sound _ _ _ c.args.last (stands-under _ _ _ _ c.in_ok-parts.ensures.stands),
+    ),
+  ) ∣₁;
+}

@@ -1,0 +1,194 @@
+-- What a kernel that is sound answers as a memory where areas change, by the answer of its parts.
+use Rattle.std.proofs.Common.{◌≡◌, ◌≢◌, ℕ, ◌+◌, ◌-◌, ◌^◌, ◌<◌, ◌≤◌, Bool, true, false, cond, [], Option, Some, None, Result, Ok, Err, sym, ◌∙◌, ap, subst}
+use Rattle.std.specs.Prelude.{length, nat_le, OnOk, IfErr}
+use Rattle.std.specs.Coded.{Unit-prop}
+use Rattle.std.proofs.lemmas.Bool.{false≢true}
+use Rattle.std.proofs.Math.Logic.{∥∥₁_elim, ∥∥₁_map}
+use mathlib.Core.HLevel.{⊥_prop}
+use Rattle.vm_base.specs.declared.permission.Perm.{Perm}
+use Rattle.vm_base.specs.declared.faults.Fault.{Fault}
+use Rattle.vm_base.specs.FlatMemory.{FlatMemory}
+use Rattle.vm_base.specs.FlatStep.{Refusal, OutsideAreas, Taken, TooManyAreas, or_refused, at_most_128, taken, outside, map_of, unmap_of, protect_of}
+use Rattle.vm_base.specs.MemoryState.{IsKept}
+use Rattle.vm_base.specs.MemoryCalls.{map_answer, unmap_answer, protect_answer, Refuses, Changes, Maps}
+use Rattle.kernel_meaning.specs.Requests.{Answer, answers_of}
+use Rattle.kernel_meaning.specs.EventRequests.{Progress, pages_unmapped, pages_protected}
+use Rattle.trace_events.specs.declared.outcome.Outcome.{Outcome}
+use Rattle.trace_events.specs.declared.outcome.Outcome.TheVariants.{Done, Bytes, Held, AreaRow, Copied, Nothing, Refused, Lost, NoArea, NoWrite, Overlap, AreasFull, CellsFull, NoFrame, TooMany, NoSnap}
+use Rattle.trace_core.specs.KernelState.{Machine, KernelState}
+use Rattle.trace_core.specs.EventMeaning.{EventEnd, areas_changed, mapped, begun, refusal_outcome}
+use Rattle.trace_core.specs.TouchAnswers.{touch_outcome, fault_outcome}
+use Rattle.trace_core.specs.KernelStanding.{KernelParts, KernelStands, EventRan}
+use Rattle.trace_core.specs.KernelSeen.{KernelNotes, IsKernelNoted, IsAreaAnswer, memory_of}
+use Rattle.trace_core.proofs.ClauseProps.{Maps-prop, Changes-prop, Refuses-prop, known-kept}
+use Rattle.trace_core.proofs.SeenChanges.{IsInBounds, is_done, fault-undone, map-maps, map-refuses, map-kept, map-sound, unmap-changes, unmap-refuses, unmap-kept, unmap-sound, protect-changes, protect-refuses, protect-kept, protect-sound}
+
+-- ---- a change of areas answers no other way
+
+IsAreaAnswer-prop : (outcome : Outcome) → IsProp (IsAreaAnswer outcome)
+IsAreaAnswer-prop Done = Unit-prop
+IsAreaAnswer-prop (Bytes bytes) = ⊥_prop
+IsAreaAnswer-prop (Held held free) = ⊥_prop
+IsAreaAnswer-prop (AreaRow row) = ⊥_prop
+IsAreaAnswer-prop Copied = ⊥_prop
+IsAreaAnswer-prop Nothing = ⊥_prop
+IsAreaAnswer-prop (Refused at) = ⊥_prop
+IsAreaAnswer-prop (Lost at) = ⊥_prop
+IsAreaAnswer-prop (NoArea page) = Unit-prop
+IsAreaAnswer-prop (NoWrite page) = ⊥_prop
+IsAreaAnswer-prop (Overlap page) = Unit-prop
+IsAreaAnswer-prop AreasFull = Unit-prop
+IsAreaAnswer-prop CellsFull = ⊥_prop
+IsAreaAnswer-prop (NoFrame at) = ⊥_prop
+IsAreaAnswer-prop TooMany = ⊥_prop
+IsAreaAnswer-prop NoSnap = ⊥_prop
+
+-- a change that is refused, if at all, as a change of areas may be
+abbrev ChangesAreas : Result FlatMemory Refusal → Type 0
+ChangesAreas (Ok memory) = Unit {0}
+ChangesAreas (Err refusal) = IsAreaAnswer (refusal_outcome refusal)
+
+few-change : (memory : FlatMemory) → ChangesAreas (at_most_128 memory)
+few-change memory = by (nat_le (length memory.areas) 128)
+  where
+    by : (few : Bool) → ChangesAreas (cond few (Ok memory) (Err TooManyAreas))
+    by true = tt
+    by false = tt
+
+refused-change : (why : ℕ → Refusal) (found : Option ℕ) (change : Result FlatMemory Refusal) → ((page : ℕ) → IsAreaAnswer (refusal_outcome (why page)))
+    → ChangesAreas change → ChangesAreas (or_refused why found change)
+refused-change why None change told changes = changes
+refused-change why (Some page) change told changes = told page
+
+change-answers : (state : KernelState) (change : Result FlatMemory Refusal) (progress : Progress) (end : EventEnd) → areas_changed state change progress ≡ end → ChangesAreas change
+    → IsAreaAnswer end.outcome
+change-answers state (Ok memory) progress end ends changes = subst (λ e. IsAreaAnswer e.outcome) ends tt
+change-answers state (Err refusal) progress end ends changes = subst (λ e. IsAreaAnswer e.outcome) ends changes
+
+-- a fault is told otherwise than what was done
+undone : (fault : Fault) → fault_outcome fault ≢ Done
+undone fault done = false≢true (sym (fault-undone fault) ∙ ap is_done done)
+
+-- ---- the count of refused requests
+
+-- the parts have refused so many requests, whatever state they stand for
+abbrev Counts : KernelParts → ℕ → Type 0
+Counts parts count = (machine : Machine) (state : KernelState) → KernelStands parts machine state → count ≡ state.world.refused
+
+bounds : (parts : KernelParts) (machine : Machine) (state : KernelState) → KernelStands parts machine state → parts.supply.out ≤ parts.supply.made → (count : ℕ) → count ≤ 2 ^ 64 - 1 → Counts parts count
+    → IsInBounds parts.supply
+bounds parts machine state stands lent count fits counts = (lent, subst (λ k. k ≤ 2 ^ 64 - 1) (counts machine state stands ∙ sym stands.supply.refused) fits)
+
+-- ---- mapping
+
+-- they mapped from whatever state they stood for
+abbrev HasMapped : KernelParts → KernelParts → ℕ → ℕ → Perm → Outcome → Type 0
+HasMapped old new first n perm outcome = (machine : Machine) (state : KernelState) → KernelStands old machine state
+    → EventRan old new machine (λ answers. mapped state answers first n perm) outcome
+
+module _ (old new : KernelParts) (notes : KernelNotes) (first n : ℕ) (perm : Perm) (known : ∥ IsKernelNoted old notes ∥₁) where
+  pub map-answers : (outcome : Outcome) → HasMapped old new first n perm outcome → IsAreaAnswer outcome
+  map-answers outcome ran = ∥∥₁_elim known (IsAreaAnswer-prop outcome) (λ it.
+      let state : KernelState = it.1.0 in
+      let behind : EventRan old new it.0 (λ answers. mapped state answers first n perm) outcome = ran it.0 state it.1.1.stands in
+      change-answers state (map_of state.world.parent first n perm) (begun state (answers_of behind.deals)) _ behind.ends
+      (refused-change Taken (taken state.world.parent.areas first n) _ (λ page. tt) (few-change _)))
+
+  pub map-known : (outcome : Outcome) → 0 < n → first + n ≤ 2 ^ 36 → HasMapped old new first n perm outcome → ∥ IsKernelNoted new notes ∥₁
+  map-known outcome some within ran = ∥∥₁_map known (λ it.
+      let behind = ran it.0 it.1.0 it.1.1.stands in
+      (it.0, (behind.after, map-sound old new notes it.0 it.1.0 it.1.1 first n perm outcome some within behind)))
+
+  pub map-granted : (result : Result (Unit {0}) Fault) (outcome : Outcome) → touch_outcome result ≡ outcome → 0 < n → HasMapped old new first n perm outcome → new ≡ record old { areas = new.areas }
+      → OnOk result (Maps (memory_of old notes.most) (memory_of new notes.most) (map_answer (memory_of old notes.most) first n perm))
+  map-granted (Ok done) outcome told some ran others = ∥∥₁_elim known (Maps-prop (memory_of old notes.most) (memory_of new notes.most) (map_answer (memory_of old notes.most) first n perm)) (λ it.
+      map-maps old new notes it.0 it.1.0 it.1.1 notes.most first n perm some
+      (subst (λ o. HasMapped old new first n perm o) (sym told) ran it.0 it.1.0 it.1.1.stands) others)
+  map-granted (Err fault) outcome told some ran others = tt
+
+  pub map-refused : (result : Result (Unit {0}) Fault) (outcome : Outcome) → touch_outcome result ≡ outcome → HasMapped old new first n perm outcome → (outcome ≢ Done → new ≡ old)
+      → IfErr result (Refuses (memory_of old notes.most) (memory_of new notes.most) (map_answer (memory_of old notes.most) first n perm))
+  map-refused (Ok done) outcome told ran kept = tt
+  map-refused (Err fault) outcome told ran kept = ∥∥₁_elim known (Refuses-prop (memory_of old notes.most) (memory_of new notes.most) (map_answer (memory_of old notes.most) first n perm) fault) (λ it.
+      map-refuses old new it.0 it.1.0 it.1.1.stands notes.most first n perm fault
+      (subst (λ o. HasMapped old new first n perm o) (sym told) ran it.0 it.1.0 it.1.1.stands) (kept (λ done. undone fault (told ∙ done))))
+
+  pub map-keeps : (outcome : Outcome) → HasMapped old new first n perm outcome → old.supply.out ≤ old.supply.made → (count : ℕ) → count ≤ 2 ^ 64 - 1 → Counts old count → 0 < n → first + n ≤ 2 ^ 36 → IsKept (memory_of old notes.most) (memory_of new notes.most) []
+  map-keeps outcome ran lent count fits counts some within = known-kept (memory_of old notes.most) (memory_of new notes.most) [] known (λ it.
+      map-kept old new notes it.0 it.1.0 it.1.1 (bounds old it.0 it.1.0 it.1.1.stands lent count fits counts) first n perm outcome some within (ran it.0 it.1.0 it.1.1.stands))
+
+-- ---- unmapping
+
+-- they unmapped from whatever state they stood for
+abbrev HasUnmapped : KernelParts → KernelParts → ℕ → ℕ → Outcome → Type 0
+HasUnmapped old new first n outcome = (machine : Machine) (state : KernelState) → KernelStands old machine state
+    → EventRan old new machine (λ answers. areas_changed state (unmap_of state.world.parent first n) (pages_unmapped first n (begun state answers))) outcome
+
+module _ (old new : KernelParts) (notes : KernelNotes) (first n : ℕ) (known : ∥ IsKernelNoted old notes ∥₁) where
+  pub unmap-answers : (outcome : Outcome) → HasUnmapped old new first n outcome → IsAreaAnswer outcome
+  unmap-answers outcome ran = ∥∥₁_elim known (IsAreaAnswer-prop outcome) (λ it.
+      let state : KernelState = it.1.0 in
+      let behind : EventRan old new it.0 (λ answers. areas_changed state (unmap_of state.world.parent first n) (pages_unmapped first n (begun state answers))) outcome = ran it.0 state it.1.1.stands in
+      change-answers state (unmap_of state.world.parent first n) (pages_unmapped first n (begun state (answers_of behind.deals))) _ behind.ends
+      (few-change _))
+
+  pub unmap-known : (outcome : Outcome) → 0 < n → first + n ≤ 2 ^ 36 → HasUnmapped old new first n outcome → ∥ IsKernelNoted new notes ∥₁
+  unmap-known outcome some within ran = ∥∥₁_map known (λ it.
+      let behind = ran it.0 it.1.0 it.1.1.stands in
+      (it.0, (behind.after, unmap-sound old new notes it.0 it.1.0 it.1.1 first n outcome some within behind)))
+
+  pub unmap-granted : (result : Result (Unit {0}) Fault) (outcome : Outcome) → touch_outcome result ≡ outcome → HasUnmapped old new first n outcome
+      → OnOk result (Changes (memory_of old notes.most) (memory_of new notes.most) (unmap_answer (memory_of old notes.most) first n))
+  unmap-granted (Ok done) outcome told ran = ∥∥₁_elim known (Changes-prop (memory_of old notes.most) (memory_of new notes.most) (unmap_answer (memory_of old notes.most) first n)) (λ it.
+      unmap-changes old new it.0 it.1.0 it.1.1.stands notes.most first n
+      (subst (λ o. HasUnmapped old new first n o) (sym told) ran it.0 it.1.0 it.1.1.stands))
+  unmap-granted (Err fault) outcome told ran = tt
+
+  pub unmap-refused : (result : Result (Unit {0}) Fault) (outcome : Outcome) → touch_outcome result ≡ outcome → HasUnmapped old new first n outcome → (outcome ≢ Done → new ≡ old)
+      → IfErr result (Refuses (memory_of old notes.most) (memory_of new notes.most) (unmap_answer (memory_of old notes.most) first n))
+  unmap-refused (Ok done) outcome told ran kept = tt
+  unmap-refused (Err fault) outcome told ran kept = ∥∥₁_elim known (Refuses-prop (memory_of old notes.most) (memory_of new notes.most) (unmap_answer (memory_of old notes.most) first n) fault) (λ it.
+      unmap-refuses old new it.0 it.1.0 it.1.1.stands notes.most first n fault
+      (subst (λ o. HasUnmapped old new first n o) (sym told) ran it.0 it.1.0 it.1.1.stands) (kept (λ done. undone fault (told ∙ done))))
+
+  pub unmap-keeps : (outcome : Outcome) → HasUnmapped old new first n outcome → old.supply.out ≤ old.supply.made → (count : ℕ) → count ≤ 2 ^ 64 - 1 → Counts old count → 0 < n → first + n ≤ 2 ^ 36 → IsKept (memory_of old notes.most) (memory_of new notes.most) []
+  unmap-keeps outcome ran lent count fits counts some within = known-kept (memory_of old notes.most) (memory_of new notes.most) [] known (λ it.
+      unmap-kept old new notes it.0 it.1.0 it.1.1 (bounds old it.0 it.1.0 it.1.1.stands lent count fits counts) first n outcome some within (ran it.0 it.1.0 it.1.1.stands))
+
+-- ---- protecting
+
+-- they protected from whatever state they stood for
+abbrev HasProtected : KernelParts → KernelParts → ℕ → ℕ → Perm → Outcome → Type 0
+HasProtected old new first n perm outcome = (machine : Machine) (state : KernelState) → KernelStands old machine state
+    → EventRan old new machine (λ answers. areas_changed state (protect_of state.world.parent first n perm) (pages_protected first n (begun state answers))) outcome
+
+module _ (old new : KernelParts) (notes : KernelNotes) (first n : ℕ) (perm : Perm) (known : ∥ IsKernelNoted old notes ∥₁) where
+  pub protect-answers : (outcome : Outcome) → HasProtected old new first n perm outcome → IsAreaAnswer outcome
+  protect-answers outcome ran = ∥∥₁_elim known (IsAreaAnswer-prop outcome) (λ it.
+      let state : KernelState = it.1.0 in
+      let behind : EventRan old new it.0 (λ answers. areas_changed state (protect_of state.world.parent first n perm) (pages_protected first n (begun state answers))) outcome = ran it.0 state it.1.1.stands in
+      change-answers state (protect_of state.world.parent first n perm) (pages_protected first n (begun state (answers_of behind.deals))) _ behind.ends
+      (refused-change OutsideAreas (outside state.world.parent.areas first n) _ (λ page. tt) (few-change _)))
+
+  pub protect-known : (outcome : Outcome) → 0 < n → first + n ≤ 2 ^ 36 → HasProtected old new first n perm outcome → ∥ IsKernelNoted new notes ∥₁
+  protect-known outcome some within ran = ∥∥₁_map known (λ it.
+      let behind = ran it.0 it.1.0 it.1.1.stands in
+      (it.0, (behind.after, protect-sound old new notes it.0 it.1.0 it.1.1 first n perm outcome some within behind)))
+
+  pub protect-granted : (result : Result (Unit {0}) Fault) (outcome : Outcome) → touch_outcome result ≡ outcome → HasProtected old new first n perm outcome
+      → OnOk result (Changes (memory_of old notes.most) (memory_of new notes.most) (protect_answer (memory_of old notes.most) first n perm))
+  protect-granted (Ok done) outcome told ran = ∥∥₁_elim known (Changes-prop (memory_of old notes.most) (memory_of new notes.most) (protect_answer (memory_of old notes.most) first n perm)) (λ it.
+      protect-changes old new it.0 it.1.0 it.1.1.stands notes.most first n perm
+      (subst (λ o. HasProtected old new first n perm o) (sym told) ran it.0 it.1.0 it.1.1.stands))
+  protect-granted (Err fault) outcome told ran = tt
+
+  pub protect-refused : (result : Result (Unit {0}) Fault) (outcome : Outcome) → touch_outcome result ≡ outcome → HasProtected old new first n perm outcome → (outcome ≢ Done → new ≡ old)
+      → IfErr result (Refuses (memory_of old notes.most) (memory_of new notes.most) (protect_answer (memory_of old notes.most) first n perm))
+  protect-refused (Ok done) outcome told ran kept = tt
+  protect-refused (Err fault) outcome told ran kept = ∥∥₁_elim known (Refuses-prop (memory_of old notes.most) (memory_of new notes.most) (protect_answer (memory_of old notes.most) first n perm) fault) (λ it.
+      protect-refuses old new it.0 it.1.0 it.1.1.stands notes.most first n perm fault
+      (subst (λ o. HasProtected old new first n perm o) (sym told) ran it.0 it.1.0 it.1.1.stands) (kept (λ done. undone fault (told ∙ done))))
+
+  pub protect-keeps : (outcome : Outcome) → HasProtected old new first n perm outcome → old.supply.out ≤ old.supply.made → (count : ℕ) → count ≤ 2 ^ 64 - 1 → Counts old count → 0 < n → first + n ≤ 2 ^ 36 → IsKept (memory_of old notes.most) (memory_of new notes.most) []
+  protect-keeps outcome ran lent count fits counts some within = known-kept (memory_of old notes.most) (memory_of new notes.most) [] known (λ it.
+      protect-kept old new notes it.0 it.1.0 it.1.1 (bounds old it.0 it.1.0 it.1.1.stands lent count fits counts) first n perm outcome some within (ran it.0 it.1.0 it.1.1.stands))

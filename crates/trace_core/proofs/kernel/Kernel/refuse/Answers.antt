@@ -1,5 +1,0 @@
-use Rattle.trace_core.proofs.RunSteps.{refuse-ran}
-use Rattle.trace_core.proofs.kernel.Kernel.refuse.Goals as goal
-
-pub returns : goal.returns
-returns g c = record { ran = refuse-ran _ _ c.args.nth c.requires.some c.refuse.ensures }

@@ -1,0 +1,12 @@
+use Rattle.std.proofs.Common.{refl, sym, ◌∙◌, ap}
+use Rattle.trace_events.specs.declared.event.Event.TheVariants.{ListAreas}
+use Rattle.trace_events.specs.declared.outcome.Outcome.TheVariants.{AreaRow}
+use Rattle.trace_core.specs.EventMeaning.{only_answers}
+use Rattle.trace_core.proofs.RunSteps.{told-follows}
+use Rattle.trace_core.proofs.parts.Parts.list_areas.Goals as goal
+
+pub returns-in-Ok : goal.returns-in-Ok
+returns-in-Ok g c = record {
+  ran = λ machine state st. told-follows _ machine state ListAreas _ refl refl st
+      (λ answers. ap (λ areas. only_answers state (AreaRow areas)) (st.areas ∙ sym (c.in-Ok.ensures ∙ c.list.ensures.areas)));
+}

@@ -1,0 +1,25 @@
+use Rattle.std.proofs.Common.{sym, subst}
+use Rattle.trace_core.specs.KernelStanding.{EventRan}
+use Rattle.std.proofs.Math.Logic.{∥∥₁_map}
+use Rattle.trace_core.proofs.Stores.{ran-stored, ran-unstored}
+use Rattle.trace_core.proofs.parts.Parts.write.Goals as goal
+
+-- src/writing.rt:122:17
+pub store-requires-clause-ready : goal.store-requires-clause-ready
+store-requires-clause-ready g c = ∥∥₁_map c.requires.stands (λ it.
+    let leaves = c.in-Ok.ensures.ready it.0 it.1.0 it.1.1 in (it.0, (leaves.after, (leaves.stands, leaves.ready))))
+
+-- src/writing.rt:112:5
+pub returns-in-Ok : goal.returns-in-Ok
+returns-in-Ok g c = record {
+  ran = λ machine state st.
+      let ran = c.in-Ok.ensures.ran machine state st in
+      ran-stored _ _ machine state c.args.addr c.args.bytes.now _ c.store.ensures.others ran (c.store.ensures.stored machine ran.after ran.stands);
+}
+
+-- src/writing.rt:112:5
+pub returns-in-Err : goal.returns-in-Err
+returns-in-Err g c = record {
+  ran = λ machine state st. subst (EventRan _ _ machine _) (sym c.refused_by.ensures)
+      (ran-unstored _ _ machine state c.args.addr c.args.bytes.now c.in-Err.fault (c.in-Err.ensures.ran machine state st));
+}

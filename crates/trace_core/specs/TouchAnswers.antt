@@ -1,0 +1,57 @@
+-- What a touch of the parent answers and leaves, and what a store leaves.
+use Rattle.std.specs.Prelude.{◌≡◌, ℕ, List, None, Result, Ok, Err, OnOk}
+use Rattle.std.specs.FinMap.{get}
+use Rattle.vm_base.specs.declared.faults.Fault.{Fault}
+use Rattle.vm_base.specs.declared.faults.Fault.TheVariants as fault
+use Rattle.vm_base.specs.FlatMemory.{FlatMemory}
+use Rattle.vm_base.specs.FlatStep.{with_bytes}
+use Rattle.vm_base.specs.MemoryCalls.{IsInRange}
+use Rattle.kernel_meaning.specs.FrameLaw.{Leaves}
+use Rattle.page_tables.specs.Accesses.{IsReady}
+use Rattle.trace_events.specs.declared.outcome.Outcome.{Outcome}
+use Rattle.trace_events.specs.declared.outcome.Outcome.TheVariants.{Done, NoArea, NoWrite, Overlap, AreasFull, CellsFull, NoFrame}
+use Rattle.trace_core.specs.KernelState.{Machine, KernelState}
+use Rattle.trace_core.specs.KernelStanding.{KernelParts, KernelStands}
+
+-- what an event answers where this fault refuses it
+abbrev pub fault_outcome : Fault → Outcome
+fault_outcome (fault.NoArea page) = NoArea page
+fault_outcome (fault.NoWrite page) = NoWrite page
+fault_outcome (fault.NoFrame at page) = NoFrame at
+fault_outcome (fault.Overlap page) = Overlap page
+fault_outcome fault.AreasFull = AreasFull
+fault_outcome fault.CellsFull = CellsFull
+
+-- what an event answers that is a touch alone
+abbrev pub touch_outcome : Result (Unit {0}) Fault → Outcome
+touch_outcome (Ok done) = Done
+touch_outcome (Err refused) = fault_outcome refused
+
+-- each page of a range of bytes may be stored to
+abbrev pub AreReady : Leaves → ℕ → ℕ → Type 0
+AreReady leaves address n = (page : ℕ) → IsInRange page address n → IsReady leaves page
+
+-- the parts stand for the state of a run in which each page of a range of bytes may be stored to
+abbrev pub IsReadyKernel : KernelParts → ℕ → ℕ → Type 0
+IsReadyKernel parts address n =
+    (machine : Machine) × ((state : KernelState) × (KernelStands parts machine state × AreReady state.leaves address n))
+
+-- a touch of a range left such parts where it was granted, and each page that might be stored to before still may
+pub record LeavesReady (new : KernelParts) (machine : Machine) (before : Leaves) (address n : ℕ) (result : Result (Unit {0}) Fault) : Type 0 where
+  pub after : KernelState
+  pub stands : KernelStands new machine after
+  pub ready : OnOk result (AreReady after.leaves address n)
+  pub still : (page : ℕ) → IsReady before page → IsReady after.leaves page
+
+-- a page that lacks a frame is one of the range, and was absent
+abbrev pub LacksPage : FlatMemory → ℕ → ℕ → Fault → Type 0
+LacksPage memory address n (fault.NoFrame at page) = IsInRange page address n × (get memory.present page ≡ None)
+LacksPage memory address n other = Unit {0}
+
+-- the state with bytes stored in the parent's pages
+abbrev pub with_stored : KernelState → ℕ → List ℕ → KernelState
+with_stored state address bytes = record state {
+  world = record state.world {
+    parent = record state.world.parent { present = with_bytes state.world.parent.present address bytes };
+  };
+}
