@@ -1,0 +1,3 @@
+pub mod SeenForks
+pub mod KeptForks
+pub mod SeenNests
