@@ -10,8 +10,8 @@ use Rattle.trace_events.specs.declared.event.Event.{Event}
 use Rattle.trace_events.specs.declared.outcome.Outcome.{Outcome}
 use Rattle.trace_text.specs.ScriptGrammar.{ScriptParts}
 use Rattle.trace_text.specs.PrintedLines.{outcome_line}
-use Rattle.trace_core.specs.KernelState.{Machine, KernelState, opening_state}
-use Rattle.trace_core.specs.KernelStanding.{KernelParts, KernelStands}
+use Rattle.trace_core.specs.KernelState.{Machine, opening_state}
+use Rattle.trace_core.specs.KernelStanding.{KernelParts}
 use Rattle.trace_core.specs.KernelRun.{HasRun}
 use Rattle.trace_core.specs.RunMeaning.{IsRun, numbers_refused}
 use Rattle.server_top.specs.RunPromise.{WroteLines, WroteSomeLines, machine_of, outcome_lines}
@@ -84,14 +84,6 @@ gone_renamed from now machine events old new other waiting same now_is waiting_i
   run = gone.run;
   writing = writing_renamed old new other waiting same [] (outcome_lines gone.outcomes) now_is waiting_is gone.writing;
 }
-
--- the kernel stands
-pub gone_stands : (from now : KernelParts) (machine : Machine) (events : List Event) (old new : Option (List ℕ)) (waiting : List ℕ)
-    → ((policies : PolicySum) × HasRun from machine 0 policies [] []) → HasGoneOn from now machine events old new waiting
-    → (machine' : Machine) × ((state : KernelState) × KernelStands now machine' state)
-gone_stands from now machine events old new waiting begun gone =
-    let has : HasRun now machine 0 begun.0 events gone.outcomes = gone.run begun.0 begun.1 in
-    (machine, (has.state, has.stands))
 
 -- what was run is a run
 pub run_of : (now : KernelParts) (machine : Machine) (policies : PolicySum) (events : List Event) (outcomes : List Outcome)

@@ -9,8 +9,7 @@ ghost use Rattle.trace_events.specs.declared.outcome.Outcome.{Outcome};
 ghost use Rattle.trace_events.specs.EventBounds.{IsWithinBounds};
 ghost use Rattle.trace_text.specs.PrintedLines.{outcome_line};
 ghost use Rattle.trace_text.specs.SoFar.{parts_of};
-ghost use Rattle.trace_core.specs.KernelState.{Machine, KernelState};
-ghost use Rattle.trace_core.specs.KernelStanding.{KernelStands};
+ghost use Rattle.trace_core.specs.KernelState.{Machine};
 ghost use Rattle.trace_core.specs.KernelRun.{HasRun};
 ghost use Rattle.trace_core.specs.SupplyState.{policy_sum};
 ghost use Rattle.server_top.specs.RunPromise.{WroteLines, WroteSomeLines, machine_of};
@@ -68,8 +67,6 @@ fn run_events<O: Sink>(
     output: &mut O,
 ) -> Result<(), RunError>
     requires bounds { All IsWithinBounds (parts_of script.now).events }
-    requires begun { (policies : PolicySum)
-        × HasRun (⟦<Kernel as Standing>⟧.parts kernel.old) (machine_of (parts_of script.now)) 0 policies [] [] }
     ensures ok { OnOk result ((policies : PolicySum)
         → HasRun (⟦<Kernel as Standing>⟧.parts kernel.old) (machine_of (parts_of script.now)) 0 policies [] []
         → WroteLines (parts_of script.now) policies (O.written output.old) (O.written output.new)) }
@@ -98,7 +95,6 @@ fn push_line(
     lines: &mut Bytes,
 ) -> Result<(), RunError>
     requires within { IsWithinBounds event.now }
-    requires stands { (machine : Machine) × ((state : KernelState) × KernelStands (⟦<Kernel as Standing>⟧.parts kernel.old) machine state) }
 
     // A run goes on by the event and its outcome, whose line was appended.
     ensures ran { OnOk result ((outcome : Outcome) × ((lines.new ≡ lines.old ++ outcome_line outcome)

@@ -4,8 +4,6 @@ ghost use Rattle.std.specs.Prelude.{◌≡◌, ◌≤◌, length, IfOk, OnOk};
 ghost use Rattle.vm_base.specs.TwoSides.{World};
 ghost use Rattle.trace_events.specs.EventBounds.{IsWithinBounds};
 ghost use Rattle.plain_kernel.specs.KernelStep.{IsServed, world_after};
-ghost use Rattle.trace_core.specs.KernelState.{Machine, KernelState};
-ghost use Rattle.trace_core.specs.KernelStanding.{KernelStands};
 
 use plain_kernel::{
     Event as PlainEvent, Kernel as PlainKernel, MOST_FRAMES, Outcome as PlainOutcome,
@@ -48,8 +46,6 @@ fn outcome_of(outcome: PlainOutcome) -> Outcome {
 /// The line that the kernel on frames prints for the event.
 fn framed_line(alloc: Global, framed: &mut Kernel, event: &Event) -> Result<Bytes, NoMemory>
     requires within { IsWithinBounds event.now }
-    requires stands { (machine : Machine) × ((state : KernelState) × KernelStands (⟦<Kernel as Standing>⟧.parts framed.old) machine state) }
-    ensures stands { OnOk result ((machine : Machine) × ((state : KernelState) × KernelStands (⟦<Kernel as Standing>⟧.parts framed.new) machine state)) }
 {
     let outcome = framed.step(alloc, event)?;
     let mut line = Bytes::new(alloc);
@@ -77,9 +73,7 @@ fn is_answered_alike(
     event: &Event,
 ) -> Result<bool, NoMemory>
     requires served { IsServed plain.old plain_event.now }
-    requires stands { (machine : Machine) × ((state : KernelState) × KernelStands (⟦<Kernel as Standing>⟧.parts framed.old) machine state) }
     ensures world { OnOk result (plain.new ≡ world_after plain.old plain_event.now) }
-    ensures stands { OnOk result ((machine : Machine) × ((state : KernelState) × KernelStands (⟦<Kernel as Standing>⟧.parts framed.new) machine state)) }
 {
     let plain_line = plain_line(alloc, plain, plain_event)?;
     if !event.is_within_bounds() {
@@ -135,9 +129,7 @@ fn are_answered_alike(
     framed: &mut Kernel,
     seed: u64,
 ) -> Result<bool, NoMemory>
-    requires stands { (machine : Machine) × ((state : KernelState) × KernelStands (⟦<Kernel as Standing>⟧.parts framed.old) machine state) }
     ensures kept { OnOk result ((plain.new.snapshots ≡ plain.old.snapshots) × (plain.new.last ≡ plain.old.last)) }
-    ensures stands { OnOk result ((machine : Machine) × ((state : KernelState) × KernelStands (⟦<Kernel as Standing>⟧.parts framed.new) machine state)) }
 {
     let mut seed = seed;
     let mut alike = true;

@@ -4,7 +4,7 @@ use Rattle.std.proofs.lemmas.List.{take_all}
 use Rattle.trace_text.specs.SoFar.{parts_of}
 use Rattle.server_top.specs.RunPromise.{machine_of}
 use Rattle.server_top.proofs.Written.{on_err, on_err_then, on_ok_then}
-use Rattle.server_top.proofs.Lines.{gone_nowhere, gone_further, gone_stands, gone_written, gone_renamed, lines_in_front, lines_in_part, all_lines}
+use Rattle.server_top.proofs.Lines.{gone_nowhere, gone_further, gone_written, gone_renamed, lines_in_front, lines_in_part, all_lines}
 use Rattle.server_top.proofs.run.run_events.Goals as goal
 use Rattle.server_top.proofs.run.run_events.Goals.{then-as_slice-ge-PIECE+in_ok-write_lines, else-as_slice-ge-PIECE}
 
@@ -13,9 +13,6 @@ loop-place-init g c = record {
   gone = gone_renamed _ _ _ _ _ _ _ [] _ refl c.new-lines.ensures (gone_nowhere _ _ _);
   faults = omega arith;
 }
-
-pub push_line-requires-clause-stands : goal.push_line-requires-clause-stands
-push_line-requires-clause-stands g c = gone_stands _ _ _ _ _ _ _ c.requires.begun c.loop-place.invariant.gone
 
 pub returns-in_err-push_line-clause-err : goal.returns-in_err-push_line-clause-err
 returns-in_err-push_line-clause-err g c =

@@ -10,28 +10,28 @@ abbrev pub invariant-loop-place : goal.invariant-loop-place
 invariant-loop-place g l = record {
   gone : HasGoneOn
       (record {
-        areas = l.fn.kernel.areas;
-        tables = l.fn.kernel.tables;
+        areas = l.fn.kernel.parts.areas;
+        tables = l.fn.kernel.parts.tables;
         supply = state_of (record {
-          made = l.fn.kernel.supply.pool.stack.made;
-          free = l.fn.kernel.supply.pool.stack.free;
-          asks = l.fn.kernel.supply.pool.asks;
-          policies = map (λ b. (goal.FramePolicy-dyn g (b.vtable, b.value)).told b.value) l.fn.kernel.supply.pool.policies.items;
-        }) l.fn.kernel.supply.asker l.fn.kernel.supply.refused l.fn.kernel.supply.pending;
-        snapshot = l.fn.kernel.snapshot;
-        last = l.fn.kernel.last;
+          made = l.fn.kernel.parts.supply.pool.stack.made;
+          free = l.fn.kernel.parts.supply.pool.stack.free;
+          asks = l.fn.kernel.parts.supply.pool.asks;
+          policies = map (λ b. (goal.FramePolicy-dyn g (b.vtable, b.value)).told b.value) l.fn.kernel.parts.supply.pool.policies.items;
+        }) l.fn.kernel.parts.supply.asker l.fn.kernel.parts.supply.refused l.fn.kernel.parts.supply.pending;
+        snapshot = l.fn.kernel.parts.snapshot;
+        last = l.fn.kernel.parts.last;
       })
       (record {
-        areas = l.kernel.areas;
-        tables = l.kernel.tables;
+        areas = l.kernel.parts.areas;
+        tables = l.kernel.parts.tables;
         supply = state_of (record {
-          made = l.kernel.supply.pool.stack.made;
-          free = l.kernel.supply.pool.stack.free;
-          asks = l.kernel.supply.pool.asks;
-          policies = map (λ b. (goal.FramePolicy-dyn g (b.vtable, b.value)).told b.value) l.kernel.supply.pool.policies.items;
-        }) l.kernel.supply.asker l.kernel.supply.refused l.kernel.supply.pending;
-        snapshot = l.kernel.snapshot;
-        last = l.kernel.last;
+          made = l.kernel.parts.supply.pool.stack.made;
+          free = l.kernel.parts.supply.pool.stack.free;
+          asks = l.kernel.parts.supply.pool.asks;
+          policies = map (λ b. (goal.FramePolicy-dyn g (b.vtable, b.value)).told b.value) l.kernel.parts.supply.pool.policies.items;
+        }) l.kernel.parts.supply.asker l.kernel.parts.supply.refused l.kernel.parts.supply.pending;
+        snapshot = l.kernel.parts.snapshot;
+        last = l.kernel.parts.last;
       })
       (machine_of (parts_of l.script)) (take l.place (parts_of l.script).events) (g.O.Sink.written l.fn.output) (g.O.Sink.written l.output) l.lines;
   faults : g.O.Sink.faults l.fn.output ≤ g.O.Sink.faults l.output;

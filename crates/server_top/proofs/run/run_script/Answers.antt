@@ -9,10 +9,6 @@ use Rattle.server_top.proofs.run.run_script.Goals as goal
 pub returns-in-Err-clause-err : goal.returns-in-Err-clause-err
 returns-in-Err-clause-err g c = no_lines _ _ _
 
-pub run_events-requires-clause-begun : goal.run_events-requires-clause-begun
-run_events-requires-clause-begun g c =
-    let begun = begun_on _ (parts_of c.args.script.now) _ _ _ _ c.frames.ensures c.cells.ensures refl c.in-Ok.ensures.begins in (_, begun)
-
 pub returns-clause-ok : goal.returns-clause-ok
 returns-clause-ok g c =
     let begun = begun_on _ (parts_of c.args.script.now) _ _ _ _ c.frames.ensures c.cells.ensures refl c.in-Ok.ensures.begins in

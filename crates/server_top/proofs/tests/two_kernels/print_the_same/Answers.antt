@@ -1,14 +1,11 @@
--- The kernel on frames has begun, and no fork was made before the one that comes.
+-- No fork was made before the one that comes.
 use Rattle.std.proofs.Common.{refl}
 use Rattle.vm_base.specs.declared.permission.Perm.TheVariants.{ReadWrite}
 use Rattle.server_top.proofs.PlainForks.{forks_behind}
 use Rattle.server_top.proofs.tests.two_kernels.print_the_same.Goals as goal
 
-pub is_answered_alike-requires-clause-stands : goal.is_answered_alike-requires-clause-stands
-is_answered_alike-requires-clause-stands c = (_, (_, c.in_ok-framed.ensures.stands))
-
-pub is_answered_alike-requires-2-clause-served : goal.is_answered_alike-requires-2-clause-served
-is_answered_alike-requires-2-clause-served c =
+pub is_answered_alike-requires-2 : goal.is_answered_alike-requires-2
+is_answered_alike-requires-2 c =
     let free = forks_behind c.in_ok-plain.plain c.is_answered_alike.new.plain c.are_answered_alike.new.plain 0 8 ReadWrite
     c.in_ok-plain.ensures c.in_ok-mapped.ensures.world c.in_ok-before.ensures.kept in
-    (refl, free.0, free.1)
+    record { served = (refl, free.0, free.1) }
