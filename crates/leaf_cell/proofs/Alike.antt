@@ -42,19 +42,20 @@ live-alike name view meant page version alike (inr named) = inr (named-alike nam
 same_some : (x y : ℕ) → ◌≡◌ {A = Option ℕ} (Some x) (Some y) → x ≡ y
 same_some x y e = ap (λ o. unwrap_or o x) e
 
+-- what lives in the cell with the new version: that one, or what lived before
+pub lived : (cell : CellLeaves) (page version : ℕ) → page < length cell.parent → (p v : ℕ) → IsLive (with_parent_version page version cell) p v
+    → ((p ≡ page) × (v ≡ version)) ⊎ IsLive cell p v
+lived cell page version inside p v (inr named) = inr (inr named)
+lived cell page version inside p v (inl there) = elim (cases_eq p page) [
+  | inl here ↦ inl (here, same_some v version (sym there ∙ ap (version_at (with_version cell.parent page version)) here ∙ get_or-set_same cell.parent page (Some version) None inside))
+  | inr apart ↦ inr (inl (sym (get_or-set_other cell.parent page p (Some version) None apart) ∙ there))
+]
+
 module _ (name : ℕ → ℕ → ℕ) (view meant : CellLeaves) (page version place : ℕ)
     (alike : IsRenaming name view meant) (inside : page < length meant.parent)
     (fresh : (v : ℕ) → IsLive meant page v → v ≢ version) (free : IsLive view page place → ⊥) where
   new : ℕ → ℕ → ℕ
   new = with_name name page version place
-
-  -- what lives in the cell with the new version: that one, or what lived before
-  pub lived : (p v : ℕ) → IsLive (with_parent_version page version meant) p v → ((p ≡ page) × (v ≡ version)) ⊎ IsLive meant p v
-  lived p v (inr named) = inr (inr named)
-  lived p v (inl there) = elim (cases_eq p page) [
-    | inl here ↦ inl (here, same_some v version (sym there ∙ ap (version_at (with_version meant.parent page version)) here ∙ get_or-set_same meant.parent page (Some version) None inside))
-    | inr apart ↦ inr (inl (sym (get_or-set_other meant.parent page p (Some version) None apart) ∙ there))
-  ]
 
   -- what lived before has the name that it had
   old_name : (p v : ℕ) → IsLive meant p v → new p v ≡ name p v
@@ -73,12 +74,12 @@ module _ (name : ℕ → ℕ → ℕ) (view meant : CellLeaves) (page version pl
   not_old p v here live same = free (subst (λ q. IsLive view q place) here (subst (IsLive view p) (sym (same ∙ old_name p v live)) (live-alike name view meant p v alike live)))
 
   new_apart : (p a b : ℕ) → IsLive (with_parent_version page version meant) p a → IsLive (with_parent_version page version meant) p b → new p a ≡ new p b → a ≡ b
-  new_apart p a b la lb same = elim (lived p a la) [
-    | inl a_new ↦ elim (lived p b lb) [
+  new_apart p a b la lb same = elim (lived meant page version inside p a la) [
+    | inl a_new ↦ elim (lived meant page version inside p b lb) [
       | inl b_new ↦ a_new.1 ∙ sym b_new.1
       | inr b_old ↦ absurd (not_old p b a_new.0 b_old (sym (new_name p a a_new) ∙ same))
     ]
-    | inr a_old ↦ elim (lived p b lb) [
+    | inr a_old ↦ elim (lived meant page version inside p b lb) [
       | inl b_new ↦ absurd (not_old p a b_new.0 a_old (sym (new_name p b b_new) ∙ sym same))
       | inr b_old ↦ alike.apart p a b a_old b_old (sym (old_name p a a_old) ∙ same ∙ old_name p b b_old)
     ]

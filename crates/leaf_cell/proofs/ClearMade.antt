@@ -35,6 +35,7 @@ use Rattle.leaf_cell.proofs.TouchActs.{takes-by, meant-unjoined}
 use Rattle.leaf_cell.proofs.TouchMade.{kept-unjoined, old-leaf}
 use Rattle.leaf_cell.proofs.SameShare.{share-alike}
 use Rattle.leaf_cell.proofs.HeldShare.{held-share}
+use Rattle.leaf_cell.proofs.WholeCells.{whole-inside}
 use Rattle.leaf_cell.proofs.Releases.{replicate-both}
 use Rattle.leaf_cell.proofs.DropMade.{answers-returned, names-or, bytes-kept}
 use Rattle.leaf_cell.proofs.SameReads.{present-stands}
@@ -253,6 +254,7 @@ module _ {State : Type 0} (goes : State → Deal → State → Type 0) (from mid
                 let was : kept_by before.leaves.kept number ≡ Some kept = ap (λ all. kept_by all number) (sym same_kept) ∙ found in
                 bytes-kept frames new (version_at kept.versions p) (λ q is. released.kept p q (ap (λ vs. version_at vs p) (sym (found-own places snapshot number kept unjoined was unlost)) ∙ is))
                 ∙ stands.snapshots number p kept was unlost small;
+            whole = whole-inside next snapshot new inside-cleared;
           })
           (ap (λ k. replicate k Returned) shrunk) refl
 
@@ -311,6 +313,7 @@ made-nothing {State} goes state view first n none = record {
         made = stands.made;
         pages = λ p small. page-nothing account stands p small;
         snapshots = stands.snapshots;
+        whole = stands.whole;
       })
       refl refl;
 }

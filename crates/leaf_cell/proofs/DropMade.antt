@@ -21,12 +21,13 @@ use Rattle.leaf_cell.proofs.WritablePages.{apart-alone}
 use Rattle.leaf_cell.specs.Inside.{AreInside, table_places, own_places, snapshot_places, leaf_value, kept_value, kept_values, cell_value}
 use Rattle.leaf_cell.specs.Renaming.{AreKeptAlike, IsNamedBy, IsLive, IsRenaming}
 use Rattle.leaf_cell.specs.Releasing.{IsLeafReleased, own_if}
-use Rattle.leaf_cell.specs.Standing.{StandsFor, TakesAccount, MadeAct}
+use Rattle.leaf_cell.specs.Standing.{IsWhole, StandsFor, TakesAccount, MadeAct}
 use Rattle.leaf_cell.proofs.NewCell.{none_is_not_some}
 use Rattle.leaf_cell.proofs.AbsentPages.{version_at-none}
 use Rattle.leaf_cell.proofs.Renamed.{eqb-refl}
 use Rattle.leaf_cell.proofs.SameShare.{share-alike}
 use Rattle.leaf_cell.proofs.HeldShare.{held-share}
+use Rattle.leaf_cell.proofs.WholeCells.{whole-inside}
 
 -- only returned frames bring no answer
 pub answers-returned : (n : ℕ) → answers_of (replicate n Returned) ≡ []
@@ -99,8 +100,8 @@ not-tied q k apart = ap (λ b. is_eq (cond (nat_lt q k) Less (cond b Equal Great
 pub takes-dropped : (old new : CellView) (account : CellAccount) (n count : ℕ) (stands : StandsFor old account) → new.leaves ≡ without_snapshot n old.leaves
     → ((page : ℕ) → page < 512 → bytes_in new.frames (version_at new.leaves.parent page) ≡ bytes_in old.frames (version_at old.leaves.parent page))
     → ((number page : ℕ) (kept : Kept) → kept_by new.leaves.kept number ≡ Some kept → is_lost kept.leaf ≡ false → page < 512 → bytes_in new.frames (version_at kept.versions page) ≡ bytes_in old.frames (version_at kept.versions page))
-    → share old.leaves ≡ share new.leaves + count → TakesAccount (Drop n) old new (replicate count Returned) None account
-takes-dropped old new account n count stands leaves pages kept less =
+    → share old.leaves ≡ share new.leaves + count → IsWhole new → TakesAccount (Drop n) old new (replicate count Returned) None account
+takes-dropped old new account n count stands leaves pages kept less whole =
     let alike : IsRenaming stands.name new.leaves (without_snapshot n account.state.leaves) =
     subst (λ l. IsRenaming stands.name l (without_snapshot n account.state.leaves)) (sym leaves) (renaming-without stands.name n old.leaves account.state.leaves stands.leaves) in
     let shrunk : share account.state.leaves - share (without_snapshot n account.state.leaves) ≡ count =
@@ -115,6 +116,7 @@ takes-dropped old new account n count stands leaves pages kept less =
             let left : (number ≢ n) × (kept_by old.leaves.kept number ≡ Some it) = left-number n number old.leaves.kept it (ap (λ l. kept_by l.kept number) (sym leaves) ∙ found) in
             kept number page it found unlost small ∙ stands.snapshots number page it left.1 unlost small
             ∙ ap (option_and_then (λ ps. get ps page)) (sym (get-remove nat_cmp_total account.state.snapshots n number ∙ ap (λ b. cond b None (get account.state.snapshots number)) (not-tied number n left.0)));
+        whole = whole;
       };
       asked = ap (λ k. replicate k Returned) shrunk;
       ended = refl;
@@ -177,7 +179,7 @@ made-dropped goes from to parent it frames new n inside number released =
           (ap (λ b. record (cell_value parent (Some it) frames).leaves { kept = cond (not b) (kept_value (table_places parent) it ∷ []) [] }) (sym gone))
           (λ page small. bytes-kept frames new (version_at (table_places parent) page) (λ q named. released.kept page q named))
           (λ number page kept found unlost small. absurd (false≢true (ap is_some found)))
-          less;
+          less (whole-inside parent None new after);
     }
 
 -- no snapshot of that number is there
@@ -185,7 +187,7 @@ pub made-unmet : {State : Type 0} (goes : State → Deal → State → Type 0) (
 made-unmet goes state view n same = record {
   deals = [];
   led = refl;
-  follows = λ account stands. takes-dropped view view account n 0 stands same (λ page small. refl) (λ number page kept found unlost small. refl) (omega arith);
+  follows = λ account stands. takes-dropped view view account n 0 stands same (λ page small. refl) (λ number page kept found unlost small. refl) (omega arith) stands.whole;
 }
 
 -- what is without a number that is not there

@@ -25,6 +25,7 @@ use Rattle.leaf_cell.proofs.NewCell.{none_is_not_some}
 use Rattle.leaf_cell.proofs.AbsentPages.{version_at-none}
 use Rattle.leaf_cell.proofs.Renamed.{eqb-refl}
 use Rattle.leaf_cell.proofs.TouchActs.{stands-made}
+use Rattle.leaf_cell.proofs.WholeCells.{whole-among}
 
 -- no snapshot on one side, none on the other
 alike-none : (name : ℕ → ℕ → ℕ) (meant : List Kept) → AreKeptAlike name [] meant → meant ≡ []
@@ -61,6 +62,11 @@ module _ (mode : Mode) (leaf : Leaf) (view : CellView) (account : CellAccount) (
   lived page version (inr (inl named)) = inl named.1
   lived page version (inr (inr named)) = absurd named
 
+  still_lives : (page place : ℕ) → IsLive view_forked.leaves page place → IsLive view.leaves page place
+  still_lives page place (inl there) = inl there
+  still_lives page place (inr (inl named)) = inl named.1
+  still_lives page place (inr (inr named)) = absurd named
+
   renaming : IsRenaming stands.name view_forked.leaves leaves_then
   renaming = record {
     parent = stands.leaves.parent;
@@ -93,6 +99,7 @@ module _ (mode : Mode) (leaf : Leaf) (view : CellView) (account : CellAccount) (
     made = λ page version live. omega (arith, later, stands.made page version (lived page version (subst (λ kept. IsLive (record account.state.leaves { kept = kept }) page version) meant_kept live)));
     pages = stands.pages;
     snapshots = λ number page kept found unlost small. forked_one number page kept found small;
+    whole = whole-among view view_forked.leaves view.writable stands.whole still_lives;
   }
 
 -- a cell with the one snapshot of a fork

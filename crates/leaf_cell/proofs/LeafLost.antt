@@ -20,7 +20,8 @@ use Rattle.leaf_cell.proofs.Alike.{OneAlike, one-alike}
 use Rattle.leaf_cell.proofs.Renamed.{eqb-refl}
 use Rattle.leaf_cell.proofs.SameShare.{share-alike}
 use Rattle.leaf_cell.proofs.DropMade.{bytes-kept}
-use Rattle.leaf_cell.proofs.LossMade.{live-lost, less, only-lost}
+use Rattle.leaf_cell.proofs.LossMade.{live-lost, inside-lost, less, only-lost}
+use Rattle.leaf_cell.proofs.WholeCells.{whole-inside}
 
 module _ {State : Type 0} (goes : State → Deal → State → Type 0) (from to : State) (parent : Option TableView) (it : Snapshot) (frames new : List (Option FrameView)) (at : ℕ)
     (inside : AreInside parent (Some it) frames)
@@ -81,6 +82,7 @@ module _ {State : Type 0} (goes : State → Deal → State → Type 0) (from to 
         made = λ p v live. stands.made p v (live-lost (is_number n) at p v account.state.leaves live);
         pages = λ p small. bytes-kept frames new (version_at (table_places parent) p) (λ q is. released.kept p q is) ∙ stands.pages p small;
         snapshots = λ m p kept found unlost small. absurd (false≢true (sym unlost ∙ only-lost goes from to parent it frames new at inside released m kept found));
+        whole = whole-inside parent (Some (lost_at at it)) new (inside-lost goes from to parent it frames new at inside released);
       };
       asked = ap (λ k. replicate k Returned) shrunk;
       ended = refl;

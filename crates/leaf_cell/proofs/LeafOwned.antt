@@ -22,6 +22,7 @@ use Rattle.leaf_cell.specs.States.{has_joined, with_own}
 use Rattle.leaf_cell.proofs.Alike.{OneAlike, one-alike}
 use Rattle.leaf_cell.proofs.Renamed.{eqb-refl}
 use Rattle.leaf_cell.proofs.ForkMade.{inside-own}
+use Rattle.leaf_cell.proofs.WholeCells.{whole-among}
 
 -- the snapshot that has this number here, by the parent's table
 pub record IsJoinedHere (snapshot : Option Snapshot) (n : ℕ) : Type 0 where
@@ -113,6 +114,11 @@ module _ (parent : Option TableView) (it : Snapshot) (frames : List (Option Fram
       apart = λ p a b la lb. stands.leaves.apart p a b (lived p a la) (lived p b lb);
     }
 
+    still_lives : (p place : ℕ) → IsLive after.leaves p place → IsLive before.leaves p place
+    still_lives p place (inl there) = inl there
+    still_lives p place (inr (inl named)) = inl named.1
+    still_lives p place (inr (inr named)) = absurd named
+
     -- the snapshot reads what it read
     kept_reads : (m p : ℕ) (kept : Kept) → kept_by after.leaves.kept m ≡ Some kept → p < 512
         → kept_page after kept p ≡ option_and_then (λ pages. get pages p) (get account.state.snapshots m)
@@ -131,6 +137,7 @@ module _ (parent : Option TableView) (it : Snapshot) (frames : List (Option Fram
         made = λ p v live. stands.made p v (lived p v live);
         pages = stands.pages;
         snapshots = λ m p kept found unlost small. kept_reads m p kept found small;
+        whole = whole-among before after.leaves before.writable stands.whole still_lives;
       };
       asked = refl;
       ended = refl;

@@ -7,6 +7,7 @@ pub mod Alike
 pub mod NewVersion
 pub mod TouchCourses
 pub mod InsideFacts
+pub mod WholeCells
 pub mod PutPage
 pub mod TouchActs
 pub mod TouchMade

@@ -22,6 +22,7 @@ use Rattle.leaf_cell.specs.Releasing.{IsLeafReleased, own_if}
 use Rattle.leaf_cell.specs.Renaming.{IsKeptAlike, AreKeptAlike, IsNamedBy, IsLive, IsRenaming}
 use Rattle.leaf_cell.specs.Standing.{StandsFor, TakesAccount, MadeAct}
 use Rattle.leaf_cell.proofs.InsideFacts.{parent_filled}
+use Rattle.leaf_cell.proofs.WholeCells.{whole-inside}
 use Rattle.leaf_cell.proofs.TouchCourses.{touched-present}
 use Rattle.leaf_cell.proofs.TouchActs.{takes-by, meant-unjoined}
 use Rattle.leaf_cell.proofs.PresentPage.{Meant, meant, names_alike, same_named, page_there}
@@ -173,6 +174,7 @@ module _ {State : Type 0} (goes : State → Deal → State → Type 0) (from to 
             pages = λ p below. bytes-kept frames new (version_at (table_places parent) p) (λ q is. released.kept p q is) ∙ stands.pages p below
                 ∙ sym (ap (λ m. get m p) (with_page_there account.state.pages page page_was));
             snapshots = λ n p kept found unlost below. absurd (false≢true (sym unlost ∙ only-lost n kept found));
+            whole = whole-inside parent (Some (lost_at at it)) new inside-lost;
           })
           (ap (λ k. Denied want.Page at ∷ replicate k Returned) shrunk) refl
 

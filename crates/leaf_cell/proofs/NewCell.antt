@@ -67,4 +67,5 @@ stands_new = record {
   made = λ page version live. none_live page version live;
   pages = λ page small. ap (bytes_in no_frames) (version_at-none page) ∙ sym (get-empty nat_cmp page);
   snapshots = λ n page kept there unlost small. absurd (false≢true (ap is_some there));
+  whole = record { below = λ page place live. none_live page place live; filled = λ page place live. none_live page place live };
 }

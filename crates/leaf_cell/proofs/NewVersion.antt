@@ -12,7 +12,7 @@ use Rattle.kernel_meaning.specs.CellActs.{with_parent_version}
 use Rattle.kernel_meaning.specs.CellAccount.{CellAccount}
 use Rattle.leaf_cell.specs.CellView.{CellView, bytes_in, parent_page}
 use Rattle.leaf_cell.specs.Renaming.{IsNamedBy, IsLive}
-use Rattle.leaf_cell.specs.Standing.{StandsFor}
+use Rattle.leaf_cell.specs.Standing.{IsWhole, StandsFor}
 use Rattle.leaf_cell.proofs.NewCell.{none_is_some}
 use Rattle.leaf_cell.proofs.Renamed.{with_name, length-renamed}
 use Rattle.leaf_cell.proofs.Alike.{renaming-new_version, lived}
@@ -74,11 +74,33 @@ module _ (view : CellView) (account : CellAccount) (page version place made : �
         ∙ stands.pages p below ∙ sym (others p apart)
   ]
 
+  -- a frame is where one was
+  still_there : (q : ℕ) → IsSome (slice_index_or view.frames q None) → IsSome (slice_index_or view_then.frames q None)
+  still_there q there = elim (cases_eq q place) [
+    | inl same ↦ none_is_some (slice_index_or view.frames q None) (ap (λ i. slice_index_or view.frames i None) same ∙ empty) there
+    | inr apart ↦ ap is_some (get_or-set_other view.frames place q (Some frame) None apart) ∙ there
+  ]
+
+  whole_then : IsWhole view_then
+  whole_then = record {
+    below = λ p q live. elim (lived view.leaves page place page_there p q live) [
+      | inl is ↦ omega (arith, small, is.0)
+      | inr old ↦ stands.whole.below p q old
+    ];
+    filled = λ p q live. elim (lived view.leaves page place page_there p q live) [
+      | inl is ↦ ap (λ i. is_some (slice_index_or view_then.frames i None)) is.1 ∙ ap is_some (get_or-set_same view.frames place (Some frame) None room)
+      | inr old ↦ still_there q (filled p q old)
+    ];
+  }
+    where
+      page_there : page < length view.leaves.parent
+      page_there = omega (arith, small, size)
+
   pub stands-new_version : StandsFor view_then account_then
   stands-new_version = record {
     name = with_name stands.name page version place;
     leaves = renaming-new_version stands.name view.leaves account.state.leaves page version place stands.leaves inside fresh free;
-    made = λ p v live. elim (lived stands.name view.leaves account.state.leaves page version place stands.leaves inside fresh free p v live) [
+    made = λ p v live. elim (lived account.state.leaves page version inside p v live) [
       | inl is ↦ omega (arith, is.1, within)
       | inr old ↦ omega (arith, stands.made p v old, above, within)
     ];
@@ -86,4 +108,5 @@ module _ (view : CellView) (account : CellAccount) (page version place made : �
     snapshots = λ n p kept found unlost below.
         bytes-set view.frames place (Some frame) (version_at kept.versions p) empty (λ q is. filled p q (inr (named-kept n p q view.leaves.kept kept found unlost is)))
         ∙ stands.snapshots n p kept found unlost below;
+    whole = whole_then;
   }

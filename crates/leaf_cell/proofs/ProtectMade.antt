@@ -23,6 +23,7 @@ module _ (view : CellView) (first n : ℕ) (perm : Perm) (unjoined : has_present
         made = stands.made;
         pages = stands.pages;
         snapshots = stands.snapshots;
+        whole = stands.whole;
       })
       refl refl
     where

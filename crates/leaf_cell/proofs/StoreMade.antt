@@ -25,6 +25,7 @@ use Rattle.leaf_cell.specs.Renaming.{IsNamedBy, IsLive}
 use Rattle.leaf_cell.specs.Standing.{StandsFor, TakesAccount}
 use Rattle.leaf_cell.proofs.NewVersion.{named-kept}
 use Rattle.leaf_cell.proofs.InsideFacts.{page_below, parent_filled}
+use Rattle.leaf_cell.proofs.WholeCells.{whole-inside}
 use Rattle.leaf_cell.proofs.PutPage.{one_page}
 
 -- each place that lives is one of its page's own
@@ -172,6 +173,7 @@ module _ (parent : Option TableView) (snapshot : Option Snapshot) (frames : List
         made = stands.made;
         pages = page_after;
         snapshots = λ n p kept found unlost below. bytes_apart (version_at kept.versions p) (kept_apart n p kept found unlost below) ∙ stands.snapshots n p kept found unlost below;
+        whole = whole-inside parent snapshot new inside-stored;
       };
       asked = refl;
       ended = refl;

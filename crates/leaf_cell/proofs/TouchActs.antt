@@ -100,6 +100,7 @@ stands-made view account made stands more = record {
   made = λ page version live. omega (arith, stands.made page version live, more);
   pages = stands.pages;
   snapshots = stands.snapshots;
+  whole = stands.whole;
 }
 
 module _ (view : CellView) (page at : ℕ) (absent : version_at view.leaves.parent page ≡ None) (unjoined : AreUnjoined view.leaves.kept)

@@ -7,6 +7,7 @@ use Rattle.kernel_meaning.specs.CellAccount.{CellAct, CellAccount}
 use Rattle.leaf_cell.specs.CellView.{CellView}
 use Rattle.leaf_cell.specs.Standing.{StandsFor, TakesAccount, MadeAct, TakesPart}
 use Rattle.leaf_cell.specs.Touching.{IsTouched}
+use Rattle.leaf_cell.proofs.WholeCells.{whole-among}
 
 pub stands-writable : (view : CellView) (writable : List Bool) (account : CellAccount) → StandsFor view account → StandsFor (record view { writable = writable }) account
 stands-writable view writable account stands = record {
@@ -15,6 +16,7 @@ stands-writable view writable account stands = record {
   made = stands.made;
   pages = stands.pages;
   snapshots = stands.snapshots;
+  whole = whole-among view view.leaves writable stands.whole (λ page place live. live);
 }
 
 -- so an act takes them to such a cell too

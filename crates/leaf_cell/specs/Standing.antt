@@ -1,5 +1,5 @@
 -- When a cell stands for an account, and what a call over an allot tells.
-use Rattle.std.specs.Prelude.{◌≡◌, ℕ, ◌<◌, false, List, Option, Some, None, IsSome, Result, OnOk, IfErr}
+use Rattle.std.specs.Prelude.{◌≡◌, ℕ, ◌<◌, false, List, Option, Some, None, IsSome, slice_index_or, Result, OnOk, IfErr}
 use Rattle.std.specs.FinMap.{get}
 use Rattle.std.specs.Option.{option_and_then}
 use Rattle.vm_base.specs.declared.refusals.Lost.{Lost as Loss}
@@ -10,8 +10,13 @@ use Rattle.kernel_meaning.specs.CellActs.{Course, opening_course}
 use Rattle.kernel_meaning.specs.CellAccount.{CellAct, CellAccount, course_of, state_after}
 use Rattle.leaf_cell.specs.declared.snapshot.LeafState.TheVariants as state
 use Rattle.leaf_cell.specs.CellView.{CellView, parent_page, kept_page, part_of}
-use Rattle.leaf_cell.specs.Renaming.{IsRenaming, AreMade}
+use Rattle.leaf_cell.specs.Renaming.{IsLive, IsRenaming, AreMade}
 use Rattle.leaf_cell.specs.States.{state_of}
+
+-- each version that lives in a cell is that of one of its pages, and has a frame
+pub record IsWhole (view : CellView) : Type 0 where
+  pub below : (page place : ℕ) → IsLive view.leaves page place → page < 512
+  pub filled : (page place : ℕ) → IsLive view.leaves page place → IsSome (slice_index_or view.frames place None)
 
 -- the cell has the leaves of the account under other names, and the bytes of both sides, but for snapshots that have lost it
 pub record StandsFor (view : CellView) (account : CellAccount) : Type 0 where
@@ -21,6 +26,8 @@ pub record StandsFor (view : CellView) (account : CellAccount) : Type 0 where
   pub pages : (page : ℕ) → page < 512 → parent_page view page ≡ get account.state.pages page
   pub snapshots : (n page : ℕ) (kept : Kept) → kept_by view.leaves.kept n ≡ Some kept → is_lost kept.leaf ≡ false → page < 512
       → kept_page view kept page ≡ option_and_then (λ pages. get pages page) (get account.state.snapshots n)
+  -- each version that lives there has its frame
+  pub whole : IsWhole view
 
 -- a page of a snapshot as an account has it
 abbrev pub snapshot_page : CellAccount → ℕ → ℕ → Option (List ℕ)
