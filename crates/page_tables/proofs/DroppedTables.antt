@@ -52,6 +52,7 @@ stands-empty view state made stands none =
       made = leaves.made;
       pages = λ page small. ap (bytes_in view.frames) (none-at view.leaves.parent page bare) ∙ sym (get-empty nat_cmp page);
       snapshots = λ n page kept found unlost small. absurd (false≢true (ap is_some (sym (ap (λ ks. kept_by ks n) alone) ∙ found)));
+      whole = leaves.whole;
     }
 
 -- without snapshots a cell is used on both sides or on none

@@ -54,6 +54,7 @@ stands-alone view state other made stands leaves pages alone =
       made = stands.made;
       pages = stands.pages;
       snapshots = λ n page kept found unlost small. absurd (false≢true (ap is_some (sym (ap (λ ks. kept_by ks n) none) ∙ found)));
+      whole = stands.whole;
     } in
     subst (λ leaves. StandsFor view (record { state = record { leaves = leaves; pages = other.pages; snapshots = other.snapshots }; made = made })) (sym leaves)
     (subst (λ pages. StandsFor view (record { state = record { leaves = state.leaves; pages = pages; snapshots = other.snapshots }; made = made })) (sym pages) alike)
@@ -118,6 +119,7 @@ fork-becomes n old view deals alone there leaves follows = record {
         made = λ page version live. stands.made page version (lived-before n state.leaves none page version live);
         pages = behind.pages;
         snapshots = behind.snapshots;
+        whole = behind.whole;
       } in
       subst (λ b. StandsFor view (record { state = cond b then state; made = made })) (sym has) at_once;
 }

@@ -106,6 +106,7 @@ stands-empty view state made stands gone = record {
   made = subst (AreMade made) gone stands.made;
   pages = λ p small. no-page view state made stands gone p ∙ sym (get-empty nat_cmp p);
   snapshots = λ n p kept found. absurd (none-kept view.leaves.kept n kept (subst (AreKeptAlike stands.name view.leaves.kept) (ap (λ cell. cell.kept) gone) stands.leaves.kept) found);
+  whole = stands.whole;
 }
   where
     none-kept : (kept : List Kept) (n : ℕ) (it : Kept) → AreKeptAlike stands.name kept [] → kept_by kept n ≡ Some it → ⊥

@@ -21,7 +21,7 @@ taken-out x (z ∷ zs) (inr h) =
     (z ∷ rest.0, (ap suc rest.1.0, λ y h. elim h [ inl f ↦ inr (inl f) | inr later ↦ elim (rest.1.1 y later) [ inl same ↦ inl same | inr there ↦ inr (inr there) ] ]))
 
 -- pairs that come once, all of another list, are no more than it has
-once-within : (xs ys : List (ℕ × ℕ)) → AreOnce xs → ((x : ℕ × ℕ) → IsIn x xs → IsIn x ys) → length xs ≤ length ys
+pub once-within : (xs ys : List (ℕ × ℕ)) → AreOnce xs → ((x : ℕ × ℕ) → IsIn x xs → IsIn x ys) → length xs ≤ length ys
 once-within [] ys once each = omega arith
 once-within (x ∷ xs) ys once each =
     let rest : Rest x ys = taken-out x ys (each x (inl refl)) in

@@ -21,6 +21,7 @@ pub mod RangeLosses
 pub mod LossAt
 pub mod SnapshotPages
 pub mod SnapshotPieces
+pub mod LowestLoss
 pub mod Readiness
 pub mod Presence
 pub mod TakenBack

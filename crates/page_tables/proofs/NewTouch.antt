@@ -1,24 +1,25 @@
 -- The touch of a page in a cell that the directory lacks.
 use Rattle.std.proofs.Common.{◌≡◌, ℕ, ◌+◌, ◌*◌, ◌%◌, ◌<◌, ◌≤◌, List, [], ◌∷◌, ◌++◌, length, Option, Some, None, eqb, refl, sym, ◌∙◌, ap, subst, arith, inl, inr}
-use Rattle.std.specs.Prelude.{true, is_some, slice_set, map, ◌||◌, ◌==◌, not, unwrap_or}
+use Rattle.std.specs.Prelude.{true, false, is_some, slice_set, map, ◌||◌, ◌==◌, not, unwrap_or}
 use Rattle.std.specs.Option.{option_and_then}
 use Rattle.std.specs.List.{slice_get}
 use Rattle.std.specs.FinMap.{get, insert, remove, keys}
-use Rattle.std.proofs.lemmas.Bool.{cases_eq, cond-true, cond-false, eq-eqb, ne_eqb, false≢true}
+use Rattle.std.proofs.lemmas.Bool.{cases_Bool, cases_eq, cond-true, cond-false, eq-eqb, ne_eqb, false≢true}
 use Rattle.std.proofs.lemmas.Option.{slice_get_within}
 use Rattle.vm_base.specs.declared.frame_request.Want.{Want}
 use Rattle.vm_base.specs.Deals.{Deal}
 use Rattle.vm_base.specs.Places.{cell_of}
 use Rattle.vm_base.proofs.NumberedMaps.{get_inserted_here, get_inserted_apart, same_numbered}
 use Rattle.kernel_meaning.specs.Requests.{answers_of}
-use Rattle.kernel_meaning.specs.Leaves.{has_pages}
+use Rattle.kernel_meaning.specs.Leaves.{has_pages, has_present}
 use Rattle.kernel_meaning.specs.FrameLaw.{Leaves, cell_at, with_cell, is_used, parent_cells}
 use Rattle.kernel_meaning.specs.CellActs.{Course, touched}
 use Rattle.kernel_meaning.specs.CellAccount.{CellState, CellAccount, Touch, state_after, pages_after}
 use Rattle.kernel_meaning.specs.EventRequests.{page_touched, missing_tables}
 use Rattle.leaf_cell.specs.CellView.{CellView, AreUnjoined}
 use Rattle.leaf_cell.specs.Standing.{StandsFor, TakesAccount}
-use Rattle.leaf_cell.specs.Touching.{IsTouched}
+use Rattle.leaf_cell.specs.Touching.{IsTouched, IsAlone}
+use Rattle.leaf_cell.specs.Writable.{writable_at}
 use Rattle.table_levels.specs.Cells.{CellMap}
 use Rattle.table_levels.proofs.CellLemmas.{get_removed}
 use Rattle.page_tables.specs.declared.slot.Slot.{Slot}
@@ -35,7 +36,9 @@ use Rattle.page_tables.proofs.PageMaps.{with_page-inside, with_page-outside}
 use Rattle.page_tables.proofs.SlotLemmas.{slice_get-set-here, stands-later}
 use Rattle.page_tables.proofs.Acting.{tables-acted, owner-kept}
 use Rattle.page_tables.proofs.Again.{tables-later, with_cell-same}
-use Rattle.page_tables.proofs.Readiness.{touched-ready, touched-still}
+use Rattle.page_tables.proofs.Readiness.{touched-ready, touched-still, alone-meant}
+use Rattle.page_tables.proofs.OwnedSlots.{slot-unjoined}
+use Rattle.page_tables.proofs.ClearedCell.{present-pages}
 use Rattle.page_tables.proofs.Room.{directory-cells}
 use Rattle.page_tables.proofs.KnownTouch.{refusal_at}
 use Rattle.page_tables.proofs.Rows.{deals_behind, deals_up_to, new-runs, lacking-runs}
@@ -72,6 +75,25 @@ module _ (old : PageTables) (sides : Sides) (st : TablesStandFor old sides) (pag
 
   pub stood : StandsFor slot.cell account
   stood = stands-later slot.cell (st.cells c) sides.made asked_for (omega arith) held_here
+
+  empty-here : has_pages (st.cells c).leaves.parent ≡ false
+  empty-here = ap (λ cell. has_pages cell.parent) (st.each.leaves c) ∙ sym (st.parent c) ∙ ap is_some absent
+
+  -- the parent has no page there
+  pub none-present : (first n : ℕ) → has_present (st.cells c).leaves.parent first n ≡ false
+  none-present first n = elim (cases_Bool (has_present (st.cells c).leaves.parent first n)) [
+    | inl some ↦ absurd (false≢true (sym empty-here ∙ present-pages (st.cells c).leaves.parent first n some))
+    | inr none ↦ none
+  ]
+
+  -- so none may be written to, where one that may is the parent's alone
+  pub none-writable : (AreUnjoined slot.cell.leaves.kept → (q : ℕ) → writable_at slot.cell.writable q ≡ true → IsAlone slot.cell.leaves q)
+      → (q : ℕ) → writable_at slot.cell.writable q ≡ false
+  none-writable alone q = elim (cases_Bool (writable_at slot.cell.writable q)) [
+    | inl may ↦ absurd (false≢true (sym empty-here ∙ page-there (st.cells c).leaves q
+        (alone-meant slot.cell account stood q (alone (slot-unjoined old.directory old.snapshot old.slots.items sides st s slot here) q may)).present))
+    | inr never ↦ never
+  ]
 
   size : length (st.cells c).leaves.parent ≡ 512
   size = ap (λ cell. length cell.parent) (st.each.leaves c) ∙ st.kept.sizes c

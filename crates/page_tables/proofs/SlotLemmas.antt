@@ -25,6 +25,7 @@ stands-later view state made later more stands = record {
   made = λ page version live. let l : version ≤ made = stands.made page version live in omega arith;
   pages = stands.pages;
   snapshots = stands.snapshots;
+  whole = stands.whole;
 }
 
 pub slice_get-set-here : {X : Type 0} (xs : List X) (i : ℕ) (x : X) → i < length xs → slice_get (slice_set xs i x) i ≡ Some x

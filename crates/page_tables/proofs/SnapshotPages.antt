@@ -52,7 +52,8 @@ part-unlost : (view : CellView) (o : Option Kept) (page at n : ℕ) (got : List 
 part-unlost view None page at n got e = refl
 part-unlost view (Some kept) page at n got e = leaf-read kept.leaf (part_of (kept_page view kept page) at n) got e
 
-loss-alike : (name : ℕ → ℕ → ℕ) (n : ℕ) (view meant : List Kept) → AreKeptAlike name view meant → loss_in view n ≡ loss_in meant n
+-- what a snapshot has lost does not depend on the names of versions
+pub loss-alike : (name : ℕ → ℕ → ℕ) (n : ℕ) (view meant : List Kept) → AreKeptAlike name view meant → loss_in view n ≡ loss_in meant n
 loss-alike name n [] [] alike = refl
 loss-alike name n [] (o ∷ os) alike = absurd alike
 loss-alike name n (i ∷ is) [] alike = absurd alike

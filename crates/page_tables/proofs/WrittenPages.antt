@@ -1,5 +1,5 @@
 -- Pages that may be written to: they may be stored to, and a touch lets its page be written to.
-use Rattle.std.proofs.Common.{◌≡◌, ◌≢◌, ◌↔◌, ℕ, ◌+◌, ◌-◌, ◌%◌, ◌≤◌, List, Option, Some, None, Result, Ok, Err, refl, sym, ◌∙◌, ap, subst, arith, inl, inr}
+use Rattle.std.proofs.Common.{◌≡◌, ◌≢◌, ◌↔◌, ℕ, ◌+◌, ◌-◌, ◌/◌, ◌%◌, ◌≤◌, List, Option, Some, None, Result, Ok, Err, refl, sym, ◌∙◌, ap, subst, arith, inl, inr}
 use Rattle.std.specs.Prelude.{Bool, true, false, OnOk, is_some, slice_set, unwrap_or}
 use Rattle.std.specs.Option.{option_map, option_and_then}
 use Rattle.std.specs.List.{slice_get}
@@ -8,6 +8,7 @@ use Rattle.std.proofs.lemmas.Bool.{cases_eq, cases_lt, false≢true}
 use Rattle.std.proofs.lemmas.List.{get_or-set_other}
 use Rattle.vm_base.specs.declared.refusals.Refused.{Refused}
 use Rattle.vm_base.specs.Places.{cell_of}
+use Rattle.vm_base.specs.FlatStep.{is_beyond}
 use Rattle.kernel_meaning.specs.FrameLaw.{Leaves, cell_at}
 use Rattle.leaf_cell.specs.CellView.{CellView, AreUnjoined}
 use Rattle.leaf_cell.specs.Touching.{IsAlone}
@@ -21,6 +22,7 @@ use Rattle.page_tables.specs.Permissions.{parent_cell, may_write, is_alone, Lets
 use Rattle.page_tables.proofs.OwnedSlots.{owned-slot, slot-unjoined}
 use Rattle.page_tables.proofs.ParentPages.{account_at, slot-stands}
 use Rattle.page_tables.proofs.Readiness.{alone-meant}
+use Rattle.page_tables.proofs.ClearedCell.{beyond-within, beyond-outside}
 use Rattle.page_tables.proofs.Permissions.{bit_in, alone_in, never-alone}
 use Rattle.page_tables.proofs.ParentStore.{alone-view}
 use Rattle.page_tables.proofs.TouchShapes.{page-there}
@@ -88,17 +90,26 @@ module _ (page s : ℕ) (old new : PageTables) (it : Slot) (there : get new.dire
       by None is = refl
       by (Some t) is = ap (option_map (λ it. it.cell)) (others t (away q t apart is))
 
-  pub page-written : writable_at it.cell.writable (page % 512) ≡ true → ((q : ℕ) → cell_of q ≡ cell_of page → may_write old q ≡ true → writable_at it.cell.writable (q % 512) ≡ true)
+  pub page-written : writable_at it.cell.writable (page % 512) ≡ true
+      → ((q : ℕ) → cell_of q ≡ cell_of page → q % 512 ≢ page % 512 → writable_at it.cell.writable (q % 512) ≡ may_write old q)
       → LetsWrite page 1 old new
   page-written allowed before = record {
-    within = λ q reached below.
-        let same : page ≡ q = omega (arith, reached, below) in
-        subst (λ q. may_write new q ≡ true) same (bit-known new (cell_of page) s it there here page refl ∙ allowed);
-    still = λ q may. elim (cases_eq (cell_of q) (cell_of page)) [
-      | inl same ↦ bit-known new (cell_of page) s it there here q same ∙ before q same may
-      | inr apart ↦ ap (λ cell. bit_in cell (q % 512)) (cell-same (cell_of q) apart) ∙ may
+    within = λ q reached below. written q (omega (arith, reached, below));
+    still = λ q may. elim (cases_eq q page) [
+      | inl same ↦ written q (sym same)
+      | inr other ↦ unwritten q other ∙ may
     ];
+    apart = λ q beyond. unwritten q (λ same. false≢true (sym (beyond-within page 1 page (omega arith) (omega arith)) ∙ ap (is_beyond page 1) (sym same) ∙ beyond));
   }
+    where
+      written : (q : ℕ) → page ≡ q → may_write new q ≡ true
+      written q same = subst (λ q. may_write new q ≡ true) same (bit-known new (cell_of page) s it there here page refl ∙ allowed)
+
+      unwritten : (q : ℕ) → q ≢ page → may_write new q ≡ may_write old q
+      unwritten q other = elim (cases_eq (cell_of q) (cell_of page)) [
+        | inl same ↦ bit-known new (cell_of page) s it there here q same ∙ before q same (λ place. other (let cells : q / 512 ≡ page / 512 = same in omega (arith, cells, place)))
+        | inr apart ↦ ap (λ cell. bit_in cell (q % 512)) (cell-same (cell_of q) apart)
+      ]
 
 -- another cell has another slot
 pub other-slot : (slots : List Slot) (s t c q : ℕ) → owner_at slots s ≡ Some c → owner_at slots t ≡ Some q → q ≢ c → t ≢ s
@@ -113,18 +124,16 @@ other-home leaves slots s t c q slot here fits theirs apart =
       | inr free ↦ λ same. false≢true (ap is_some (sym free.0 ∙ sym owner ∙ sym (ap (owner_at slots) same) ∙ theirs))
     ]
 
--- the bits of a cell with one more
-pub still-set : (old new : List Bool) (page q : ℕ) → new ≡ slice_set old page true → writable_at new page ≡ true → writable_at old q ≡ true → writable_at new q ≡ true
-still-set old new page q set allowed may = elim (cases_eq q page) [
-  | inl same ↦ ap (writable_at new) same ∙ allowed
-  | inr apart ↦ ap (λ bits. writable_at bits q) set ∙ get_or-set_other old page q true false apart ∙ may
-]
+-- the other bits of a cell with one more
+pub others-set : (old new : List Bool) (page q : ℕ) → new ≡ slice_set old page true → q ≢ page → writable_at new q ≡ writable_at old q
+others-set old new page q set apart = ap (λ bits. writable_at bits q) set ∙ get_or-set_other old page q true false apart
 
 -- no page, and one page more
 pub none-written : (first : ℕ) (tables : PageTables) → LetsWrite first (first - first) tables tables
 none-written first tables = record {
   within = λ page reached below. absurd (omega (arith, reached, below));
   still = λ page may. may;
+  apart = λ page beyond. refl;
 }
 
 pub one-more-written : (first page : ℕ) (old amid new : PageTables) → first ≤ page → LetsWrite first (page - first) old amid → LetsWrite page 1 amid new → LetsWrite first (page + 1 - first) old new
@@ -134,4 +143,11 @@ one-more-written first page old amid new from before one = record {
     | inr last ↦ one.within q last (omega (arith, from, below))
   ];
   still = λ q may. one.still q (before.still q may);
+  apart = λ q beyond. elim (cases_lt q first) [
+    | inl below ↦ one.apart q (beyond-outside page 1 q (inl (omega (arith, from, below)))) ∙ before.apart q (beyond-outside first (page - first) q (inl below))
+    | inr reached ↦ elim (cases_lt q (page + 1)) [
+      | inl within ↦ absurd (false≢true (sym (beyond-within first (page + 1 - first) q reached (omega (arith, from, within))) ∙ beyond))
+      | inr past ↦ one.apart q (beyond-outside page 1 q (inr past)) ∙ before.apart q (beyond-outside first (page - first) q (inr (omega (arith, from, past))))
+    ]
+  ];
 }

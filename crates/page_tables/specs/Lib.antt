@@ -3,6 +3,7 @@ pub mod Sides
 pub mod Standing
 pub mod Held
 pub mod Accesses
+pub mod Losses
 pub mod Permissions
 pub mod Making
 pub mod Clearing

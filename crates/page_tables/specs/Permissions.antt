@@ -30,10 +30,12 @@ is_alone tables page = unwrap_or (option_map (λ cell. is_unshared cell.leaves (
 abbrev pub may_write_after : Perm → ℕ → ℕ → PageTables → ℕ → Bool
 may_write_after perm first n tables page = if is_beyond first n page then may_write tables page else (is_writable perm && is_alone tables page)
 
--- each of n pages may be written to, and so may each page that might before
+-- each of n pages may be written to, and of the others just those that might before
 pub record LetsWrite (first n : ℕ) (old new : PageTables) : Type 0 where
   pub within : (page : ℕ) → first ≤ page → page < first + n → may_write new page ≡ true
   pub still : (page : ℕ) → may_write old page ≡ true → may_write new page ≡ true
+  -- and no other page may that might not before
+  pub apart : (page : ℕ) → is_beyond first n page ≡ true → may_write new page ≡ may_write old page
 
 -- nothing but which pages may be written to has changed
 pub record LeavesAllButPermissions (old new : PageTables) : Type 0 where

@@ -10,8 +10,9 @@ ghost use Rattle.leaf_cell.specs.States.{state_of};
 ghost use Rattle.page_tables.specs.Sides.{Sides};
 ghost use Rattle.page_tables.specs.Standing.{TablesStandFor, slot_in, slot_count};
 ghost use Rattle.page_tables.specs.Held.{frames_of, frames_in, shares_in};
-ghost use Rattle.page_tables.specs.Accesses.{IsReady, IsSnapshotRead};
+ghost use Rattle.page_tables.specs.Accesses.{IsReady, IsSnapshotRead, IsLowestLoss};
 
+use crate::loss::{LostCell, lowest_lost};
 use crate::pieces::{location_of, piece_of_cell, piece_of_page};
 use crate::tables::PageTables;
 use leaf_cell::LeafState;
@@ -176,6 +177,14 @@ impl PageTables {
             Some(slot) => self.slots[slot as usize].cell.state(number),
             None => LeafState::Absent,
         }
+    }
+
+    /// The lowest cell that a snapshot, by its number, has lost, if it has lost one. It looks
+    /// through the slots.
+    pub fn lowest_loss(&self, number: u32) -> Option<LostCell>
+        ensures loss { (sides : Sides) → TablesStandFor self.now sides → IsLowestLoss sides.leaves number result }
+    {
+        lowest_lost(&self.slots, number)
     }
 
     /// Whether a snapshot of this number lives.

@@ -10,6 +10,7 @@
 mod access;
 mod clear;
 mod fork;
+mod loss;
 mod pieces;
 mod protect;
 mod range;
@@ -18,5 +19,6 @@ mod tables;
 mod touch;
 mod vacancy;
 
+pub use loss::LostCell;
 pub use range::FrameRefused;
 pub use tables::PageTables;

@@ -93,6 +93,8 @@ impl PageTables {
         let index = (page % CELL_PAGES) as u16;
         let home = &mut self.slots[slot as usize];
         home.cell.tell_share();
+        // The parent has no page here, so none may be written to yet.
+        prove!(!home.cell.covers(0, 512));
         match home.cell.touch(index, allot) {
             Ok(()) => {
                 home.cell.tell_share();

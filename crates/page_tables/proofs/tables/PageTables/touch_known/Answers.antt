@@ -17,7 +17,7 @@ use Rattle.page_tables.proofs.KnownTouch.{known-touches}
 use Rattle.page_tables.proofs.OwnedSlots.{owned-within, held-within, frames-set, read-slot}
 use Rattle.page_tables.specs.declared.tables.PageTables.{PageTables}
 use Rattle.page_tables.proofs.SlotLemmas.{slice_get-set-here, slice_get-set-apart}
-use Rattle.page_tables.proofs.WrittenPages.{bit-known, granted-both, page-written, other-slot, still-set}
+use Rattle.page_tables.proofs.WrittenPages.{bit-known, granted-both, page-written, other-slot, others-set}
 use Rattle.page_tables.proofs.Known.{known-owner, known-unjoined, known-number}
 use Rattle.page_tables.proofs.tables.PageTables.touch_known.Goals as goal
 
@@ -98,4 +98,4 @@ returns-clause-writable g c =
     page-written c.args.page c.args.slot old _ it c.requires.known (slice_get-set-here old.slots.items c.args.slot it within) (λ q apart. refl)
     (λ t apart. slice_get-set-apart old.slots.items c.args.slot t it apart)
     (λ q t apart is. other-slot old.slots.items c.args.slot t cell q owned (known-owner old c.requires.stands q t is) apart) allowed
-    (λ q same may. still-set home.cell.writable c.touch-answer.new.self.writable (c.args.page % 512) (q % 512) set allowed (sym (bit-known old cell c.args.slot home c.requires.known here q same) ∙ may)))
+    (λ q same apart. others-set home.cell.writable c.touch-answer.new.self.writable (c.args.page % 512) (q % 512) set apart ∙ sym (bit-known old cell c.args.slot home c.requires.known here q same)))

@@ -1,5 +1,5 @@
-use Rattle.std.proofs.Common.{◌≡◌, ◌+◌, ◌-◌, ◌≤◌, ◌<◌, ℕ, length, List, [], ◌++◌, Some, None, sym, ◌∙◌, ap, subst, refl, arith}
-use Rattle.std.specs.Prelude.{slice_set}
+use Rattle.std.proofs.Common.{◌≡◌, ◌+◌, ◌-◌, ◌%◌, ◌≤◌, ◌<◌, ℕ, length, List, [], ◌++◌, Some, None, sym, ◌∙◌, ap, subst, refl, arith}
+use Rattle.std.specs.Prelude.{slice_set, false}
 use Rattle.std.specs.FinMap.{get, remove, keys}
 use Rattle.std.specs.List.{slice_get}
 use Rattle.vm_base.specs.Places.{cell_of}
@@ -7,6 +7,7 @@ use Rattle.vm_base.specs.Deals.{LeadsAlong}
 use Rattle.vm_base.specs.declared.frame_request.Want.{Want}
 use Rattle.vm_base.proofs.DealLemmas.{LeadsAlong-append}
 use Rattle.leaf_cell.specs.CellView.{held_of}
+use Rattle.leaf_cell.specs.Writable.{writable_at}
 use Rattle.table_levels.specs.Cells.{tables_of}
 use Rattle.table_levels.specs.Requests.{missing_tables, granted, returned}
 use Rattle.table_levels.proofs.Counting.{tables_of-insert}
@@ -19,15 +20,15 @@ use Rattle.page_tables.specs.Making.{FollowsTouch}
 use Rattle.page_tables.proofs.ClearedSlot.{even-slots, holds-own}
 use Rattle.page_tables.proofs.Room.{room-left}
 use Rattle.page_tables.proofs.Rows.{deals_behind, deals_up_to}
-use Rattle.page_tables.proofs.NewTouch.{granted-touches, refused-touches, lacking-touches, added-removed, account, stood}
+use Rattle.page_tables.proofs.NewTouch.{granted-touches, refused-touches, lacking-touches, added-removed, account, stood, none-present, none-writable}
 use Rattle.page_tables.proofs.OwnedSlots.{held-within, frames-set, read-slot, set-same}
 use Rattle.page_tables.proofs.Changing.{slice_get_there}
 use Rattle.std.proofs.lemmas.Bool.{false≢true}
 use Rattle.vm_base.proofs.NumberedMaps.{get_inserted_here, get_inserted_apart}
 use Rattle.page_tables.proofs.SlotLemmas.{slice_get-set-here, slice_get-set-apart}
 use Rattle.page_tables.proofs.Permissions.{never-written}
-use Rattle.page_tables.proofs.WrittenPages.{page-written, other-home}
-use Rattle.page_tables.proofs.Known.{standing, known-home, known-fits, known-unjoined, known-less, known-number, known-impossible}
+use Rattle.page_tables.proofs.WrittenPages.{page-written, other-home, others-set}
+use Rattle.page_tables.proofs.Known.{standing, known-home, known-fits, known-unjoined, known-less, known-number, known-test, known-impossible}
 use Rattle.page_tables.proofs.tables.PageTables.touch_new.Goals as goal
 
 -- src/touch.rt:72:15
@@ -172,6 +173,9 @@ returns-in-Ok-touch-clause-writable g c =
     let it : Slot = record { owner = Some cell; cell = c.touch.new.self } in
     let within : c.args.slot < length old.slots.items = known-home old cell c.args.slot c.requires.stands in
     let here : slice_get old.slots.items c.args.slot ≡ Some home = read-slot old.slots.items c.args.slot home within c.index_mut-home.ensures.value in
+    let unwritten : (p : ℕ) → writable_at home.cell.writable p ≡ false = λ p. known-test c.requires.stands (λ known.
+    none-writable old known.0 known.1.0 c.args.page c.args.slot home c.requires.new here (known-fits old cell c.args.slot c.requires.stands known.0 known.1.0 home here)
+    c.covers.ensures.alone p) in
     page-written c.args.page c.args.slot old _ it
     (ap (λ d. get d cell) c.in-Ok.ensures.added ∙ get_inserted_here old.directory cell c.args.slot cell refl)
     (slice_get-set-here old.slots.items c.args.slot it within)
@@ -180,4 +184,20 @@ returns-in-Ok-touch-clause-writable g c =
     (λ q t apart is same. known-impossible c.requires.stands (λ known.
     other-home known.0.leaves old.slots.items c.args.slot t cell q home here (known-fits old cell c.args.slot c.requires.stands known.0 known.1.0 home here) (known.1.0.named q t is) apart same))
     c.in-Ok-touch.ensures.allowed
-    (λ q same may. absurd (false≢true (sym (never-written old q (ap (get old.directory) same ∙ c.requires.new)) ∙ may)))
+    (λ q same apart.
+    others-set home.cell.writable c.touch.new.self.writable (c.args.page % 512) (q % 512) c.in-Ok-touch.ensures.writable apart ∙ unwritten (q % 512)
+    ∙ sym (never-written old q (ap (get old.directory) same ∙ c.requires.new)))
+
+-- src/touch.rt:97:9
+pub prove-unreachable-requires : goal.prove-unreachable-requires
+prove-unreachable-requires g c =
+    let old : PageTables = c.args.self.now in
+    let cell : ℕ = cell_of c.args.page in
+    let home : Slot = c.index_mut-home.result.now in
+    let within : c.args.slot < length old.slots.items = known-home old cell c.args.slot c.requires.stands in
+    let here : slice_get old.slots.items c.args.slot ≡ Some home = read-slot old.slots.items c.args.slot home within c.index_mut-home.ensures.value in
+    known-impossible c.requires.stands (λ known.
+    let fits : IsSlotFor known.0.leaves cell home.owner = known-fits old cell c.args.slot c.requires.stands known.0 known.1.0 home here in
+    false≢true (sym (c.covers.ensures.account (account old known.0 known.1.0 c.args.page c.args.slot home c.requires.new here fits)
+    (stood old known.0 known.1.0 c.args.page c.args.slot home c.requires.new here fits)
+    ∙ none-present old known.0 known.1.0 c.args.page c.args.slot home c.requires.new here fits 0 512) ∙ c.if-prove.true))
