@@ -68,19 +68,19 @@ led-push frames opening old new requests request before here =
 -- ---- the refusal that is pending, and the request that a line names
 
 -- it is for the next request exactly where the line names that
-next_named : (named : Option ℕ) (made : ℕ) → is_next (pending_of named made) ≡ holds_number named (made + 1)
+pub next_named : (named : Option ℕ) (made : ℕ) → is_next (pending_of named made) ≡ holds_number named (made + 1)
 next_named None made = refl
 next_named (Some number) made = grind arith
 
 -- behind one request more
-pending_of-more : (named : Option ℕ) (made : ℕ) → pending_behind (pending_of named made) ≡ pending_of named (made + 1)
+pub pending_of-more : (named : Option ℕ) (made : ℕ) → pending_behind (pending_of named made) ≡ pending_of named (made + 1)
 pending_of-more None made = refl
 pending_of-more (Some number) made = grind arith
 
 -- ---- one request
 
 -- a request of this asker as it stood
-abbrev request_of : Asker → Option ℕ → ℕ → ℕ → Want → Bool → Request
+abbrev pub request_of : Asker → Option ℕ → ℕ → ℕ → Want → Bool → Request
 request_of asker named made out want is_refused = record {
   number = made + 1;
   asker = asker;

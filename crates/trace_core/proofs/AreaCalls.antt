@@ -1,5 +1,5 @@
 -- What a kernel that is sound answers as a memory where areas change, by the answer of its parts.
-use Rattle.std.proofs.Common.{◌≡◌, ◌≢◌, ℕ, ◌+◌, ◌-◌, ◌^◌, ◌<◌, ◌≤◌, Bool, true, false, cond, [], Option, Some, None, Result, Ok, Err, sym, ◌∙◌, ap, subst}
+use Rattle.std.proofs.Common.{◌≡◌, ◌≢◌, ℕ, ◌+◌, ◌-◌, ◌^◌, ◌<◌, ◌≤◌, Bool, true, false, cond, [], Option, Some, None, Result, Ok, Err, sym, ◌∙◌, ap, subst, refl}
 use Rattle.std.specs.Prelude.{length, nat_le, OnOk, IfErr}
 use Rattle.std.specs.Coded.{Unit-prop}
 use Rattle.std.proofs.lemmas.Bool.{false≢true}
@@ -11,7 +11,7 @@ use Rattle.vm_base.specs.FlatMemory.{FlatMemory}
 use Rattle.vm_base.specs.FlatStep.{Refusal, OutsideAreas, Taken, TooManyAreas, or_refused, at_most_128, taken, outside, map_of, unmap_of, protect_of}
 use Rattle.vm_base.specs.MemoryState.{IsKept}
 use Rattle.vm_base.specs.MemoryCalls.{map_answer, unmap_answer, protect_answer, Refuses, Changes, Maps}
-use Rattle.kernel_meaning.specs.Requests.{Answer, answers_of}
+use Rattle.kernel_meaning.specs.Requests.{answers_of}
 use Rattle.kernel_meaning.specs.EventRequests.{Progress, pages_unmapped, pages_protected}
 use Rattle.trace_events.specs.declared.outcome.Outcome.{Outcome}
 use Rattle.trace_events.specs.declared.outcome.Outcome.TheVariants.{Done, Bytes, Held, AreaRow, Copied, Nothing, Refused, Lost, NoArea, NoWrite, Overlap, AreasFull, CellsFull, NoFrame, TooMany, NoSnap}
@@ -19,7 +19,8 @@ use Rattle.trace_core.specs.KernelState.{Machine, KernelState}
 use Rattle.trace_core.specs.EventMeaning.{EventEnd, areas_changed, mapped, begun, refusal_outcome}
 use Rattle.trace_core.specs.TouchAnswers.{touch_outcome, fault_outcome}
 use Rattle.trace_core.specs.KernelStanding.{KernelParts, KernelStands, EventRan}
-use Rattle.trace_core.specs.KernelSeen.{KernelNotes, IsKernelNoted, IsAreaAnswer, memory_of}
+use Rattle.trace_core.specs.KernelSeen.{KernelNotes, IsKernelNoted, IsAreaAnswer, HasReached, memory_of, kernel_memory}
+use Rattle.trace_core.proofs.ToldMemories.{told-maps, told-changes, told-refuses, told-kept}
 use Rattle.trace_core.proofs.ClauseProps.{Maps-prop, Changes-prop, Refuses-prop, known-kept}
 use Rattle.trace_core.proofs.SeenChanges.{IsInBounds, is_done, fault-undone, map-maps, map-refuses, map-kept, map-sound, unmap-changes, unmap-refuses, unmap-kept, unmap-sound, protect-changes, protect-refuses, protect-kept, protect-sound}
 
@@ -82,7 +83,7 @@ bounds parts machine state stands lent count fits counts = (lent, subst (λ k. k
 -- ---- mapping
 
 -- they mapped from whatever state they stood for
-abbrev HasMapped : KernelParts → KernelParts → ℕ → ℕ → Perm → Outcome → Type 0
+abbrev pub HasMapped : KernelParts → KernelParts → ℕ → ℕ → Perm → Outcome → Type 0
 HasMapped old new first n perm outcome = (machine : Machine) (state : KernelState) → KernelStands old machine state
     → EventRan old new machine (λ answers. mapped state answers first n perm) outcome
 
@@ -100,27 +101,30 @@ module _ (old new : KernelParts) (notes : KernelNotes) (first n : ℕ) (perm : P
       (it.0, (behind.after, map-sound old new notes it.0 it.1.0 it.1.1 first n perm outcome some within behind)))
 
   pub map-granted : (result : Result (Unit {0}) Fault) (outcome : Outcome) → touch_outcome result ≡ outcome → 0 < n → HasMapped old new first n perm outcome → new ≡ record old { areas = new.areas }
-      → OnOk result (Maps (memory_of old notes.most) (memory_of new notes.most) (map_answer (memory_of old notes.most) first n perm))
-  map-granted (Ok done) outcome told some ran others = ∥∥₁_elim known (Maps-prop (memory_of old notes.most) (memory_of new notes.most) (map_answer (memory_of old notes.most) first n perm)) (λ it.
+      → OnOk result (Maps (kernel_memory old notes) (kernel_memory new notes) (map_answer (kernel_memory old notes) first n perm))
+  map-granted (Ok done) outcome told some ran others = told-maps (memory_of old notes.most) (memory_of new notes.most) notes.enough notes.enough refl {E = Fault} (map_answer (memory_of old notes.most) first n perm) (Ok done) (
+      ∥∥₁_elim known (Maps-prop (memory_of old notes.most) (memory_of new notes.most) (map_answer (memory_of old notes.most) first n perm)) (λ it.
       map-maps old new notes it.0 it.1.0 it.1.1 notes.most first n perm some
-      (subst (λ o. HasMapped old new first n perm o) (sym told) ran it.0 it.1.0 it.1.1.stands) others)
+      (subst (λ o. HasMapped old new first n perm o) (sym told) ran it.0 it.1.0 it.1.1.stands) others))
   map-granted (Err fault) outcome told some ran others = tt
 
   pub map-refused : (result : Result (Unit {0}) Fault) (outcome : Outcome) → touch_outcome result ≡ outcome → HasMapped old new first n perm outcome → (outcome ≢ Done → new ≡ old)
-      → IfErr result (Refuses (memory_of old notes.most) (memory_of new notes.most) (map_answer (memory_of old notes.most) first n perm))
+      → IfErr result (Refuses (kernel_memory old notes) (kernel_memory new notes) (map_answer (kernel_memory old notes) first n perm))
   map-refused (Ok done) outcome told ran kept = tt
-  map-refused (Err fault) outcome told ran kept = ∥∥₁_elim known (Refuses-prop (memory_of old notes.most) (memory_of new notes.most) (map_answer (memory_of old notes.most) first n perm) fault) (λ it.
+  map-refused (Err fault) outcome told ran kept = told-refuses (memory_of old notes.most) (memory_of new notes.most) notes.enough notes.enough refl {X = Unit {0}} (map_answer (memory_of old notes.most) first n perm) (Err fault) (
+      ∥∥₁_elim known (Refuses-prop (memory_of old notes.most) (memory_of new notes.most) (map_answer (memory_of old notes.most) first n perm) fault) (λ it.
       map-refuses old new it.0 it.1.0 it.1.1.stands notes.most first n perm fault
-      (subst (λ o. HasMapped old new first n perm o) (sym told) ran it.0 it.1.0 it.1.1.stands) (kept (λ done. undone fault (told ∙ done))))
+      (subst (λ o. HasMapped old new first n perm o) (sym told) ran it.0 it.1.0 it.1.1.stands) (kept (λ done. undone fault (told ∙ done)))))
 
-  pub map-keeps : (outcome : Outcome) → HasMapped old new first n perm outcome → old.supply.out ≤ old.supply.made → (count : ℕ) → count ≤ 2 ^ 64 - 1 → Counts old count → 0 < n → first + n ≤ 2 ^ 36 → IsKept (memory_of old notes.most) (memory_of new notes.most) []
-  map-keeps outcome ran lent count fits counts some within = known-kept (memory_of old notes.most) (memory_of new notes.most) [] known (λ it.
-      map-kept old new notes it.0 it.1.0 it.1.1 (bounds old it.0 it.1.0 it.1.1.stands lent count fits counts) first n perm outcome some within (ran it.0 it.1.0 it.1.1.stands))
+  pub map-keeps : (outcome : Outcome) → HasMapped old new first n perm outcome → old.supply.out ≤ old.supply.made → (count : ℕ) → count ≤ 2 ^ 64 - 1 → Counts old count → 0 < n → first + n ≤ 2 ^ 36 → HasReached new notes → IsKept (kernel_memory old notes) (kernel_memory new notes) []
+  map-keeps outcome ran lent count fits counts some within reached = told-kept (memory_of old notes.most) (memory_of new notes.most) notes.enough notes.enough refl [] reached (
+      known-kept (memory_of old notes.most) (memory_of new notes.most) [] known (λ it.
+      map-kept old new notes it.0 it.1.0 it.1.1 (bounds old it.0 it.1.0 it.1.1.stands lent count fits counts) first n perm outcome some within (ran it.0 it.1.0 it.1.1.stands)))
 
 -- ---- unmapping
 
 -- they unmapped from whatever state they stood for
-abbrev HasUnmapped : KernelParts → KernelParts → ℕ → ℕ → Outcome → Type 0
+abbrev pub HasUnmapped : KernelParts → KernelParts → ℕ → ℕ → Outcome → Type 0
 HasUnmapped old new first n outcome = (machine : Machine) (state : KernelState) → KernelStands old machine state
     → EventRan old new machine (λ answers. areas_changed state (unmap_of state.world.parent first n) (pages_unmapped first n (begun state answers))) outcome
 
@@ -138,27 +142,30 @@ module _ (old new : KernelParts) (notes : KernelNotes) (first n : ℕ) (known : 
       (it.0, (behind.after, unmap-sound old new notes it.0 it.1.0 it.1.1 first n outcome some within behind)))
 
   pub unmap-granted : (result : Result (Unit {0}) Fault) (outcome : Outcome) → touch_outcome result ≡ outcome → HasUnmapped old new first n outcome
-      → OnOk result (Changes (memory_of old notes.most) (memory_of new notes.most) (unmap_answer (memory_of old notes.most) first n))
-  unmap-granted (Ok done) outcome told ran = ∥∥₁_elim known (Changes-prop (memory_of old notes.most) (memory_of new notes.most) (unmap_answer (memory_of old notes.most) first n)) (λ it.
+      → OnOk result (Changes (kernel_memory old notes) (kernel_memory new notes) (unmap_answer (kernel_memory old notes) first n))
+  unmap-granted (Ok done) outcome told ran = told-changes (memory_of old notes.most) (memory_of new notes.most) notes.enough notes.enough refl {E = Fault} (unmap_answer (memory_of old notes.most) first n) (Ok done) (
+      ∥∥₁_elim known (Changes-prop (memory_of old notes.most) (memory_of new notes.most) (unmap_answer (memory_of old notes.most) first n)) (λ it.
       unmap-changes old new it.0 it.1.0 it.1.1.stands notes.most first n
-      (subst (λ o. HasUnmapped old new first n o) (sym told) ran it.0 it.1.0 it.1.1.stands))
+      (subst (λ o. HasUnmapped old new first n o) (sym told) ran it.0 it.1.0 it.1.1.stands)))
   unmap-granted (Err fault) outcome told ran = tt
 
   pub unmap-refused : (result : Result (Unit {0}) Fault) (outcome : Outcome) → touch_outcome result ≡ outcome → HasUnmapped old new first n outcome → (outcome ≢ Done → new ≡ old)
-      → IfErr result (Refuses (memory_of old notes.most) (memory_of new notes.most) (unmap_answer (memory_of old notes.most) first n))
+      → IfErr result (Refuses (kernel_memory old notes) (kernel_memory new notes) (unmap_answer (kernel_memory old notes) first n))
   unmap-refused (Ok done) outcome told ran kept = tt
-  unmap-refused (Err fault) outcome told ran kept = ∥∥₁_elim known (Refuses-prop (memory_of old notes.most) (memory_of new notes.most) (unmap_answer (memory_of old notes.most) first n) fault) (λ it.
+  unmap-refused (Err fault) outcome told ran kept = told-refuses (memory_of old notes.most) (memory_of new notes.most) notes.enough notes.enough refl {X = Unit {0}} (unmap_answer (memory_of old notes.most) first n) (Err fault) (
+      ∥∥₁_elim known (Refuses-prop (memory_of old notes.most) (memory_of new notes.most) (unmap_answer (memory_of old notes.most) first n) fault) (λ it.
       unmap-refuses old new it.0 it.1.0 it.1.1.stands notes.most first n fault
-      (subst (λ o. HasUnmapped old new first n o) (sym told) ran it.0 it.1.0 it.1.1.stands) (kept (λ done. undone fault (told ∙ done))))
+      (subst (λ o. HasUnmapped old new first n o) (sym told) ran it.0 it.1.0 it.1.1.stands) (kept (λ done. undone fault (told ∙ done)))))
 
-  pub unmap-keeps : (outcome : Outcome) → HasUnmapped old new first n outcome → old.supply.out ≤ old.supply.made → (count : ℕ) → count ≤ 2 ^ 64 - 1 → Counts old count → 0 < n → first + n ≤ 2 ^ 36 → IsKept (memory_of old notes.most) (memory_of new notes.most) []
-  unmap-keeps outcome ran lent count fits counts some within = known-kept (memory_of old notes.most) (memory_of new notes.most) [] known (λ it.
-      unmap-kept old new notes it.0 it.1.0 it.1.1 (bounds old it.0 it.1.0 it.1.1.stands lent count fits counts) first n outcome some within (ran it.0 it.1.0 it.1.1.stands))
+  pub unmap-keeps : (outcome : Outcome) → HasUnmapped old new first n outcome → old.supply.out ≤ old.supply.made → (count : ℕ) → count ≤ 2 ^ 64 - 1 → Counts old count → 0 < n → first + n ≤ 2 ^ 36 → HasReached new notes → IsKept (kernel_memory old notes) (kernel_memory new notes) []
+  unmap-keeps outcome ran lent count fits counts some within reached = told-kept (memory_of old notes.most) (memory_of new notes.most) notes.enough notes.enough refl [] reached (
+      known-kept (memory_of old notes.most) (memory_of new notes.most) [] known (λ it.
+      unmap-kept old new notes it.0 it.1.0 it.1.1 (bounds old it.0 it.1.0 it.1.1.stands lent count fits counts) first n outcome some within (ran it.0 it.1.0 it.1.1.stands)))
 
 -- ---- protecting
 
 -- they protected from whatever state they stood for
-abbrev HasProtected : KernelParts → KernelParts → ℕ → ℕ → Perm → Outcome → Type 0
+abbrev pub HasProtected : KernelParts → KernelParts → ℕ → ℕ → Perm → Outcome → Type 0
 HasProtected old new first n perm outcome = (machine : Machine) (state : KernelState) → KernelStands old machine state
     → EventRan old new machine (λ answers. areas_changed state (protect_of state.world.parent first n perm) (pages_protected first n (begun state answers))) outcome
 
@@ -176,19 +183,22 @@ module _ (old new : KernelParts) (notes : KernelNotes) (first n : ℕ) (perm : P
       (it.0, (behind.after, protect-sound old new notes it.0 it.1.0 it.1.1 first n perm outcome some within behind)))
 
   pub protect-granted : (result : Result (Unit {0}) Fault) (outcome : Outcome) → touch_outcome result ≡ outcome → HasProtected old new first n perm outcome
-      → OnOk result (Changes (memory_of old notes.most) (memory_of new notes.most) (protect_answer (memory_of old notes.most) first n perm))
-  protect-granted (Ok done) outcome told ran = ∥∥₁_elim known (Changes-prop (memory_of old notes.most) (memory_of new notes.most) (protect_answer (memory_of old notes.most) first n perm)) (λ it.
+      → OnOk result (Changes (kernel_memory old notes) (kernel_memory new notes) (protect_answer (kernel_memory old notes) first n perm))
+  protect-granted (Ok done) outcome told ran = told-changes (memory_of old notes.most) (memory_of new notes.most) notes.enough notes.enough refl {E = Fault} (protect_answer (memory_of old notes.most) first n perm) (Ok done) (
+      ∥∥₁_elim known (Changes-prop (memory_of old notes.most) (memory_of new notes.most) (protect_answer (memory_of old notes.most) first n perm)) (λ it.
       protect-changes old new it.0 it.1.0 it.1.1.stands notes.most first n perm
-      (subst (λ o. HasProtected old new first n perm o) (sym told) ran it.0 it.1.0 it.1.1.stands))
+      (subst (λ o. HasProtected old new first n perm o) (sym told) ran it.0 it.1.0 it.1.1.stands)))
   protect-granted (Err fault) outcome told ran = tt
 
   pub protect-refused : (result : Result (Unit {0}) Fault) (outcome : Outcome) → touch_outcome result ≡ outcome → HasProtected old new first n perm outcome → (outcome ≢ Done → new ≡ old)
-      → IfErr result (Refuses (memory_of old notes.most) (memory_of new notes.most) (protect_answer (memory_of old notes.most) first n perm))
+      → IfErr result (Refuses (kernel_memory old notes) (kernel_memory new notes) (protect_answer (kernel_memory old notes) first n perm))
   protect-refused (Ok done) outcome told ran kept = tt
-  protect-refused (Err fault) outcome told ran kept = ∥∥₁_elim known (Refuses-prop (memory_of old notes.most) (memory_of new notes.most) (protect_answer (memory_of old notes.most) first n perm) fault) (λ it.
+  protect-refused (Err fault) outcome told ran kept = told-refuses (memory_of old notes.most) (memory_of new notes.most) notes.enough notes.enough refl {X = Unit {0}} (protect_answer (memory_of old notes.most) first n perm) (Err fault) (
+      ∥∥₁_elim known (Refuses-prop (memory_of old notes.most) (memory_of new notes.most) (protect_answer (memory_of old notes.most) first n perm) fault) (λ it.
       protect-refuses old new it.0 it.1.0 it.1.1.stands notes.most first n perm fault
-      (subst (λ o. HasProtected old new first n perm o) (sym told) ran it.0 it.1.0 it.1.1.stands) (kept (λ done. undone fault (told ∙ done))))
+      (subst (λ o. HasProtected old new first n perm o) (sym told) ran it.0 it.1.0 it.1.1.stands) (kept (λ done. undone fault (told ∙ done)))))
 
-  pub protect-keeps : (outcome : Outcome) → HasProtected old new first n perm outcome → old.supply.out ≤ old.supply.made → (count : ℕ) → count ≤ 2 ^ 64 - 1 → Counts old count → 0 < n → first + n ≤ 2 ^ 36 → IsKept (memory_of old notes.most) (memory_of new notes.most) []
-  protect-keeps outcome ran lent count fits counts some within = known-kept (memory_of old notes.most) (memory_of new notes.most) [] known (λ it.
-      protect-kept old new notes it.0 it.1.0 it.1.1 (bounds old it.0 it.1.0 it.1.1.stands lent count fits counts) first n perm outcome some within (ran it.0 it.1.0 it.1.1.stands))
+  pub protect-keeps : (outcome : Outcome) → HasProtected old new first n perm outcome → old.supply.out ≤ old.supply.made → (count : ℕ) → count ≤ 2 ^ 64 - 1 → Counts old count → 0 < n → first + n ≤ 2 ^ 36 → HasReached new notes → IsKept (kernel_memory old notes) (kernel_memory new notes) []
+  protect-keeps outcome ran lent count fits counts some within reached = told-kept (memory_of old notes.most) (memory_of new notes.most) notes.enough notes.enough refl [] reached (
+      known-kept (memory_of old notes.most) (memory_of new notes.most) [] known (λ it.
+      protect-kept old new notes it.0 it.1.0 it.1.1 (bounds old it.0 it.1.0 it.1.1.stands lent count fits counts) first n perm outcome some within (ran it.0 it.1.0 it.1.1.stands)))

@@ -116,3 +116,12 @@ module _ (parts : KernelParts) (machine : Machine) (state : KernelState) (st : K
         deals = (snapshot_copied n cell (begun state answers)).requests.deals;
         after = with_progress state (snapshot_counted state.world n (snapshot_copied n cell (begun state answers)).requests.deals) (snapshot_copied n cell (begun state answers));
       }) (only_answers state outcome.NoSnap)).deals ≡ []) [ true ↦ ap (λ p. p.requests.deals) (uncopied-at answers) | false ↦ refl ]
+
+  -- and leaves the leaves as they are
+  pub same-leaves : (answers : List Answer) → (copy_end_of state answers n cell).after.leaves ≡ state.leaves
+  same-leaves answers =
+      elim (is_live state.world n) as (λ b. (cond b (record {
+        outcome = copy_outcome (copy_end_at n cell (begun state answers));
+        deals = (snapshot_copied n cell (begun state answers)).requests.deals;
+        after = with_progress state (snapshot_counted state.world n (snapshot_copied n cell (begun state answers)).requests.deals) (snapshot_copied n cell (begun state answers));
+      }) (only_answers state outcome.NoSnap)).after.leaves ≡ state.leaves) [ true ↦ ap (λ p. p.leaves) (uncopied-at answers) | false ↦ refl ]

@@ -1,5 +1,5 @@
 -- A touch and a store of the kernel keep what clauses know of a memory, whatever state it stands for.
-use Rattle.std.proofs.Common.{◌≡◌, ℕ, ◌+◌, ◌-◌, Fits, w8, slice_index_or, None, ◌≤◌, ◌<◌, ◌^◌, Bool, true, false, List, [], length, Result, Ok, Err, refl, sym, ◌∙◌, ap, subst, arith, inl}
+use Rattle.std.proofs.Common.{◌≡◌, ℕ, ◌+◌, ◌-◌, Fits, w8, slice_index_or, None, ◌≤◌, ◌<◌, ◌^◌, List, [], length, Result, Ok, Err, refl, sym, ◌∙◌, ap, subst, arith, inl}
 use Rattle.std.specs.Prelude.{max, OnOk, IfErr, IfSome}
 use Rattle.std.proofs.lemmas.Bool.{le-ltb}
 use Rattle.std.proofs.lemmas.List.Elements.{All-from_get_or}
@@ -7,15 +7,15 @@ use Rattle.std.specs.List.{All}
 use Rattle.std.specs.FinSet as set
 use Rattle.std.proofs.Math.Logic.{∥∥₁_map, ∥∥₁_elim}
 use Rattle.vm_base.specs.declared.faults.Fault.{Fault}
-use Rattle.vm_base.specs.Places.{page_of, page_count, cells_of_range}
-use Rattle.vm_base.specs.FlatMemory.{FlatMemory}
+use Rattle.vm_base.specs.Places.{page_of, cells_of_range}
 use Rattle.vm_base.specs.FlatStep.{touch_of}
 use Rattle.vm_base.specs.MemoryState.{MemoryState, IsMemory, IsKept, own_of}
 use Rattle.vm_base.specs.MemoryCalls.{Touches, TouchFails, IsReady, after_store, if_slots}
 use Rattle.trace_core.specs.KernelState.{Machine, KernelState}
 use Rattle.trace_core.specs.EventMeaning.{touch_judged}
 use Rattle.trace_core.specs.KernelStanding.{KernelParts, KernelStands, EventRan, sides_of}
-use Rattle.trace_core.specs.KernelSeen.{KernelNotes, IsKernelNoted, memory_of, most_behind_touch}
+use Rattle.trace_core.specs.KernelSeen.{KernelNotes, IsKernelNoted, HasReached, memory_of, kernel_memory, most_behind_touch}
+use Rattle.trace_core.proofs.ToldMemories.{telling, told-touches, told-fails, told-kept}
 use Rattle.page_tables.specs.declared.tables.PageTables.{PageTables}
 use Rattle.trace_core.specs.TouchAnswers.{touch_outcome, IsReadyKernel, LeavesReady, LacksPage, with_stored}
 use Rattle.trace_core.proofs.ClauseProps.{state-prop, Touches-prop, TouchFails-prop, known-kept}
@@ -58,7 +58,7 @@ kept-same memory cells untold its = record {
 
 module _ (old new : KernelParts) (notes later : KernelNotes) (addr len : ℕ) (known : ∥ IsKernelNoted old notes ∥₁) where
   -- it ran from each state that the parts stand for
-  abbrev TouchRan : Result (Unit {0}) Fault → Type 0
+  abbrev pub TouchRan : Result (Unit {0}) Fault → Type 0
   TouchRan result = (machine : Machine) (state : KernelState) → KernelStands old machine state
       → EventRan old new machine (λ answers. touch_judged machine state answers addr len (touch_of state.world.parent addr len)) (touch_outcome result)
 
@@ -82,31 +82,31 @@ module _ (old new : KernelParts) (notes later : KernelNotes) (addr len : ℕ) (k
     -- it keeps what each call keeps
     pub touch-kept : later.forked ≡ notes.forked → TouchRan result → old.supply.out ≤ old.supply.made → new.supply.out ≤ new.supply.made
         → (count : ℕ) → count ≤ 2 ^ 64 - 1 → ((machine : Machine) (state : KernelState) → KernelStands old machine state → count ≡ state.world.refused)
-        → IsKept (memory_of old notes.most) (memory_of new later.most) (cells_of_range addr len)
-    touch-kept forked ran within then count fits told =
+        → later.enough ≡ notes.enough → HasReached new later → IsKept (kernel_memory old notes) (kernel_memory new later) (cells_of_range addr len)
+    touch-kept forked ran within then count fits told enough reached = told-kept (memory_of old notes.most) (memory_of new later.most) notes.enough later.enough enough (cells_of_range addr len) reached (
         known-kept (memory_of old notes.most) (memory_of new later.most) (cells_of_range addr len) known (λ it.
         touch-keeps old new notes it.0 it.1.0 it.1.1 addr len (touch_outcome result) later.most (ran it.0 it.1.0 it.1.1.stands)
         (subst (λ n. n ≤ 2 ^ 64 - 1) (told it.0 it.1.0 it.1.1.stands ∙ sym it.1.1.stands.supply.refused) fits)
-        (known-memory old notes known within) (known-memory new later (known-touched forked ran) then))
+        (known-memory old notes known within) (known-memory new later (known-touched forked ran) then)))
 
   -- it touches the memory where it is granted
   pub touch-touches : (before : PageTables) → before ≡ old.tables → (result : Result (Unit {0}) Fault) → later.most ≡ most_behind_touch before addr len notes.most result
-      → TouchRan result → TouchReady result → OnOk result (Touches (memory_of old notes.most) (memory_of new later.most) addr len)
-  touch-touches before same (Err why) noted ran ready = tt
-  touch-touches before same (Ok done) noted ran ready =
+      → later.enough ≡ notes.enough → TouchRan result → TouchReady result → OnOk result (Touches (kernel_memory old notes) (kernel_memory new later) addr len)
+  touch-touches before same (Err why) noted enough ran ready = tt
+  touch-touches before same (Ok done) noted enough ran ready = told-touches (memory_of old notes.most) (memory_of new later.most) notes.enough later.enough enough {E = Fault} addr len (Ok done) (
       subst (λ most. Touches (memory_of old notes.most) (memory_of new most) addr len) (sym (most-noted before same (Ok done) noted))
       (∥∥₁_elim known (Touches-prop _ _ addr len) (λ it.
-      touches-seen old new notes it.0 it.1.0 it.1.1 addr len (ran it.0 it.1.0 it.1.1.stands) (ready it.0 it.1.0 it.1.1.stands)))
+      touches-seen old new notes it.0 it.1.0 it.1.1 addr len (ran it.0 it.1.0 it.1.1.stands) (ready it.0 it.1.0 it.1.1.stands))))
 
   -- and tells why where it is refused
   pub touch-fails : (before : PageTables) → before ≡ old.tables → (result : Result (Unit {0}) Fault) → later.most ≡ most_behind_touch before addr len notes.most result
-      → TouchRan result → TouchReady result → IfErr result TouchLacks
-      → IfErr result (TouchFails (memory_of old notes.most) (memory_of new later.most) addr len)
-  touch-fails before same (Ok done) noted ran ready lacks = tt
-  touch-fails before same (Err why) noted ran ready lacks =
+      → later.enough ≡ notes.enough → TouchRan result → TouchReady result → IfErr result TouchLacks
+      → IfErr result (TouchFails (kernel_memory old notes) (kernel_memory new later) addr len)
+  touch-fails before same (Ok done) noted enough ran ready lacks = tt
+  touch-fails before same (Err why) noted enough ran ready lacks = told-fails (memory_of old notes.most) (memory_of new later.most) notes.enough later.enough enough {X = Unit {0}} addr len (Err why) (
       subst (λ most. TouchFails (memory_of old notes.most) (memory_of new most) addr len why) (sym (most-noted before same (Err why) noted))
       (∥∥₁_elim known (TouchFails-prop _ _ addr len why) (λ it.
-      fails-seen old new notes it.0 it.1.0 it.1.1 addr len why (ran it.0 it.1.0 it.1.1.stands) (ready it.0 it.1.0 it.1.1.stands) (lacks it.0 it.1.0 it.1.1.stands)))
+      fails-seen old new notes it.0 it.1.0 it.1.1 addr len why (ran it.0 it.1.0 it.1.1.stands) (ready it.0 it.1.0 it.1.1.stands) (lacks it.0 it.1.0 it.1.1.stands))))
 
 -- ---- a store
 
@@ -140,14 +140,14 @@ module _ (old : KernelParts) (notes : KernelNotes) (addr : ℕ) (bytes : List �
     ))
 
     -- the memory is stored to
-    pub store-stores : new ≡ record old { tables = new.tables } → memory_of new notes.most ≡ after_store (memory_of old notes.most) addr bytes
-    store-stores others = ∥∥₁_elim known (state-prop _ _) (λ it.
-        stored-seen old it.0 it.1.0 it.1.1.stands notes.most addr bytes ready new (stored it.0 it.1.0 it.1.1.stands) others)
+    pub store-stores : new ≡ record old { tables = new.tables } → kernel_memory new notes ≡ after_store (kernel_memory old notes) addr bytes
+    store-stores others = ap (telling notes.enough) (∥∥₁_elim known (state-prop (memory_of new notes.most) (after_store (memory_of old notes.most) addr bytes)) (λ it.
+        stored-seen old it.0 it.1.0 it.1.1.stands notes.most addr bytes ready new (stored it.0 it.1.0 it.1.1.stands) others))
 
     -- it keeps what each call keeps
     pub store-kept : new ≡ record old { tables = new.tables } → All (λ byte. byte < 256) bytes → old.supply.out ≤ old.supply.made → new.supply.out ≤ new.supply.made
-        → IsKept (memory_of old notes.most) (memory_of new notes.most) []
-    store-kept others fit within then =
+        → HasReached new notes → IsKept (kernel_memory old notes) (kernel_memory new notes) []
+    store-kept others fit within then reached = told-kept (memory_of old notes.most) (memory_of new notes.most) notes.enough notes.enough refl [] reached (
         known-kept (memory_of old notes.most) (memory_of new notes.most) [] known (λ it.
         store-keeps old new notes it.0 it.1.0 it.1.1 addr bytes ready (stored it.0 it.1.0 it.1.1.stands) others
-        (known-memory old notes known within) (known-memory new notes (known-stored fit) then))
+        (known-memory old notes known within) (known-memory new notes (known-stored fit) then)))

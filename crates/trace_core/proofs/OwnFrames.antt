@@ -103,20 +103,24 @@ true_from false holds = absurd holds
 less_is_apart : (x y : ℕ) → is_lt (nat_cmp x y) ≡ true → eqb x y ≡ false
 less_is_apart x y less = grind (arith, nat_tests)
 
-apart_from_later : (x : ℕ) (es : List (ℕ × List ℕ)) → below_all nat_cmp x es ≡ true → AllByRecursion (λ y. eqb x y ≡ false) (map (λ e. e.0) es)
+apart_from_later : {X : Type 0} (x : ℕ) (es : List (ℕ × X)) → below_all nat_cmp x es ≡ true → AllByRecursion (λ y. eqb x y ≡ false) (map (λ e. e.0) es)
 apart_from_later x [] below = tt
 apart_from_later x (e ∷ es) below =
     let parts = and_parts (is_lt (nat_cmp x e.0)) (below_all nat_cmp x es) below in
     (less_is_apart x e.0 parts.0, apart_from_later x es parts.1)
 
-sorted_is_distinct : (es : List (ℕ × List ℕ)) → is_sorted nat_cmp es ≡ true → IsDistinct eqb (map (λ e. e.0) es)
+sorted_is_distinct : {X : Type 0} (es : List (ℕ × X)) → is_sorted nat_cmp es ≡ true → IsDistinct eqb (map (λ e. e.0) es)
 sorted_is_distinct [] sorted = no_numbers
 sorted_is_distinct (e ∷ es) sorted =
     let parts = and_parts (below_all nat_cmp e.0 es) (is_sorted nat_cmp es) sorted in
     IsDistinct-cons eqb e.0 (map (λ e. e.0) es) (apart_from_later e.0 es parts.0) (sorted_is_distinct es parts.1)
 
+-- entries in order have no number twice
+pub IsDistinct-sorted : {X : Type 0} (es : List (ℕ × X)) → T (is_sorted nat_cmp es) → IsDistinct eqb (map (λ e. e.0) es)
+IsDistinct-sorted es sorted = sorted_is_distinct es (true_from (is_sorted nat_cmp es) sorted)
+
 pub IsDistinct-keys : (present : PageMap) → IsDistinct eqb (keys present)
-IsDistinct-keys present = sorted_is_distinct (entries present) (true_from (is_sorted nat_cmp (entries present)) (entries_sorted present))
+IsDistinct-keys present = IsDistinct-sorted (entries present) (entries_sorted present)
 
 pub length-keys : (present : PageMap) → length (keys present) ≡ len present
 length-keys present = length-map (entries present) (λ (e : ℕ × List ℕ). e.0) ∙ sym (len-entries present)

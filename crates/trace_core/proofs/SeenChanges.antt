@@ -65,7 +65,7 @@ fault_in (Overlap page) = fault.Overlap page
 fault_in AreasFull = fault.AreasFull
 fault_in other = fault.CellsFull
 
-refusal-undone : (refusal : Refusal) → is_done (refusal_outcome refusal) ≡ false
+pub refusal-undone : (refusal : Refusal) → is_done (refusal_outcome refusal) ≡ false
 refusal-undone (OutsideAreas page) = refl
 refusal-undone (ReadOnly page) = refl
 refusal-undone (Taken page) = refl

@@ -38,7 +38,7 @@ none-there None pages memories none few m = ap (λ map. get map m) none ∙ get-
 none-there (Some kept) pages memories its few m = absurd (false≢true (sym few ∙ ap (nat_le 1) (lives-len (Some kept) pages memories its)))
 
 -- the event is a fork
-abbrev is_fork : Event → Bool
+abbrev pub is_fork : Event → Bool
 is_fork (Fork n mode) = true
 is_fork event = false
 

@@ -34,7 +34,8 @@ record Stays (most address n : ℕ) (old new : KernelParts) (notes : KernelNotes
   own : own_of end.after.world.parent ≤ most_answered old.tables address n most end.outcome
   forked : AreForkedFrom notes.forked end.after.world.snapshots end.after.world.last
 
-le-max : (m n : ℕ) → m ≤ max m n
+-- the greater one of two numbers is no less than the first
+pub le-max : (m n : ℕ) → m ≤ max m n
 le-max m n = omega arith
 
 le-max-right : (m n : ℕ) → n ≤ max m n

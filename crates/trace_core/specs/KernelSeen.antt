@@ -1,38 +1,78 @@
 -- What a kernel is as a memory, as a process, and as the nest of its snapshot.
-use Rattle.std.specs.Prelude.{◌≡◌, ℕ, ◌<◌, ◌≤◌, max, length, Bool, true, false, [], Option, Some, None, Result}
+use Rattle.std.specs.Prelude.{◌≡◌, ℕ, ◌+◌, ◌/◌, ◌<◌, ◌≤◌, ◌==◌, if◌then◌else◌, max, length, Bool, true, false, List, [], ◌∷◌, Option, Some, None, IsSome, Result, Ok, Err}
+use Rattle.std.specs.Option.{ForSome}
 use Rattle.std.specs.Ordering.{nat_cmp}
-use Rattle.std.specs.FinMap.{FinMap, get}
-use Rattle.vm_base.specs.FlatMemory.{PageMap, FlatMemory, IsFlat}
-use Rattle.vm_base.specs.MemoryState.{MemoryState, own_of}
+use Rattle.std.specs.FinMap.{FinMap, get, empty}
+use Rattle.std.specs.FinSet as set
+use Rattle.vm_base.specs.Counts.{next_count}
+use Rattle.vm_base.specs.FlatMemory.{PageMap, FlatMemory, IsFlat, empty_memory, cells_of}
+use Rattle.vm_base.specs.MemoryState.{MemoryState, IsListed, own_of}
+use Rattle.vm_base.specs.ProcessState.{Children, Remains}
+use Rattle.vm_base.specs.SnapshotState.{SnapshotState}
 use Rattle.vm_base.specs.MemoryCalls.{touched}
 use Rattle.trace_events.specs.declared.event.Event.{Event}
-use Rattle.trace_events.specs.declared.event.Event.TheVariants.{Write, Fill, Fork}
+use Rattle.trace_events.specs.declared.event.Event.TheVariants.{Write, Fill, Fork, Refuse}
 use Rattle.trace_events.specs.declared.outcome.Outcome.{Outcome}
-use Rattle.trace_events.specs.declared.outcome.Outcome.TheVariants.{Done, NoFrame, NoArea, Overlap, AreasFull}
+use Rattle.trace_events.specs.declared.outcome.Outcome.TheVariants.{Done, NoFrame, TooMany, NoArea, Overlap, AreasFull}
 use Rattle.page_tables.specs.declared.tables.PageTables.{PageTables}
-use Rattle.page_tables.specs.Standing.{slot_count}
+use Rattle.page_tables.specs.Standing.{slot_count, slot_in}
 use Rattle.vm_base.specs.declared.faults.Fault.{Fault}
+use Rattle.vm_base.specs.declared.faults.ForkFault.{ForkFault}
+use Rattle.vm_base.specs.declared.faults.ForkFault.TheVariants.{NoFrame as LacksFrame, TooMany as TooManyLive, NumbersSpent}
 use Rattle.trace_core.specs.declared.parts.SnapshotAreas.{SnapshotAreas}
 use Rattle.trace_core.specs.TouchAnswers.{touch_outcome}
 use Rattle.trace_core.specs.KernelState.{Machine, KernelState}
 use Rattle.trace_core.specs.KernelStanding.{KernelParts, KernelStands}
-use Rattle.trace_core.specs.TablesSeen.{pages_in, used_in, ready_in}
+use Rattle.trace_core.specs.SupplyState.{state_of}
+use Rattle.trace_core.specs.TablesSeen.{pages_in, used_in, ready_in, lost_in}
+use Rattle.trace_core.specs.declared.parts.Parts.{Parts}
+use Rattle.trace_core.specs.declared.notes.Notes.{Notes}
+use Rattle.trace_core.specs.declared.process.SoloChild.{SoloChild}
 
 -- the parent's pages
 abbrev pub pages_of : PageTables → PageMap
 pages_of tables = pages_in tables.slots.items
 
--- what contracts alone know of a kernel: the most frames of its own that it has had, or that a touch has asked for; and for the snapshot that lives, the tables at its fork and the refused requests then
+-- ---- what a kernel is read off
+
+-- the parts of a kernel, whatever the policies of its pool are
+abbrev pub parts_of : {Policy : Type 0} {IsPolicy : Policy → Type 0} → Parts Policy IsPolicy → KernelParts
+parts_of parts = record {
+  areas = parts.areas;
+  tables = parts.tables;
+  supply = state_of (record {
+    made = parts.supply.pool.stack.made;
+    free = parts.supply.pool.stack.free;
+    asks = parts.supply.pool.asks;
+    policies = [];
+  }) parts.supply.asker parts.supply.refused parts.supply.pending;
+  snapshot = parts.snapshot;
+  last = parts.last;
+}
+
+-- what contracts alone know of a kernel: the most frames of its own that it has had, or that a touch has asked for; of the snapshot that lives, the tables and the refused requests at its fork; and how many frames are enough, if told
 pub record KernelNotes : Type 0 where
   pub most : ℕ
   pub forked : PageTables
   pub born : ℕ
+  pub enough : Option ℕ
+
+-- the values of the notes
+abbrev pub notes_of : Notes → KernelNotes
+notes_of notes = record {
+  most = notes.most.value;
+  forked = notes.forked.value;
+  born = notes.born.value;
+  enough = notes.enough.value;
+}
+
+-- ---- the kernel as a memory
 
 -- the parent's memory
 abbrev pub parent_of : KernelParts → FlatMemory
 parent_of parts = record { areas = parts.areas; present = pages_of parts.tables }
 
--- the kernel as a memory; it doesn't tell how many frames are enough
+-- the parts as a memory, where it is not told how many frames are enough
 abbrev pub memory_of : KernelParts → ℕ → MemoryState
 memory_of parts most = record {
   mem = parent_of parts;
@@ -45,6 +85,29 @@ memory_of parts most = record {
   enough = None;
 }
 
+-- the kernel as a memory
+abbrev pub kernel_memory : KernelParts → KernelNotes → MemoryState
+kernel_memory parts notes = record (memory_of parts notes.most) { enough = notes.enough }
+
+-- how many frames are enough, of so many that were made, under so many policies: where none may refuse a request, at a refusal the parent and its snapshot hold all frames, so one of them had more than half
+abbrev pub enough_of : ℕ → ℕ → Option ℕ
+enough_of frames policies = if policies == 0 then Some (frames / 2 + 1) else None
+
+-- the memory of a new kernel
+abbrev pub opening_memory : ℕ → ℕ → Option ℕ → MemoryState
+opening_memory frames slots enough = record {
+  mem = empty_memory;
+  refused = 0;
+  room = frames;
+  slots = slots;
+  used = set.empty;
+  ready = set.empty;
+  most = 0;
+  enough = enough;
+}
+
+-- ---- what stands beside it
+
 -- what stands beside a kernel's memory: the snapshot that lives, the number that was given out last, and for the snapshot the tables at its fork and the refused requests then
 pub record BesideMemory : Type 0 where
   pub snapshot : Option SnapshotAreas
@@ -55,6 +118,58 @@ pub record BesideMemory : Type 0 where
 -- the same of these parts and notes
 abbrev pub beside_of : KernelParts → KernelNotes → BesideMemory
 beside_of parts notes = record { snapshot = parts.snapshot; last = parts.last; forked = notes.forked; born = notes.born }
+
+-- the number of the snapshot that lives, if one does
+abbrev pub live_numbers : Option SnapshotAreas → List ℕ
+live_numbers None = []
+live_numbers (Some kept) = kept.number ∷ []
+
+-- the children: one may live
+abbrev pub children_of : Option SnapshotAreas → ℕ → Children
+children_of snapshot last = record {
+  numbers = live_numbers snapshot;
+  live = length (live_numbers snapshot);
+  last = last;
+  limit = 1;
+}
+
+-- the memory of a snapshot, from the tables at its fork
+abbrev pub kept_memory : SnapshotAreas → PageTables → FlatMemory
+kept_memory kept forked = record { areas = kept.areas; present = pages_of forked }
+
+-- the same of the one that lives, and no page where none does
+abbrev pub kept_in : Option SnapshotAreas → PageTables → FlatMemory
+kept_in None forked = empty_memory
+kept_in (Some kept) forked = kept_memory kept forked
+
+-- its refused copies
+abbrev pub copies_refused_in : Option SnapshotAreas → ℕ
+copies_refused_in None = 0
+copies_refused_in (Some kept) = kept.refused
+
+-- what is left of a snapshot: what it has lost is told by the kernel as long as it lives, and not by what is left
+abbrev pub remains_of : ℕ → Remains
+remains_of number = record { number = number; found = empty; refused = 0 }
+
+-- ---- the kernel as a nest
+
+-- what stands beside a snapshot in its kernel: the kernel's memory, what stands beside that, and the number of the snapshot
+pub record BesideChild : Type 0 where
+  pub memory : MemoryState
+  pub beside : BesideMemory
+  pub number : ℕ
+
+-- the snapshot of this number, with the memory at its fork and the cells that it has lost; an eager fork leaves none to be copied
+abbrev pub nest_of : KernelParts → KernelNotes → ℕ → SnapshotState
+nest_of parts notes number = record {
+  mem = kept_in parts.snapshot notes.forked;
+  found = lost_in number parts.tables.slots.items;
+  refused = copies_refused_in parts.snapshot;
+  todo = 0;
+  whole = true;
+}
+
+-- ---- what holds of a kernel
 
 -- each of these snapshots has the number that was given out last, and the pages of the tables at its fork
 abbrev pub AreForkedFrom : PageTables → FinMap nat_cmp FlatMemory → ℕ → Type 0
@@ -71,6 +186,25 @@ pub record IsSound (parts : KernelParts) (notes : KernelNotes) (machine : Machin
 -- they do so for some state
 abbrev pub IsKernelNoted : KernelParts → KernelNotes → Type 0
 IsKernelNoted parts notes = (machine : Machine) × ((state : KernelState) × IsSound parts notes machine state)
+
+-- what the notes tell of the snapshot that lives, and of refusals, holds
+pub record NotesHold (parts : KernelParts) (notes : KernelNotes) : Type 0 where
+  -- each of the snapshot's cells had a page at its fork
+  pub cells : (c : ℕ) → IsSome (slot_in parts.tables.snapshot c) → IsListed c (cells_of (kept_in parts.snapshot notes.forked))
+  -- where it lives, no more requests were refused by its fork than by now
+  pub born : IsSome parts.snapshot → notes.born ≤ parts.supply.refused
+  -- each that it has lost was lost behind the fork
+  pub since : (n c at : ℕ) → get (lost_in n parts.tables.slots.items) c ≡ Some at → (next_count notes.born ≤ at) × (at ≤ parts.supply.refused)
+  -- its memory took no more frames than were noted
+  pub own : own_of (kept_in parts.snapshot notes.forked) ≤ notes.most
+  -- where enough is told no request is named to be refused, and it is no more than half of the frames, and one
+  pub enough : ForSome notes.enough (λ enough. (parts.supply.pending ≡ None) × (enough + enough ≤ parts.supply.made + 2))
+
+-- once a request was refused, as many frames were the kernel's own or asked for as are enough
+abbrev pub HasReached : KernelParts → KernelNotes → Type 0
+HasReached parts notes = 0 < parts.supply.refused → ForSome notes.enough (λ enough. enough ≤ notes.most)
+
+-- ---- what is noted
 
 -- the most frames behind a touch of n bytes that was granted, or that lacked a frame
 abbrev pub most_touched : PageTables → ℕ → ℕ → ℕ → ℕ
@@ -94,11 +228,17 @@ is_new_fork (Fork n mode) Done = true
 is_new_fork (Fork n mode) other = false
 is_new_fork event outcome = false
 
+-- where a request is named to be refused, it is no longer told how many frames are enough
+abbrev pub enough_behind : Event → Option ℕ → Option ℕ
+enough_behind (Refuse nth) enough = None
+enough_behind event enough = enough
+
 -- what is noted behind an event, where these are the tables and the refused requests then
 pub record IsNoted (before : PageTables) (event : Event) (outcome : Outcome) (tables : PageTables) (refused : ℕ) (old new : KernelNotes) : Type 0 where
   pub most : new.most ≡ most_behind before event outcome old.most
   pub forked : is_new_fork event outcome ≡ true → (new.forked ≡ tables) × (new.born ≡ refused)
   pub kept : is_new_fork event outcome ≡ false → (new.forked ≡ old.forked) × (new.born ≡ old.born)
+  pub enough : new.enough ≡ enough_behind event old.enough
 
 -- the most frames behind a touch that was answered so
 abbrev pub most_behind_touch : PageTables → ℕ → ℕ → ℕ → Result (Unit {0}) Fault → ℕ
@@ -111,3 +251,21 @@ IsAreaAnswer (NoArea page) = Unit {0}
 IsAreaAnswer (Overlap page) = Unit {0}
 IsAreaAnswer AreasFull = Unit {0}
 IsAreaAnswer other = ⊥
+
+-- an answer of a fork, and no other outcome
+abbrev pub IsForkAnswer : Outcome → Type 0
+IsForkAnswer Done = Unit {0}
+IsForkAnswer (NoFrame at) = Unit {0}
+IsForkAnswer TooMany = Unit {0}
+IsForkAnswer other = ⊥
+
+-- what a fork of the snapshot of this number answers
+abbrev pub fork_answer : Outcome → ℕ → Result SoloChild ForkFault
+fork_answer Done number = Ok (record { number = number })
+fork_answer (NoFrame at) number = Err (LacksFrame at)
+fork_answer other number = Err TooManyLive
+
+-- why there is no fork where the last number was given out: a snapshot lives, or else no number is left
+abbrev pub spent_fault : Option SnapshotAreas → ForkFault
+spent_fault None = NumbersSpent
+spent_fault (Some kept) = TooManyLive

@@ -11,3 +11,4 @@ pub mod Supplied
 pub mod KernelRun
 pub mod SnapshotAnswers
 pub mod TouchAnswers
+pub mod Housed

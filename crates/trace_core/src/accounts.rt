@@ -34,6 +34,7 @@ impl Parts {
     pub fn refused(&self) -> u64
         ensures refused { (machine : Machine) (state : KernelState) → KernelStands (⟦<Parts as Standing>⟧.parts self.now) machine state
             → result ≡ state.world.refused }
+        ensures count { result ≡ (⟦<Parts as Standing>⟧.parts self.now).supply.refused }
     {
         self.supply.refused()
     }

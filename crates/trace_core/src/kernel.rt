@@ -1,5 +1,6 @@
 //! The kernel: its parts, which stand for the state of a run.
 ghost use Rattle.std.specs.Prelude.{◌≡◌, ◌≤◌, ◌+◌, IfOk, OnErr, List, ℕ, map, [], ◌∷◌, ◌++◌, length};
+ghost use Rattle.std.specs.Option.{ForSome};
 ghost use Rattle.trace_events.specs.declared.event.Event.{Event};
 ghost use Rattle.trace_events.specs.declared.outcome.Outcome.{Outcome};
 ghost use Rattle.trace_events.specs.EventBounds.{IsWithinBounds};
@@ -10,7 +11,7 @@ ghost use Rattle.trace_core.specs.SupplyState.{state_of, opening_supply, policy_
 ghost use Rattle.trace_core.specs.KernelState.{Machine, KernelState, opening_state};
 ghost use Rattle.trace_core.specs.KernelRun.{Ran, HasRun};
 ghost use Rattle.trace_core.specs.KernelStanding.{KernelStands};
-ghost use Rattle.trace_core.specs.KernelSeen.{IsKernelNoted};
+ghost use Rattle.trace_core.specs.KernelSeen.{KernelNotes, IsKernelNoted, IsNoted, NotesHold, HasReached, parts_of, notes_of, kernel_memory, opening_memory, enough_of};
 
 use crate::notes::Notes;
 use crate::parts::{Parts, Standing};
@@ -18,26 +19,21 @@ use frame_pool::FramePolicy;
 use std::alloc::Global;
 use std::snapshot::Snapshot;
 use trace_events::{Event, Outcome};
-use vm_base::NoMemory;
+use vm_base::{Memory, NoMemory};
 
 /// A parent and its snapshot over counted frames. It stands for the state of a run at each moment.
 #[derive(Drop)]
 pub struct Kernel {
     pub(crate) parts: Parts,
     pub(crate) notes: Notes,
-    /// The state of a run on some machine, whatever the policies of the pool are.
-    ghost stood: { ∥ IsKernelNoted (record {
-      areas = parts.areas;
-      tables = parts.tables;
-      supply = state_of (record {
-        made = parts.supply.pool.stack.made;
-        free = parts.supply.pool.stack.free;
-        asks = parts.supply.pool.asks;
-        policies = [];
-      }) parts.supply.asker parts.supply.refused parts.supply.pending;
-      snapshot = parts.snapshot;
-      last = parts.last;
-    }) (record { most = notes.most.value; forked = notes.forked.value; born = notes.born.value }) ∥₁ },
+    /// The parts stand for the state of a run on some machine, whatever the pool's policies are.
+    ghost stood: { ∥ IsKernelNoted (parts_of parts) (notes_of notes) ∥₁ },
+    /// What is noted of the snapshot that lives, and of refusals, holds.
+    ghost held: { NotesHold (parts_of parts) (notes_of notes) },
+    /// Once a request was refused, as many frames were had or asked for as are enough.
+    ghost reached: { HasReached (parts_of parts) (notes_of notes) },
+    /// Where it is told how many are enough, no policy may refuse a request.
+    ghost plain: { ForSome notes.enough.value (λ enough. length parts.supply.pool.policies.items ≡ 0) },
 }
 
 impl Standing for Kernel {
@@ -53,6 +49,15 @@ impl Standing for Kernel {
       snapshot = kernel.parts.snapshot;
       last = kernel.parts.last;
     } };
+}
+
+/// What clauses may know of the notes of a value with a kernel in it.
+pub trait Noting {
+    ghost notes: { Self → KernelNotes };
+}
+
+impl Noting for Kernel {
+    ghost notes = { λ kernel. notes_of kernel.notes };
 }
 
 impl Kernel {
@@ -78,9 +83,13 @@ impl Kernel {
         ensures begins { IfOk result (λ kernel. HasRun (⟦<Kernel as Standing>⟧.parts kernel)
             (record { frames = frames; slots = cells; limit = 1 }) last
             (policy_sum (standing (map (λ policy. told policy) policies.items))) [] []) }
+
+        // It holds no page, and tells how many frames are enough where there is no policy.
+        ensures memory { IfOk result (λ kernel. ⟦<Kernel as Memory>⟧.state kernel ≡ opening_memory frames cells (enough_of frames (length policies.items))) }
     {
+        let enough = enough_of(frames, policies.len());
         let parts = Parts::new(alloc, frames, cells, last, policies)?;
-        let notes = Notes::new(&parts.tables);
+        let notes = Notes::new(&parts.tables, enough);
         Ok(Kernel { parts, notes })
     }
 
@@ -94,6 +103,12 @@ impl Kernel {
             → HasRun (⟦<Kernel as Standing>⟧.parts self.old) machine last policies events outcomes
             → HasRun (⟦<Kernel as Standing>⟧.parts self.new) machine last policies (events ++ event.now ∷ []) (outcomes ++ outcome ∷ [])) }
         ensures kept { OnErr result (⟦<Kernel as Standing>⟧.parts self.new ≡ ⟦<Kernel as Standing>⟧.parts self.old) }
+
+        // What is noted of it.
+        ensures noted { IfOk result (λ outcome. IsNoted (⟦<Kernel as Standing>⟧.parts self.old).tables event.now outcome
+            (⟦<Kernel as Standing>⟧.parts self.new).tables (⟦<Kernel as Standing>⟧.parts self.new).supply.refused
+            (⟦<Kernel as Noting>⟧.notes self.old) (⟦<Kernel as Noting>⟧.notes self.new)) }
+        ensures unnoted { OnErr result (⟦<Kernel as Noting>⟧.notes self.new ≡ ⟦<Kernel as Noting>⟧.notes self.old) }
     {
         let before = Snapshot::of(&self.parts.tables);
         let answer = self.parts.step(alloc, event);
@@ -126,5 +141,16 @@ impl Kernel {
             → result ≡ state.world.refused }
     {
         self.parts.refused()
+    }
+}
+
+// How many frames are enough, of so many that were made, under so many policies.
+fn enough_of(frames: u32, policies: usize) -> Option<u64>
+    ensures { result ≡ enough_of frames policies }
+{
+    if policies == 0 {
+        Some(u64::from(frames) / 2 + 1)
+    } else {
+        None
     }
 }

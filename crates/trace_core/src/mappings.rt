@@ -1,12 +1,13 @@
 //! The calls of the parent that take pages out of its areas, and that change what pages may be
 //! used for.
-ghost use Rattle.std.specs.Prelude.{◌≡◌, ◌≢◌, ◌+◌, ◌<◌, ◌≤◌, ◌^◌};
+ghost use Rattle.std.specs.Prelude.{◌≡◌, ◌≢◌, ℕ, ◌+◌, ◌<◌, ◌≤◌, ◌^◌};
 ghost use Rattle.vm_base.specs.FlatStep.{unmap_of, protect_of};
+ghost use Rattle.page_tables.specs.Permissions.{may_write, may_write_after};
 ghost use Rattle.kernel_meaning.specs.EventRequests.{pages_unmapped, pages_protected};
 ghost use Rattle.trace_events.specs.declared.outcome.Outcome.TheVariants.{Done};
 ghost use Rattle.trace_core.specs.KernelState.{Machine, KernelState};
 ghost use Rattle.trace_core.specs.EventMeaning.{begun, areas_changed};
-ghost use Rattle.trace_core.specs.KernelStanding.{KernelStands, EventRan};
+ghost use Rattle.trace_core.specs.KernelStanding.{IsKernel, KernelStands, EventRan};
 
 use crate::parts::{Parts, Standing};
 use crate::writing::outcome_of;
@@ -20,7 +21,7 @@ impl Parts {
     pub fn unmap(&mut self, first: u64, pages: u64) -> Outcome
         requires some { 0 < pages }
         requires within { first + pages ≤ 2 ^ 36 }
-        requires stands { ∥ ((machine : Machine) × ((state : KernelState) × KernelStands (⟦<Parts as Standing>⟧.parts self.old) machine state)) ∥₁ }
+        requires stands { ∥ IsKernel (⟦<Parts as Standing>⟧.parts self.old) ∥₁ }
         ensures ran { (machine : Machine) (state : KernelState) → KernelStands (⟦<Parts as Standing>⟧.parts self.old) machine state
             → EventRan (⟦<Parts as Standing>⟧.parts self.old) (⟦<Parts as Standing>⟧.parts self.new) machine
             (λ answers. areas_changed state (unmap_of state.world.parent first pages) (pages_unmapped first pages (begun state answers))) result }
@@ -42,11 +43,13 @@ impl Parts {
     pub fn protect(&mut self, first: u64, pages: u64, perm: Perm) -> Outcome
         requires some { 0 < pages }
         requires within { first + pages ≤ 2 ^ 36 }
-        requires stands { ∥ ((machine : Machine) × ((state : KernelState) × KernelStands (⟦<Parts as Standing>⟧.parts self.old) machine state)) ∥₁ }
+        requires stands { ∥ IsKernel (⟦<Parts as Standing>⟧.parts self.old) ∥₁ }
         ensures ran { (machine : Machine) (state : KernelState) → KernelStands (⟦<Parts as Standing>⟧.parts self.old) machine state
             → EventRan (⟦<Parts as Standing>⟧.parts self.old) (⟦<Parts as Standing>⟧.parts self.new) machine
             (λ answers. areas_changed state (protect_of state.world.parent first pages perm) (pages_protected first pages (begun state answers))) result }
         ensures refused { result ≢ Done → ⟦<Parts as Standing>⟧.parts self.new ≡ ⟦<Parts as Standing>⟧.parts self.old }
+        ensures writable { result ≡ Done → (page : ℕ) → may_write (⟦<Parts as Standing>⟧.parts self.new).tables page
+            ≡ may_write_after perm first pages (⟦<Parts as Standing>⟧.parts self.old).tables page }
         ensures beside { ((⟦<Parts as Standing>⟧.parts self.new).snapshot ≡ (⟦<Parts as Standing>⟧.parts self.old).snapshot) × ((⟦<Parts as Standing>⟧.parts self.new).last ≡ (⟦<Parts as Standing>⟧.parts self.old).last) }
     {
         match self.areas.protect(first, pages, perm) {

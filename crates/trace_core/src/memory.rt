@@ -9,37 +9,13 @@ use trace_events::Outcome;
 use vm_base::{Fault, Memory, Perm};
 
 impl Memory for Kernel {
-    ghost use Rattle.std.specs.Prelude.{[]};
-    ghost use Rattle.trace_core.specs.SupplyState.{state_of};
-    ghost use Rattle.trace_core.specs.KernelSeen.{BesideMemory, beside_of, memory_of};
+    ghost use Rattle.trace_core.specs.KernelSeen.{BesideMemory, beside_of, kernel_memory, parts_of, notes_of};
 
     ghost Aside = { BesideMemory };
 
-    ghost aside = { λ kernel. beside_of (record {
-      areas = kernel.parts.areas;
-      tables = kernel.parts.tables;
-      supply = state_of (record {
-        made = kernel.parts.supply.pool.stack.made;
-        free = kernel.parts.supply.pool.stack.free;
-        asks = kernel.parts.supply.pool.asks;
-        policies = [];
-      }) kernel.parts.supply.asker kernel.parts.supply.refused kernel.parts.supply.pending;
-      snapshot = kernel.parts.snapshot;
-      last = kernel.parts.last;
-    }) (record { most = kernel.notes.most.value; forked = kernel.notes.forked.value; born = kernel.notes.born.value }) };
+    ghost aside = { λ kernel. beside_of (parts_of kernel.parts) (notes_of kernel.notes) };
 
-    ghost state = { λ kernel. memory_of (record {
-      areas = kernel.parts.areas;
-      tables = kernel.parts.tables;
-      supply = state_of (record {
-        made = kernel.parts.supply.pool.stack.made;
-        free = kernel.parts.supply.pool.stack.free;
-        asks = kernel.parts.supply.pool.asks;
-        policies = [];
-      }) kernel.parts.supply.asker kernel.parts.supply.refused kernel.parts.supply.pending;
-      snapshot = kernel.parts.snapshot;
-      last = kernel.parts.last;
-    }) kernel.notes.most.value };
+    ghost state = { λ kernel. kernel_memory (parts_of kernel.parts) (notes_of kernel.notes) };
 
     fn read(&mut self, addr: u64, buf: &mut [u8]) -> Result<(), Fault> {
         if buf.is_empty() {
@@ -55,8 +31,6 @@ impl Memory for Kernel {
         if len == 0 {
             return Ok(());
         }
-        // Tells a proof that the count is one of 64 bits.
-        let _ = self.parts.refused();
         let before = Snapshot::of(&self.parts.tables);
         let answer = self.parts.touch(addr, len);
         self.notes.touched(&before, addr, len, &answer);
@@ -68,20 +42,14 @@ impl Memory for Kernel {
     }
 
     fn map(&mut self, first: u64, pages: u64, perm: Perm) -> Result<(), Fault> {
-        // Tells a proof that the count is one of 64 bits.
-        let _ = self.parts.refused();
         area_answer(self.parts.map(first, pages, perm))
     }
 
     fn unmap(&mut self, first: u64, pages: u64) -> Result<(), Fault> {
-        // Tells a proof that the count is one of 64 bits.
-        let _ = self.parts.refused();
         area_answer(self.parts.unmap(first, pages))
     }
 
     fn protect(&mut self, first: u64, pages: u64, perm: Perm) -> Result<(), Fault> {
-        // Tells a proof that the count is one of 64 bits.
-        let _ = self.parts.refused();
         area_answer(self.parts.protect(first, pages, perm))
     }
 }

@@ -1,6 +1,6 @@
 //! What contracts alone know of a kernel. No code reads it, and it takes no bytes.
 ghost use Rattle.std.specs.Prelude.{◌≡◌, IfOk, OnErr};
-ghost use Rattle.trace_core.specs.KernelSeen.{most_behind_touch, IsNoted, is_new_fork};
+ghost use Rattle.trace_core.specs.KernelSeen.{most_behind_touch, IsNoted, is_new_fork, enough_behind, notes_of};
 
 use noted_value::{Note, note_down};
 use page_tables::PageTables;
@@ -8,13 +8,15 @@ use std::snapshot::Snapshot;
 use trace_events::{Event, Outcome};
 use vm_base::{Fault, NoMemory};
 
-/// The most frames of the kernel's own that it has had, or that a touch has asked for; and for the
-/// snapshot that lives, the page tables at its fork and the refused requests then.
+/// The most frames of the kernel's own that it has had, or that a touch has asked for; for the
+/// snapshot that lives, the page tables at its fork and the refused requests then; and how many
+/// frames are enough, where that is told.
 #[derive(Drop)]
 pub(crate) struct Notes {
     pub(crate) most: Snapshot<u64>,
     pub(crate) forked: Snapshot<PageTables>,
     pub(crate) born: Snapshot<u64>,
+    pub(crate) enough: Snapshot<Option<u64>>,
 }
 
 /// An event that was answered, over the tables before it.
@@ -52,13 +54,16 @@ impl<'a> Note for Touched<'a> {
 
 impl Notes {
     /// The notes of a kernel that has had no frame.
-    pub(crate) fn new(tables: &PageTables) -> Notes
+    pub(crate) fn new(tables: &PageTables, enough: Option<u64>) -> Notes
         ensures most { result.most.value ≡ 0 }
+        ensures born { result.born.value ≡ 0 }
+        ensures enough { result.enough.value ≡ enough }
     {
         Notes {
             most: Snapshot::of(&0),
             forked: Snapshot::of(tables),
             born: Snapshot::of(&0),
+            enough: Snapshot::of(&enough),
         }
     }
 
@@ -73,21 +78,36 @@ impl Notes {
         refused: u64,
     )
         ensures ok { IfOk answer.now (λ outcome. IsNoted before.now.value event.now outcome tables.now refused
-            (record { most = self.old.most.value; forked = self.old.forked.value; born = self.old.born.value })
-            (record { most = self.new.most.value; forked = self.new.forked.value; born = self.new.born.value })) }
+            (notes_of self.old) (notes_of self.new)) }
         ensures err { OnErr answer.now (self.new ≡ self.old) }
     {
         if let Ok(outcome) = answer {
-            let answered = Answered {
-                before,
-                event,
-                outcome,
-            };
-            note_down(&mut self.most, &answered);
-            if is_new_fork(event, outcome) {
-                self.forked(tables, refused);
-            }
+            self.ran(before, event, outcome, tables, refused);
         }
+    }
+
+    /// An event ran and had this outcome, and the tables and the refused requests are these behind
+    /// it.
+    pub(crate) fn ran(
+        &mut self,
+        before: &Snapshot<PageTables>,
+        event: &Event,
+        outcome: &Outcome,
+        tables: &PageTables,
+        refused: u64,
+    )
+        ensures { IsNoted before.now.value event.now outcome.now tables.now refused (notes_of self.old) (notes_of self.new) }
+    {
+        let answered = Answered {
+            before,
+            event,
+            outcome,
+        };
+        note_down(&mut self.most, &answered);
+        if is_new_fork(event, outcome) {
+            self.forked(tables, refused);
+        }
+        self.named(event);
     }
 
     /// A touch of a range of bytes was answered.
@@ -101,6 +121,7 @@ impl Notes {
         ensures most { self.new.most.value ≡ most_behind_touch before.now.value addr len self.old.most.value answer.now }
         ensures forked { self.new.forked.value ≡ self.old.forked.value }
         ensures born { self.new.born.value ≡ self.old.born.value }
+        ensures enough { self.new.enough.value ≡ self.old.enough.value }
     {
         let touched = Touched {
             before,
@@ -116,9 +137,22 @@ impl Notes {
         ensures most { self.new.most.value ≡ self.old.most.value }
         ensures forked { self.new.forked.value ≡ tables.now }
         ensures born { self.new.born.value ≡ refused }
+        ensures enough { self.new.enough.value ≡ self.old.enough.value }
     {
         self.forked = Snapshot::of(tables);
         self.born = Snapshot::of(&refused);
+    }
+
+    // Where a request is named to be refused, it is no longer told how many frames are enough.
+    fn named(&mut self, event: &Event)
+        ensures enough { self.new.enough.value ≡ enough_behind event.now self.old.enough.value }
+        ensures most { self.new.most.value ≡ self.old.most.value }
+        ensures forked { self.new.forked.value ≡ self.old.forked.value }
+        ensures born { self.new.born.value ≡ self.old.born.value }
+    {
+        if let Event::Refuse { .. } = event {
+            self.enough = Snapshot::of(&None);
+        }
     }
 }
 

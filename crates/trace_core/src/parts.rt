@@ -37,6 +37,7 @@ pub(crate) struct Parts {
     pub(crate) added: Vec<u64>,
 
     ghost room: { 1025 ≤ vec_capacity added },
+    ghost numbered: { last ≤ 4294967295 },
 }
 
 /// What clauses may know of a value with a kernel in it.

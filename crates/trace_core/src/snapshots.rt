@@ -3,9 +3,10 @@ ghost use Rattle.std.specs.Prelude.{◌≡◌, ◌+◌, ◌<◌, ◌≤◌, ◌^
 ghost use Rattle.vm_base.specs.declared.fork_mode.Mode.TheVariants.{Eager};
 ghost use Rattle.vm_base.specs.TwoSides.{snap_read_of};
 ghost use Rattle.kernel_meaning.specs.Leaves.{holds_number};
+ghost use Rattle.trace_events.specs.declared.outcome.Outcome.TheVariants.{TooMany};
 ghost use Rattle.trace_core.specs.KernelState.{Machine, KernelState};
 ghost use Rattle.trace_core.specs.EventMeaning.{fork_end, copy_end_of, drop_end};
-ghost use Rattle.trace_core.specs.KernelStanding.{KernelStands, EventRan, kept_number};
+ghost use Rattle.trace_core.specs.KernelStanding.{IsKernel, KernelStands, EventRan, kept_number};
 ghost use Rattle.trace_core.specs.SnapshotAnswers.{snap_read_answer, KeepsUnlessLost};
 
 use crate::parts::{Parts, SnapshotAreas, Standing};
@@ -19,9 +20,10 @@ impl Parts {
     /// which the parent has a page. One snapshot may live at a time. After a refusal there is none,
     /// and what was granted has gone back.
     pub fn fork(&mut self, number: u32) -> Outcome
-        requires stands { ∥ ((machine : Machine) × ((state : KernelState) × KernelStands (⟦<Parts as Standing>⟧.parts self.old) machine state)) ∥₁ }
+        requires stands { ∥ IsKernel (⟦<Parts as Standing>⟧.parts self.old) ∥₁ }
         ensures ran { (machine : Machine) (state : KernelState) → KernelStands (⟦<Parts as Standing>⟧.parts self.old) machine state
             → EventRan (⟦<Parts as Standing>⟧.parts self.old) (⟦<Parts as Standing>⟧.parts self.new) machine (λ answers. fork_end machine state answers number Eager) result }
+        ensures full { result ≡ TooMany → ⟦<Parts as Standing>⟧.parts self.new ≡ ⟦<Parts as Standing>⟧.parts self.old }
     {
         if self.snapshot.is_some() {
             return Outcome::TooMany;
@@ -45,7 +47,7 @@ impl Parts {
     /// cell that the snapshot has lost is told.
     pub fn copy(&mut self, number: u32, cell: u32) -> Outcome
         requires cell { cell < 2 ^ 27 }
-        requires stands { ∥ ((machine : Machine) × ((state : KernelState) × KernelStands (⟦<Parts as Standing>⟧.parts self.old) machine state)) ∥₁ }
+        requires stands { ∥ IsKernel (⟦<Parts as Standing>⟧.parts self.old) ∥₁ }
         ensures ran { (machine : Machine) (state : KernelState) → KernelStands (⟦<Parts as Standing>⟧.parts self.old) machine state
             → EventRan (⟦<Parts as Standing>⟧.parts self.old) (⟦<Parts as Standing>⟧.parts self.new) machine (λ answers. copy_end_of state answers number cell) result }
     {
@@ -60,7 +62,7 @@ impl Parts {
 
     /// Drops the snapshot of this number, and gives back what it alone holds.
     pub fn drop_snapshot(&mut self, number: u32) -> Outcome
-        requires stands { ∥ ((machine : Machine) × ((state : KernelState) × KernelStands (⟦<Parts as Standing>⟧.parts self.old) machine state)) ∥₁ }
+        requires stands { ∥ IsKernel (⟦<Parts as Standing>⟧.parts self.old) ∥₁ }
         ensures ran { (machine : Machine) (state : KernelState) → KernelStands (⟦<Parts as Standing>⟧.parts self.old) machine state
             → EventRan (⟦<Parts as Standing>⟧.parts self.old) (⟦<Parts as Standing>⟧.parts self.new) machine (λ answers. drop_end state answers number) result }
     {
@@ -77,7 +79,7 @@ impl Parts {
     pub fn snap_read(&self, number: u32, addr: u64, buf: &mut [u8]) -> Result<(), SnapshotFault>
         requires some { 0 < length buf.old }
         requires range { addr + length buf.old ≤ 2 ^ 48 }
-        requires stands { ∥ ((machine : Machine) × ((state : KernelState) × KernelStands (⟦<Parts as Standing>⟧.parts self.now) machine state)) ∥₁ }
+        requires stands { ∥ IsKernel (⟦<Parts as Standing>⟧.parts self.now) ∥₁ }
         ensures read { (machine : Machine) (state : KernelState) → KernelStands (⟦<Parts as Standing>⟧.parts self.now) machine state
             → snap_read_of state.world number addr (length buf.old) ≡ snap_read_answer result buf.new }
         ensures kept { KeepsUnlessLost result buf.old buf.new }

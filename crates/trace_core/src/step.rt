@@ -8,7 +8,7 @@ ghost use Rattle.kernel_meaning.specs.RefusedRequests.{PolicySum};
 ghost use Rattle.trace_core.specs.KernelState.{Machine, KernelState};
 ghost use Rattle.trace_core.specs.EventMeaning.{snap_read_outcome};
 ghost use Rattle.trace_core.specs.SnapshotAnswers.{snap_refusal};
-ghost use Rattle.trace_core.specs.KernelStanding.{KernelStands};
+ghost use Rattle.trace_core.specs.KernelStanding.{IsKernel, KernelStands};
 ghost use Rattle.trace_core.specs.KernelRun.{Ran, HasRun};
 
 use crate::parts::{Parts, Standing};
@@ -21,7 +21,7 @@ impl Parts {
     /// Runs an event whose fields lie within their bounds. After `NoMemory` nothing has happened.
     pub fn step(&mut self, alloc: Global, event: &Event) -> Result<Outcome, NoMemory>
         requires within { IsWithinBounds event.now }
-        requires stands { ∥ ((machine : Machine) × ((state : KernelState) × KernelStands (⟦<Parts as Standing>⟧.parts self.old) machine state)) ∥₁ }
+        requires stands { ∥ IsKernel (⟦<Parts as Standing>⟧.parts self.old) ∥₁ }
         ensures ran { IfOk result (Ran (⟦<Parts as Standing>⟧.parts self.old) (⟦<Parts as Standing>⟧.parts self.new) event.now) }
 
         // A run goes on by this event and its answer, whatever was run before.
@@ -35,7 +35,7 @@ impl Parts {
 
     fn run_event(&mut self, alloc: Global, event: &Event) -> Result<Outcome, NoMemory>
         requires within { IsWithinBounds event.now }
-        requires stands { ∥ ((machine : Machine) × ((state : KernelState) × KernelStands (⟦<Parts as Standing>⟧.parts self.old) machine state)) ∥₁ }
+        requires stands { ∥ IsKernel (⟦<Parts as Standing>⟧.parts self.old) ∥₁ }
         ensures ran { IfOk result (Ran (⟦<Parts as Standing>⟧.parts self.old) (⟦<Parts as Standing>⟧.parts self.new) event.now) }
         ensures kept { OnErr result (⟦<Parts as Standing>⟧.parts self.new ≡ ⟦<Parts as Standing>⟧.parts self.old) }
     {
@@ -61,7 +61,7 @@ impl Parts {
     fn read_event(&self, alloc: Global, addr: u64, len: u32) -> Result<Outcome, NoMemory>
         requires some { 0 < len }
         requires range { addr + len ≤ 2 ^ 48 }
-        requires stands { ∥ ((machine : Machine) × ((state : KernelState) × KernelStands (⟦<Parts as Standing>⟧.parts self.now) machine state)) ∥₁ }
+        requires stands { ∥ IsKernel (⟦<Parts as Standing>⟧.parts self.now) ∥₁ }
         ensures ran { IfOk result (Ran (⟦<Parts as Standing>⟧.parts self.now) (⟦<Parts as Standing>⟧.parts self.now) (event.Read addr len)) }
     {
         let mut buf = vec![in alloc; 0; len as usize]?;
@@ -80,7 +80,7 @@ impl Parts {
     ) -> Result<Outcome, NoMemory>
         requires some { 0 < len }
         requires range { addr + len ≤ 2 ^ 48 }
-        requires stands { ∥ ((machine : Machine) × ((state : KernelState) × KernelStands (⟦<Parts as Standing>⟧.parts self.now) machine state)) ∥₁ }
+        requires stands { ∥ IsKernel (⟦<Parts as Standing>⟧.parts self.now) ∥₁ }
         ensures ran { IfOk result (Ran (⟦<Parts as Standing>⟧.parts self.now) (⟦<Parts as Standing>⟧.parts self.now) (event.SnapRead number addr len)) }
     {
         let mut buf = vec![in alloc; 0; len as usize]?;

@@ -1,5 +1,5 @@
 //! Where the kernel's frames come from.
-ghost use Rattle.std.specs.Prelude.{◌≡◌, ◌+◌, map, Some, IfOk};
+ghost use Rattle.std.specs.Prelude.{◌≡◌, ◌+◌, ◌-◌, ◌^◌, ◌≤◌, map, Some, IfOk};
 ghost use Rattle.vm_base.specs.Counts.{next_count};
 ghost use Rattle.frame_pool.specs.Policies.{standing};
 ghost use Rattle.trace_core.specs.SupplyState.{SupplyState, state_of, opening_supply, policy_sum, is_next, pending_behind, SupplyGoes};
@@ -22,6 +22,7 @@ pub struct Supply {
     pending: Option<u32>,
 
     ghost all: { pool.stack.made ≡ frames },
+    ghost counted: { refused ≤ 2 ^ 64 - 1 },
 }
 
 impl Supply {

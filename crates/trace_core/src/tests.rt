@@ -1,8 +1,15 @@
-//! A supply, and the kernel as a memory, at concrete values.
-use crate::{Kernel, Supply};
+//! A supply, and the kernel as a memory, a process and a nest, at concrete values.
+ghost use Rattle.std.specs.Prelude.{IsTrue};
+ghost use Rattle.kernel_meaning.specs.Leaves.{holds_number};
+ghost use Rattle.trace_core.specs.KernelStanding.{kept_number};
+
+use crate::{Kernel, SoloChild, Supply};
 use frame_pool::{DenyNth, FramePolicy, SnapQuota};
 use std::test::Fail;
-use vm_base::{Allot, Asker, Fault, Frame, Memory, Perm, Refused, Want, write_at};
+use vm_base::{
+    Allot, Asker, CopyFault, Fault, ForkFault, Frame, Memory, Mode, Nest, Perm, Process, Refused,
+    SnapFault, Step, Want, fork_and_write, read_child, reap_one, write_at,
+};
 
 // The count of a refusal, where there was one.
 fn refusal(answer: Result<Frame, Refused>) -> Option<u64> {
@@ -87,5 +94,86 @@ fn the_kernel_is_a_memory(rt: HostRuntime) -> Result<(), Fail> {
     );
     assert_eq!(rt; kernel.unmap(0x100, 1), Ok(()));
     assert_eq!(rt; kernel.held(), 0);
+    Ok(())
+}
+
+// What a snapshot tells before it is reaped: a byte of it, and how copying it ends.
+#[derive(Clone, Copy, Debug, PartialEq, Eq)]
+struct Told {
+    read: Result<(), SnapFault>,
+    bytes: [u8; 1],
+    copied: Result<Step, CopyFault>,
+}
+
+// Reads a snapshot and copies it, and reaps it.
+fn told_and_reaped(kernel: &mut Kernel, mut child: SoloChild) -> Told
+    requires lives { IsTrue (holds_number (kept_number kernel.old.parts.snapshot) child.number) }
+{
+    let number = child.number;
+    let copied = kernel.child_copy(&mut child);
+    let mut bytes = [7; 1];
+    let read = read_child(kernel, &mut child, 0x10_0000, &mut bytes);
+    // No clause of the reader says that the number is as it was.
+    let SoloChild { number: _ } = child;
+    reap_one(kernel, SoloChild { number });
+    Told {
+        read,
+        bytes,
+        copied,
+    }
+}
+
+// What a snapshot tells that is forked before a byte is written.
+fn told_by_a_child(kernel: &mut Kernel) -> Option<Told> {
+    match fork_and_write(kernel, 0x10_0000, b"b") {
+        Ok(child) => Some(told_and_reaped(kernel, child)),
+        Err(_) => None,
+    }
+}
+
+#[test]
+fn the_kernel_is_a_process_and_a_nest(rt: HostRuntime) -> Result<(), Fail> {
+    let mut kernel = Kernel::new(rt.alloc(), 64, 8, 6, Vec::new(rt.alloc()))?;
+    assert_eq!(rt; kernel.map(0x100, 2, Perm::ReadWrite), Ok(()));
+    assert_eq!(rt; write_at(&mut kernel, 0x10_0000, b"a"), Ok(()));
+    let whole = Told {
+        read: Ok(()),
+        bytes: [97],
+        copied: Ok(Step::AllDone),
+    };
+    assert_eq!(rt; told_by_a_child(&mut kernel), Some(whole));
+    assert_eq!(rt; kernel.live(), 0);
+    assert_eq!(rt; kernel.last(), 7);
+    assert_eq!(rt; kernel.held(), 5);
+    Ok(())
+}
+
+#[test]
+fn no_number_is_left_behind_the_last(rt: HostRuntime) -> Result<(), Fail> {
+    let mut kernel = Kernel::new(rt.alloc(), 64, 8, 4_294_967_295, Vec::new(rt.alloc()))?;
+    match kernel.fork(Mode::Eager) {
+        Ok(child) => {
+            let _ = told_and_reaped(&mut kernel, child);
+            assert!(rt; false);
+        }
+        Err(fault) => assert_eq!(rt; fault, ForkFault::NumbersSpent),
+    }
+    Ok(())
+}
+
+#[test]
+fn a_lost_cell_is_told_by_a_read_and_by_a_copy(rt: HostRuntime) -> Result<(), Fail> {
+    let mut policies: Vec<Box<dyn FramePolicy + Send>> = Vec::new(rt.alloc());
+    // The touch of the page takes five frames and the fork four: the tenth is the copy.
+    policies.push(Box::new(rt.alloc(), DenyNth::new(10))?)?;
+    let mut kernel = Kernel::new(rt.alloc(), 64, 8, 0, policies)?;
+    assert_eq!(rt; kernel.map(0x100, 2, Perm::ReadWrite), Ok(()));
+    assert_eq!(rt; write_at(&mut kernel, 0x10_0000, b"a"), Ok(()));
+    let lost = Told {
+        read: Err(SnapFault::Lost { at: 1 }),
+        bytes: [7],
+        copied: Err(CopyFault::Lost { at: 1 }),
+    };
+    assert_eq!(rt; told_by_a_child(&mut kernel), Some(lost));
     Ok(())
 }

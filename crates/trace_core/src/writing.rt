@@ -6,7 +6,7 @@ ghost use Rattle.area_list.specs.Answers.{refusal_of};
 ghost use Rattle.trace_events.specs.declared.outcome.Outcome.TheVariants.{Done};
 ghost use Rattle.trace_core.specs.KernelState.{Machine, KernelState};
 ghost use Rattle.trace_core.specs.EventMeaning.{refusal_outcome, mapped, touch_judged, written};
-ghost use Rattle.trace_core.specs.KernelStanding.{KernelStands, EventRan, read_answer};
+ghost use Rattle.trace_core.specs.KernelStanding.{IsKernel, KernelStands, EventRan, read_answer};
 ghost use Rattle.trace_core.specs.TouchAnswers.{fault_outcome, touch_outcome, IsReadyKernel, LeavesReady, LacksPage, with_stored};
 
 use crate::parts::{Parts, Standing};
@@ -40,7 +40,7 @@ impl Parts {
     pub fn read(&self, addr: u64, buf: &mut [u8]) -> Result<(), NoArea>
         requires some { 0 < length buf.old }
         requires range { addr + length buf.old ≤ 2 ^ 48 }
-        requires stands { ∥ ((machine : Machine) × ((state : KernelState) × KernelStands (⟦<Parts as Standing>⟧.parts self.now) machine state)) ∥₁ }
+        requires stands { ∥ IsKernel (⟦<Parts as Standing>⟧.parts self.now) ∥₁ }
         ensures read { (machine : Machine) (state : KernelState) → KernelStands (⟦<Parts as Standing>⟧.parts self.now) machine state
             → read_of state.world.parent addr (length buf.old) ≡ read_answer result buf.new }
         ensures kept { IfErr result (λ refused. buf.new ≡ buf.old) }
@@ -61,7 +61,7 @@ impl Parts {
         requires some { 0 < len }
         requires few { len ≤ 4194304 }
         requires range { addr + len ≤ 2 ^ 48 }
-        requires stands { ∥ ((machine : Machine) × ((state : KernelState) × KernelStands (⟦<Parts as Standing>⟧.parts self.old) machine state)) ∥₁ }
+        requires stands { ∥ IsKernel (⟦<Parts as Standing>⟧.parts self.old) ∥₁ }
         ensures ran { (machine : Machine) (state : KernelState) → KernelStands (⟦<Parts as Standing>⟧.parts self.old) machine state
             → EventRan (⟦<Parts as Standing>⟧.parts self.old) (⟦<Parts as Standing>⟧.parts self.new) machine
             (λ answers. touch_judged machine state answers addr len (touch_of state.world.parent addr len)) (touch_outcome result) }
@@ -119,7 +119,7 @@ impl Parts {
         requires some { 0 < length bytes.now }
         requires few { length bytes.now ≤ 4194304 }
         requires range { addr + length bytes.now ≤ 2 ^ 48 }
-        requires stands { ∥ ((machine : Machine) × ((state : KernelState) × KernelStands (⟦<Parts as Standing>⟧.parts self.old) machine state)) ∥₁ }
+        requires stands { ∥ IsKernel (⟦<Parts as Standing>⟧.parts self.old) ∥₁ }
         ensures ran { (machine : Machine) (state : KernelState) → KernelStands (⟦<Parts as Standing>⟧.parts self.old) machine state
             → EventRan (⟦<Parts as Standing>⟧.parts self.old) (⟦<Parts as Standing>⟧.parts self.new) machine (λ answers. written machine state answers addr bytes.now) result }
     {
@@ -143,7 +143,7 @@ impl Parts {
         requires some { 0 < len }
         requires few { len ≤ 4194304 }
         requires range { addr + len ≤ 2 ^ 48 }
-        requires stands { ∥ ((machine : Machine) × ((state : KernelState) × KernelStands (⟦<Parts as Standing>⟧.parts self.old) machine state)) ∥₁ }
+        requires stands { ∥ IsKernel (⟦<Parts as Standing>⟧.parts self.old) ∥₁ }
         ensures ran { IfOk result (λ outcome. (machine : Machine) (state : KernelState) → KernelStands (⟦<Parts as Standing>⟧.parts self.old) machine state
             → EventRan (⟦<Parts as Standing>⟧.parts self.old) (⟦<Parts as Standing>⟧.parts self.new) machine (λ answers. written machine state answers addr (replicate len byte)) outcome) }
         ensures kept { OnErr result (⟦<Parts as Standing>⟧.parts self.new ≡ ⟦<Parts as Standing>⟧.parts self.old) }

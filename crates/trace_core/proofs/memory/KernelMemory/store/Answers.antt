@@ -1,5 +1,9 @@
-use Rattle.std.proofs.Common.{arith}
+use Rattle.std.proofs.Common.{◌<◌, sym, ap, subst, arith}
+use Rattle.std.specs.Prelude.{IsTrue}
 use Rattle.trace_core.proofs.SoundSteps.{noted-under}
+use Rattle.trace_core.specs.KernelSeen.{notes_of}
+use Rattle.trace_core.proofs.HeldNotes.{store-holds, holds-under, under-holds}
+use Rattle.trace_core.proofs.PlainPools.{plain-still}
 use Rattle.trace_core.proofs.KernelTouches.{bytes-fit, known-ready, known-stored, store-stores, store-kept}
 use Rattle.trace_core.proofs.memory.KernelMemory.store.Goals as goal
 
@@ -8,11 +12,23 @@ pub store-requires-clause-ready : goal.store-requires-clause-ready
 store-requires-clause-ready g c = known-ready _ _ c.args.addr c.args.bytes.now (noted-under _ _ _ c.args.self.now.stood) c.requires.ready
 
 -- src/memory.rt:65:9
-pub invariant_of-self : goal.invariant_of-self
-invariant_of-self g c = record {
-  stood = noted-under _ _ _ (known-stored _ _ c.args.addr c.args.bytes.now (noted-under _ _ _ c.args.self.now.stood) c.requires.ready _ c.store.ensures.stored
-      (bytes-fit c.args.bytes.now c.type_inv.bytes));
-}
+pub invariant_of-self-clause-stood : goal.invariant_of-self-clause-stood
+invariant_of-self-clause-stood g c =
+    noted-under _ _ _ (known-stored _ _ c.args.addr c.args.bytes.now (noted-under _ _ _ c.args.self.now.stood) c.requires.ready _ c.store.ensures.stored
+    (bytes-fit c.args.bytes.now c.type_inv.bytes))
+
+pub invariant_of-self-clause-held : goal.invariant_of-self-clause-held
+invariant_of-self-clause-held g c =
+    holds-under _ _ _ (store-holds _ _ (notes_of c.args.self.now.notes) c.args.addr c.args.bytes.now (noted-under _ _ _ c.args.self.now.stood) c.store.ensures.stored c.store.ensures.others c.args.self.now.parts.supply.counted
+    (under-holds _ _ _ c.args.self.now.held))
+
+pub invariant_of-self-clause-reached : goal.invariant_of-self-clause-reached
+invariant_of-self-clause-reached g c =
+    λ rose. c.args.self.now.reached (subst (λ count. 0 < count) (ap (λ parts. parts.supply.refused) c.store.ensures.others) rose)
+
+pub invariant_of-self-clause-plain : goal.invariant_of-self-clause-plain
+invariant_of-self-clause-plain g c =
+    plain-still _ _ _ _ _ (λ empty. subst (λ parts. IsTrue parts.supply.policies.is_empty) (sym c.store.ensures.others) empty) (λ value told. told) c.args.self.now.plain
 
 -- src/memory.rt:64:5
 pub returns-clause-stored : goal.returns-clause-stored
@@ -23,4 +39,4 @@ returns-clause-stored g c =
 pub returns-clause-keeps : goal.returns-clause-keeps
 returns-clause-keeps g c =
     store-kept _ _ c.args.addr c.args.bytes.now (noted-under _ _ _ c.args.self.now.stood) c.requires.ready _ c.store.ensures.stored c.store.ensures.others
-    (bytes-fit c.args.bytes.now c.type_inv.bytes) (omega arith) (omega arith)
+    (bytes-fit c.args.bytes.now c.type_inv.bytes) (omega arith) (omega arith) (λ rose. c.args.self.now.reached (subst (λ count. 0 < count) (ap (λ parts. parts.supply.refused) c.store.ensures.others) rose))

@@ -1,9 +1,11 @@
-use Rattle.std.proofs.Common.{sym, ◌∙◌, ap}
+use Rattle.std.proofs.Common.{refl, sym, ◌∙◌, ap}
+use Rattle.std.proofs.lemmas.Bool.{false≢true}
 use Rattle.kernel_meaning.specs.EventRequests.{FrameRefusal}
 use Rattle.std.specs.Prelude.{None}
 use Rattle.trace_core.specs.KernelStanding.{kept_number, sides_of}
 use Rattle.trace_core.proofs.Forks.{ran-too-many, ran-unforked, ran-forked}
 use Rattle.trace_core.proofs.OneSnapshot.{nothing-there}
+use Rattle.trace_core.proofs.SeenForks.{is_too_many}
 use Rattle.trace_core.proofs.Writes.{moved-alike, moved-even}
 use Rattle.trace_core.proofs.Known.{none-numbered, known-snapshot, known-tables, known-lent}
 use Rattle.trace_core.proofs.parts.Parts.fork.Goals as goal
@@ -21,7 +23,10 @@ fork-requires-clause-lent g c = known-lent _ c.requires.stands
 
 -- src/snapshots.rt:27:13
 pub returns-then-is_some : goal.returns-then-is_some
-returns-then-is_some g c = record { ran = λ machine state st. ran-too-many _ machine state st c.args.number (sym c.is_some.ensures ∙ c.if-is_some.true) }
+returns-then-is_some g c = record {
+  ran = λ machine state st. ran-too-many _ machine state st c.args.number (sym c.is_some.ensures ∙ c.if-is_some.true);
+  full = λ e. refl;
+}
 
 -- src/snapshots.rt:21:5
 pub returns-in-Ok : goal.returns-in-Ok
@@ -34,6 +39,7 @@ returns-in-Ok g c = record {
       (moved-alike _ _ _ _ c.fork.ensures.held st.out)
       (c.fork.ensures.slots ∙ st.slots)
       c.in-Ok.ensures.lives c.copy.result c.copy.ensures;
+  full = λ e. absurd (false≢true (ap is_too_many e));
 }
 
 -- src/snapshots.rt:21:5
@@ -48,4 +54,5 @@ returns-in-Err g c = record {
       (moved-alike _ _ _ _ c.fork.ensures.held st.out)
       (c.fork.ensures.slots ∙ st.slots)
       c.in-Err.ensures.kept;
+  full = λ e. absurd (false≢true (ap is_too_many e));
 }

@@ -1,6 +1,8 @@
-use Rattle.std.proofs.Common.{refl}
+use Rattle.std.proofs.Common.{refl, sym, ◌∙◌, ap}
+use Rattle.std.proofs.lemmas.Bool.{false≢true}
 use Rattle.area_list.specs.Answers.{refusal_of}
 use Rattle.trace_core.proofs.AreaChanges.{with_areas-same, ran-protect_refused, ran-protected_entries}
+use Rattle.trace_core.proofs.SeenChanges.{is_done, refusal-undone}
 use Rattle.trace_core.proofs.Known.{known-tables}
 use Rattle.trace_core.proofs.parts.Parts.protect.Goals as goal
 
@@ -22,3 +24,9 @@ returns-in-Ok-clause-refused g c = λ undone. absurd (undone refl)
 
 pub returns-in-Err-clause-refused : goal.returns-in-Err-clause-refused
 returns-in-Err-clause-refused g c = λ undone. with_areas-same _ c.protect.new.self c.in-Err.ensures.answer.1
+
+pub returns-in-Ok-clause-writable : goal.returns-in-Ok-clause-writable
+returns-in-Ok-clause-writable g c = λ done. c.protect-in-Ok.ensures.writable
+
+pub returns-in-Err-clause-writable : goal.returns-in-Err-clause-writable
+returns-in-Err-clause-writable g c = λ done. absurd (false≢true (sym (refusal-undone (refusal_of c.in-Err.fault)) ∙ ap is_done (sym c.outcome_of.ensures ∙ done)))

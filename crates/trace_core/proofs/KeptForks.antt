@@ -35,11 +35,11 @@ use Rattle.trace_core.specs.Answering.{AreCounted}
 use Rattle.trace_core.specs.KernelState.{Machine, KernelState}
 use Rattle.trace_core.specs.EventMeaning.{EventEnd, only_answers, begun, parent_end, fork_answered, fork_end, is_live, drop_end}
 use Rattle.trace_core.specs.KernelStanding.{KernelParts, KernelStands, EventRan, kept_number, sides_of}
-use Rattle.trace_core.specs.KernelSeen.{KernelNotes, IsSound, AreForkedFrom, parent_of, memory_of}
+use Rattle.trace_core.specs.KernelSeen.{KernelNotes, IsSound, AreForkedFrom, parent_of, memory_of, children_of}
 use Rattle.trace_core.proofs.OneSnapshot.{live-is}
 use Rattle.trace_core.proofs.SeenTables.{seen-ready, ready-seen}
 use Rattle.trace_core.proofs.KernelMemories.{sound-memory}
-use Rattle.kernel_laws.proofs.SeenForks.{children_of, stands-parent, fork-parent, drop-parent, unforked-may, forked-lives, forked-number, forked-there}
+use Rattle.trace_core.proofs.SeenForks.{stands-parent, fork-parent, drop-parent, unforked-may, forked-lives, forked-number, forked-there}
 use Rattle.trace_core.proofs.SeenChanges.{IsWithin, AreHad, had-where, with-had, used-within, was-there, IsInBounds, deals-bounds}
 
 -- ---- the count of refused requests
@@ -426,7 +426,7 @@ module _ (old new : KernelParts) (machine : Machine) (state : KernelState) (stan
 
   -- where it lacked a frame
   pub unforked-fails : (mode : Mode) (most at : ℕ) → old.last < 4294967295 → EventRan old new machine (λ answers. fork_end machine state answers n mode) (NoFrame at)
-      → ForkFails (children_of old) (memory_of old most) (memory_of new most) (FrameLacking at)
+      → ForkFails (children_of old.snapshot old.last) (memory_of old most) (memory_of new most) (FrameLacking at)
   unforked-fails mode most at below ran =
       let count = unforked-count old new machine state n mode most most at ran in
       (unforked-may old new machine state stands n mode at ran below, count.0, count.1)

@@ -11,12 +11,11 @@ use Rattle.vm_base.specs.Deals.{Deal}
 use Rattle.vm_base.specs.FlatMemory.{PageMap, FlatMemory}
 use Rattle.vm_base.specs.TwoSides.{World, dropped}
 use Rattle.vm_base.specs.MemoryState.{IsListed}
-use Rattle.vm_base.specs.ProcessState.{Children, AreChildren, MayFork, Reaps, after_fork}
+use Rattle.vm_base.specs.ProcessState.{AreChildren, MayFork, Reaps, after_fork}
 use Rattle.vm_base.proofs.NumberedMaps.{get_inserted_here}
 use Rattle.kernel_meaning.specs.Leaves.{holds_number}
 use Rattle.kernel_meaning.specs.Requests.{answers_of}
 use Rattle.kernel_meaning.specs.EventRequests.{FrameRefusal, Progress, snapshot_forked, snapshot_dropped}
-use Rattle.page_tables.specs.declared.tables.PageTables.{PageTables}
 use Rattle.trace_events.specs.declared.event.Event.TheVariants.{Fork, Drop}
 use Rattle.trace_events.specs.declared.outcome.Outcome.{Outcome}
 use Rattle.trace_events.specs.declared.outcome.Outcome.TheVariants.{Done, NoFrame, TooMany}
@@ -24,33 +23,15 @@ use Rattle.trace_core.specs.declared.parts.SnapshotAreas.{SnapshotAreas}
 use Rattle.trace_core.specs.KernelState.{Machine, KernelState}
 use Rattle.trace_core.specs.EventMeaning.{only_answers, begun, parent_end, fork_answered, fork_end, is_live, drop_end}
 use Rattle.trace_core.specs.KernelStanding.{KernelParts, KernelStands, EventRan, kept_memories, kept_number, sides_of}
-use Rattle.trace_core.specs.KernelSeen.{KernelNotes, IsSound, pages_of, parent_of}
+use Rattle.trace_core.specs.KernelSeen.{KernelNotes, IsSound, pages_of, parent_of, live_numbers, children_of, kept_memory}
 use Rattle.trace_core.proofs.OneSnapshot.{live-is, lives-len, none-left}
 use Rattle.trace_core.proofs.SeenTables.{seen-pages}
 use Rattle.trace_core.proofs.SoundEvents.{event-parent}
 
--- the number of the snapshot that lives, if one does
-abbrev pub live_numbers : Option SnapshotAreas → List ℕ
-live_numbers None = []
-live_numbers (Some kept) = kept.number ∷ []
-
--- the children of a kernel: one may live
-abbrev pub children_of : KernelParts → Children
-children_of parts = record {
-  numbers = live_numbers parts.snapshot;
-  live = length (live_numbers parts.snapshot);
-  last = parts.last;
-  limit = 1;
-}
-
--- the memory of a snapshot, from the tables at its fork
-abbrev pub kept_memory : SnapshotAreas → PageTables → FlatMemory
-kept_memory kept forked = record { areas = kept.areas; present = pages_of forked }
-
 -- ---- the snapshot that lives
 
 -- a snapshot whose number is told
-number-held : (snapshot : Option SnapshotAreas) (n : ℕ) → holds_number (kept_number snapshot) n ≡ true → live_numbers snapshot ≡ n ∷ []
+pub number-held : (snapshot : Option SnapshotAreas) (n : ℕ) → holds_number (kept_number snapshot) n ≡ true → live_numbers snapshot ≡ n ∷ []
 number-held None n held = absurd (false≢true held)
 number-held (Some kept) n held =
     let same : kept.number ≡ n = (let t : eqb kept.number n ≡ true = held in grind (arith, nat_tests)) in
@@ -66,7 +47,7 @@ same-live None (Some kept) same = absurd (false≢true (same kept.number ∙ its
 same-live (Some kept) other same = sym (number-held other kept.number (sym (same kept.number) ∙ itself kept.number))
 
 -- a number that is listed is held
-listed-held : (snapshot : Option SnapshotAreas) (n : ℕ) → IsListed n (live_numbers snapshot) → holds_number (kept_number snapshot) n ≡ true
+pub listed-held : (snapshot : Option SnapshotAreas) (n : ℕ) → IsListed n (live_numbers snapshot) → holds_number (kept_number snapshot) n ≡ true
 listed-held None n listed = absurd (false≢true listed)
 listed-held (Some kept) n listed = by (kept.number == n) listed
   where
@@ -75,7 +56,7 @@ listed-held (Some kept) n listed = by (kept.number == n) listed
     by false e = e
 
 -- where none may be told to live, none does
-none-lives : (snapshot : Option SnapshotAreas) → nat_le 1 (cond (is_some snapshot) 1 0) ≡ false → snapshot ≡ None
+pub none-lives : (snapshot : Option SnapshotAreas) → nat_le 1 (cond (is_some snapshot) 1 0) ≡ false → snapshot ≡ None
 none-lives None few = refl
 none-lives (Some kept) few = absurd (false≢true (sym few))
 
@@ -91,14 +72,14 @@ module _ (parts : KernelParts) (machine : Machine) (state : KernelState) (st : K
       λ i. record { areas = sym st.areas i; present = present i }
 
   -- as many live as may, where one does
-  full-is : nat_le machine.limit (len state.world.snapshots) ≡ nat_le 1 (cond (is_some parts.snapshot) 1 0)
+  pub full-is : nat_le machine.limit (len state.world.snapshots) ≡ nat_le 1 (cond (is_some parts.snapshot) 1 0)
   full-is = λ i. nat_le (st.limit i) (lives-len parts.snapshot st.pages state.world.snapshots st.memories i)
 
-  lives-is : (n : ℕ) → contains_key state.world.snapshots n ≡ holds_number (kept_number parts.snapshot) n
+  pub lives-is : (n : ℕ) → contains_key state.world.snapshots n ≡ holds_number (kept_number parts.snapshot) n
   lives-is n = live-is parts.snapshot st.pages state.world.snapshots st.memories n
 
 -- the memory under the number of the snapshot that lives
-memory-under : (kept : SnapshotAreas) (pages : FinMap nat_cmp PageMap) (memories : FinMap nat_cmp FlatMemory) → kept_memories (Some kept) pages memories
+pub memory-under : (kept : SnapshotAreas) (pages : FinMap nat_cmp PageMap) (memories : FinMap nat_cmp FlatMemory) → kept_memories (Some kept) pages memories
     → (present : PageMap) × (get memories kept.number ≡ Some (record { areas = kept.areas; present = present }))
 memory-under kept pages memories its =
     (its.0, ap (λ m. get m kept.number) its.1.1 ∙ get_inserted_here empty kept.number (record { areas = kept.areas; present = its.0 }) kept.number refl)
@@ -115,7 +96,7 @@ module _ (parts : KernelParts) (notes : KernelNotes) (machine : Machine) (state 
       there.1 ∙ ap (λ present. Some (record { areas = kept.areas; present = present })) (sound.forked kept.number _ there.1).2
 
   -- its number is above 0, and was given out last
-  sound-number : (kept : SnapshotAreas) → parts.snapshot ≡ Some kept → (0 < kept.number) × (kept.number ≡ parts.last)
+  pub sound-number : (kept : SnapshotAreas) → parts.snapshot ≡ Some kept → (0 < kept.number) × (kept.number ≡ parts.last)
   sound-number kept lives =
       let given = sound.forked kept.number (kept_memory kept notes.forked) (sound-kept kept lives) in
       (given.0, given.1 ∙ sound.stands.last)
@@ -131,7 +112,7 @@ module _ (parts : KernelParts) (notes : KernelNotes) (machine : Machine) (state 
   few-live (Some kept) = omega arith
 
   -- the children of a sound kernel
-  pub sound-children : parts.last ≤ 4294967295 → AreChildren (children_of parts)
+  pub sound-children : parts.last ≤ 4294967295 → AreChildren (children_of parts.snapshot parts.last)
   sound-children last = record {
     count = refl;
     few = few-live parts.snapshot;
@@ -149,7 +130,7 @@ abbrev is_no_frame : Outcome → Bool
 is_no_frame (NoFrame at) = true
 is_no_frame other = false
 
-abbrev is_too_many : Outcome → Bool
+abbrev pub is_too_many : Outcome → Bool
 is_too_many TooMany = true
 is_too_many other = false
 
@@ -184,12 +165,12 @@ ok-memory {one = one} same = ap (λ result. elim result [ Ok value ↦ value | E
 
 -- children are told by their numbers and the last one
 children-are : (parts : KernelParts) (numbers : List ℕ) (last : ℕ) → live_numbers parts.snapshot ≡ numbers → parts.last ≡ last
-    → children_of parts ≡ record { numbers = numbers; live = length numbers; last = last; limit = 1 }
+    → children_of parts.snapshot parts.last ≡ record { numbers = numbers; live = length numbers; last = last; limit = 1 }
 children-are parts numbers last same given = λ i. record { numbers = same i; live = length (same i); last = given i; limit = 1 }
 
 -- where the world's snapshots and last number are as they were, so are the children
 same-children : (old new : KernelParts) (machine : Machine) (state after : KernelState) → KernelStands old machine state → KernelStands new machine after
-    → LeavesSnapshots state.world after.world → children_of new ≡ children_of old
+    → LeavesSnapshots state.world after.world → children_of new.snapshot new.last ≡ children_of old.snapshot old.last
 same-children old new machine state after st su same =
     children-are new (live_numbers old.snapshot) old.last
     (same-live new.snapshot old.snapshot (λ m. sym (lives-is new machine after su m) ∙ ap (λ snapshots. contains_key snapshots m) same.0 ∙ lives-is old machine state st m))
@@ -197,7 +178,7 @@ same-children old new machine state after st su same =
 
 module _ (old new : KernelParts) (machine : Machine) (state : KernelState) (st : KernelStands old machine state) (n : ℕ) (mode : Mode) where
   -- where none lives, another may
-  may-fork : nat_le machine.limit (len state.world.snapshots) ≡ false → old.last < 4294967295 → MayFork (children_of old)
+  may-fork : nat_le machine.limit (len state.world.snapshots) ≡ false → old.last < 4294967295 → MayFork (children_of old.snapshot old.last)
   may-fork few below = record {
     place = subst (λ snapshot. length (live_numbers snapshot) < 1) (sym (none-lives old.snapshot (sym (full-is old machine state st) ∙ few))) (omega arith);
     number = below;
@@ -219,7 +200,7 @@ module _ (old new : KernelParts) (machine : Machine) (state : KernelState) (st :
     shape = granted-shape state n ran.deals ran.after (nat_le machine.limit (len state.world.snapshots)) progress.refused progress ran.ends
 
     -- a fork was granted: another child might live, and a number was left
-    pub forked-may : old.last < 4294967295 → MayFork (children_of old)
+    pub forked-may : old.last < 4294967295 → MayFork (children_of old.snapshot old.last)
     forked-may below = may-fork shape.0 below
 
     -- the memory under its number is the parent's
@@ -230,7 +211,7 @@ module _ (old new : KernelParts) (machine : Machine) (state : KernelState) (st :
     forked-numbers = number-held new.snapshot n (sym (lives-is new machine ran.after ran.stands n) ∙ ap is_some forked-there)
 
     -- the children behind it have one more, with the next number
-    pub forked-children : n ≡ old.last + 1 → children_of new ≡ after_fork (children_of old)
+    pub forked-children : n ≡ old.last + 1 → children_of new.snapshot new.last ≡ after_fork (children_of old.snapshot old.last)
     forked-children next =
         let before : None ≡ old.snapshot = sym (none-lives old.snapshot (sym (full-is old machine state st) ∙ shape.0)) in
         children-are new (n ∷ []) n forked-numbers (sym ran.stands.last ∙ shape.1.1)
@@ -268,13 +249,13 @@ module _ (old new : KernelParts) (machine : Machine) (state : KernelState) (st :
         λ i. record { areas = areas i; present = pages i }
 
   -- too many live
-  pub full-live : EventRan old new machine (λ answers. fork_end machine state answers n mode) TooMany → (children_of old).live ≡ (children_of old).limit
+  pub full-live : EventRan old new machine (λ answers. fork_end machine state answers n mode) TooMany → (children_of old.snapshot old.last).live ≡ (children_of old.snapshot old.last).limit
   full-live ran =
       let progress : Progress = snapshot_forked n mode (begun state (answers_of ran.deals)) in
       let shape = full-shape state n ran.deals ran.after (nat_le machine.limit (len state.world.snapshots)) progress.refused progress ran.ends in
       one-lives old.snapshot (sym (full-is old machine state st) ∙ shape.0)
 
-  pub full-children : EventRan old new machine (λ answers. fork_end machine state answers n mode) TooMany → children_of new ≡ children_of old
+  pub full-children : EventRan old new machine (λ answers. fork_end machine state answers n mode) TooMany → children_of new.snapshot new.last ≡ children_of old.snapshot old.last
   full-children ran =
       let progress : Progress = snapshot_forked n mode (begun state (answers_of ran.deals)) in
       let shape = full-shape state n ran.deals ran.after (nat_le machine.limit (len state.world.snapshots)) progress.refused progress ran.ends in
@@ -288,11 +269,11 @@ module _ (old new : KernelParts) (machine : Machine) (state : KernelState) (st :
     unforked = refused-shape state n ran.deals ran.after at (nat_le machine.limit (len state.world.snapshots)) refused_progress.refused refused_progress ran.ends
 
     -- a frame was refused: no child is there
-    pub unforked-children : children_of new ≡ children_of old
+    pub unforked-children : children_of new.snapshot new.last ≡ children_of old.snapshot old.last
     unforked-children = same-children old new machine state ran.after st ran.stands unforked.1
 
     -- though another might have lived
-    pub unforked-may : old.last < 4294967295 → MayFork (children_of old)
+    pub unforked-may : old.last < 4294967295 → MayFork (children_of old.snapshot old.last)
     unforked-may below = may-fork unforked.0 below
 
 -- ---- a drop
@@ -311,7 +292,7 @@ module _ (old new : KernelParts) (machine : Machine) (state : KernelState) (st :
       (event-parent (λ memory. memory ≡ state.world.parent) machine state (answers_of ran.deals) refl (Drop n) (λ memory is. sym (ok-memory is))) in
       stands-parent new machine ran.after ran.stands ∙ same ∙ sym (stands-parent old machine state st)
 
-  module _ (lives : IsListed n (children_of old).numbers) where
+  module _ (lives : IsListed n (children_of old.snapshot old.last).numbers) where
     held : holds_number (kept_number old.snapshot) n ≡ true
     held = listed-held old.snapshot n lives
 
@@ -329,7 +310,7 @@ module _ (old new : KernelParts) (machine : Machine) (state : KernelState) (st :
     new-numbers = same-live new.snapshot None (λ m. sym (lives-is new machine ran.after ran.stands m) ∙ ap (λ snapshots. contains_key snapshots m) none-new ∙ ap is_some (get-empty nat_cmp m))
 
     -- the child of this number lives no more
-    pub dropped-children : Reaps (children_of old) (children_of new) n
+    pub dropped-children : Reaps (children_of old.snapshot old.last) (children_of new.snapshot new.last) n
     dropped-children = record {
       numbers = new-numbers ∙ sym (none-listed old.snapshot n held);
       live = ap (λ numbers. length numbers + 1) new-numbers ∙ sym (ap length (number-held old.snapshot n held));

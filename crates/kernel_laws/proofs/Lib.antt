@@ -1,3 +1,0 @@
-pub mod SeenForks
-pub mod KeptForks
-pub mod SeenNests

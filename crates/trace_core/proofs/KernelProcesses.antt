@@ -1,0 +1,337 @@
+-- A fork and a reap of the kernel do what clauses know of a process, whatever state it stands for.
+use Rattle.std.proofs.Common.{◌≡◌, ℕ, ◌+◌, ◌<◌, ◌≤◌, ◌^◌, List, [], ◌∷◌, length, Option, Some, None, Result, Ok, Err, refl, sym, ◌∙◌, ap, subst, arith, cond, inl, inr}
+use Rattle.std.specs.Prelude.{◌-◌, IsTrue, Bool, true, false, ◌==◌, nat_le, OnOk, IfOk, OnErr, IfErr}
+use Rattle.std.specs.Option.{ForSome}
+use Rattle.std.specs.Coded.{×_prop, le_prop}
+use Rattle.std.specs.Ordering.{nat_cmp}
+use Rattle.std.specs.FinMap.{len, len-empty}
+use Rattle.std.specs.List.{list_any}
+use Rattle.std.proofs.lemmas.Bool.{false≢true}
+use Rattle.std.proofs.Math.Logic.{∥∥₁_elim, ∥∥₁_map}
+use mathlib.Core.HLevel.{⊥_prop, ×₃_prop}
+use Rattle.vm_base.specs.declared.fork_mode.Mode.TheVariants.{Eager}
+use Rattle.vm_base.specs.declared.faults.ForkFault.{ForkFault}
+use Rattle.vm_base.specs.declared.faults.ForkFault.TheVariants.{NoFrame as FrameLacking, TooMany as TooManyLive}
+use Rattle.vm_base.specs.MemoryState.{IsKept, IsListed, KeepsReady}
+use Rattle.vm_base.specs.ProcessState.{Children, AreChildren, MayFork, ForkFails, LeavesMemory, LeavesAtReap, Reaps, HadRefusal, after_fork}
+use Rattle.kernel_meaning.specs.EventRequests.{FrameRefusal, Progress, snapshot_forked}
+use Rattle.kernel_meaning.specs.Requests.{answers_of}
+use Rattle.trace_events.specs.declared.event.Event.TheVariants.{Fork, Drop}
+use Rattle.trace_events.specs.declared.outcome.Outcome.{Outcome}
+use Rattle.trace_events.specs.declared.outcome.Outcome.TheVariants.{Done, Bytes, Held, AreaRow, Copied, Nothing, Refused, Lost, NoArea, NoWrite, Overlap, AreasFull, CellsFull, NoFrame, TooMany, NoSnap}
+use Rattle.trace_events.specs.EventBounds.{IsCounted}
+use Rattle.page_tables.specs.declared.tables.PageTables.{PageTables}
+use Rattle.trace_core.specs.declared.parts.SnapshotAreas.{SnapshotAreas}
+use Rattle.trace_core.specs.declared.process.SoloChild.{SoloChild}
+use Rattle.trace_core.specs.KernelState.{Machine, KernelState}
+use Rattle.trace_core.specs.EventMeaning.{only_answers, begun, fork_answered, fork_end, drop_end}
+use Rattle.trace_core.specs.KernelStanding.{KernelParts, KernelStands, EventRan}
+use Rattle.trace_core.specs.KernelRun.{Ran}
+use Rattle.trace_core.specs.KernelSeen.{KernelNotes, IsSound, IsKernelNoted, NotesHold, IsNoted, HasReached, IsForkAnswer, fork_answer, remains_of, parent_of, memory_of, kernel_memory, live_numbers, children_of, kept_memory, kept_in}
+use Rattle.trace_core.proofs.ClauseProps.{number-prop, flat-prop, children-prop, MayFork-prop, AreChildren-prop, ForkFails-prop, KeepsReady-prop, LeavesAtReap-prop, Reaps-prop, known-kept}
+use Rattle.trace_core.proofs.FilledCells.{cells-filled}
+use Rattle.trace_core.proofs.ReachedEvents.{has-reached-behind}
+use Rattle.trace_core.proofs.HeldEvents.{holds-behind}
+use Rattle.trace_core.proofs.KeptForks.{forked-count, unforked-ready, forked-keeps, unforked-keeps, drop-sound, drop-keeps, fork-memory, unforked-fails, drop-reap}
+use Rattle.trace_core.proofs.RunSteps.{ran-parent}
+use Rattle.trace_core.proofs.SeenChanges.{IsInBounds}
+use Rattle.trace_core.proofs.SeenForks.{sound-number, sound-children, forked-may, forked-children, forked-lives, forked-kept, full-live, full-children, unforked-children, unforked-may, dropped-children, number-held, listed-held}
+use Rattle.trace_core.proofs.SeenTables.{seen-pages}
+use Rattle.trace_core.proofs.SoundSteps.{known-noted, sound-behind}
+use Rattle.trace_core.proofs.ToldMemories.{telling, told-kept}
+
+-- ---- the answers of a fork
+
+-- what holds of each answer of a fork holds of those that it may give
+by-answer : (P : Outcome → Type 0) → P Done → ((at : ℕ) → P (NoFrame at)) → P TooMany → (outcome : Outcome) → IsForkAnswer outcome → P outcome
+by-answer P done lacking full Done may = done
+by-answer P done lacking full (Bytes bytes) may = absurd may
+by-answer P done lacking full (Held held free) may = absurd may
+by-answer P done lacking full (AreaRow row) may = absurd may
+by-answer P done lacking full Copied may = absurd may
+by-answer P done lacking full Nothing may = absurd may
+by-answer P done lacking full (Refused at) may = absurd may
+by-answer P done lacking full (Lost at) may = absurd may
+by-answer P done lacking full (NoArea page) may = absurd may
+by-answer P done lacking full (NoWrite page) may = absurd may
+by-answer P done lacking full (Overlap page) may = absurd may
+by-answer P done lacking full AreasFull may = absurd may
+by-answer P done lacking full CellsFull may = absurd may
+by-answer P done lacking full (NoFrame at) may = lacking at
+by-answer P done lacking full TooMany may = full
+by-answer P done lacking full NoSnap may = absurd may
+
+IsForkAnswer-prop : (outcome : Outcome) → IsProp (IsForkAnswer outcome)
+IsForkAnswer-prop outcome a b = by-answer (λ o. (x y : IsForkAnswer o) → x ≡ y) (λ x y. refl) (λ at x y. refl) (λ x y. refl) outcome a a b
+
+ends-so : (state : KernelState) (n : ℕ) (full : Bool) (refused : Option FrameRefusal) (progress : Progress)
+    → IsForkAnswer (cond full (only_answers state TooMany) (fork_answered state n refused progress)).outcome
+ends-so state n true refused progress = tt
+ends-so state n false None progress = tt
+ends-so state n false (Some refusal) progress = tt
+
+-- ---- children that live
+
+-- none is listed where none lives
+none-there : (snapshot : Option SnapshotAreas) (k : ℕ) → length (live_numbers snapshot) < 1 → IsListed k (live_numbers snapshot) → ⊥
+none-there None k few listed = false≢true listed
+none-there (Some kept) k few listed = past few
+  where
+    past : 1 < 1 → ⊥
+    past few = omega (arith, few)
+
+few-live : (snapshot : Option SnapshotAreas) → length (live_numbers snapshot) ≤ 1
+few-live None = omega arith
+few-live (Some kept) = omega arith
+
+-- the children of a kernel
+abbrev pub children_in : KernelParts → Children
+children_in parts = children_of parts.snapshot parts.last
+
+-- they are children
+pub known-children : (parts : KernelParts) (notes : KernelNotes) → ∥ IsKernelNoted parts notes ∥₁ → parts.last ≤ 4294967295 → AreChildren (children_in parts)
+known-children parts notes known last = ∥∥₁_elim known (AreChildren-prop (children_in parts)) (λ it. sound-children parts notes it.0 it.1.0 it.1.1 last)
+
+-- ---- a fork
+
+-- it forked from whatever state it stood for
+abbrev pub HasForked : KernelParts → KernelParts → ℕ → Outcome → Type 0
+HasForked old new n outcome = (machine : Machine) (state : KernelState) → KernelStands old machine state
+    → EventRan old new machine (λ answers. fork_end machine state answers n Eager) outcome
+
+-- it forked with this outcome, which was noted
+pub record Forked (old new : KernelParts) (notes later : KernelNotes) (n : ℕ) (outcome : Outcome) : Type 0 where
+  pub ran : HasForked old new n outcome
+  pub noted : IsNoted old.tables (Fork n Eager) outcome new.tables new.supply.refused notes later
+  pub full : outcome ≡ TooMany → new ≡ old
+
+-- what is noted over the tables as they were, and of the count as it is
+pub forked-noted : (before : PageTables) (refused : ℕ) (old new : KernelParts) (notes later : KernelNotes) (n : ℕ) (outcome : Outcome)
+    → before ≡ old.tables → refused ≡ new.supply.refused → IsNoted before (Fork n Eager) outcome new.tables refused notes later
+    → HasForked old new n outcome → (outcome ≡ TooMany → new ≡ old) → Forked old new notes later n outcome
+forked-noted before refused old new notes later n outcome same count noted ran full = record {
+  ran = ran;
+  noted = subst (λ tables. IsNoted tables (Fork n Eager) outcome new.tables new.supply.refused notes later) same
+      (subst (λ count. IsNoted before (Fork n Eager) outcome new.tables count notes later) count noted);
+  full = full;
+}
+
+-- the next number, where one is left
+abbrev pub IsNext : KernelParts → ℕ → Type 0
+IsNext parts n = (parts.last + 1 < 4294967296) × (n ≡ parts.last + 1)
+
+next-counted : (parts : KernelParts) (n : ℕ) → IsNext parts n → IsCounted n
+next-counted parts n next = (omega (arith, next.1), omega (arith, next.0, next.1))
+
+next-below : (parts : KernelParts) (n : ℕ) → IsNext parts n → parts.last < 4294967295
+next-below parts n next = omega (arith, next.0)
+
+module _ (old new : KernelParts) (notes later : KernelNotes) (n : ℕ) (known : ∥ IsKernelNoted old notes ∥₁) (outcome : Outcome) where
+  -- a fork answers in one of three ways
+  pub fork-answers : HasForked old new n outcome → IsForkAnswer outcome
+  fork-answers ran = ∥∥₁_elim known (IsForkAnswer-prop outcome) (λ it.
+      let state : KernelState = it.1.0 in
+      let behind : EventRan old new it.0 (λ answers. fork_end it.0 state answers n Eager) outcome = ran it.0 state it.1.1.stands in
+      let progress : Progress = snapshot_forked n Eager (begun state (answers_of behind.deals)) in
+      subst (λ e. IsForkAnswer e.outcome) behind.ends (ends-so state n (nat_le it.0.limit (len state.world.snapshots)) progress.refused progress))
+
+  module _ (its : Forked old new notes later n outcome) where
+    by-forked : (P : Outcome → Type 0) → (Forked old new notes later n Done → P Done) → ((at : ℕ) → Forked old new notes later n (NoFrame at) → P (NoFrame at))
+        → (Forked old new notes later n TooMany → P TooMany) → P outcome
+    by-forked P done lacking full = by-answer (λ o. Forked old new notes later n o → P o) done lacking full outcome (fork-answers its.ran) its
+
+    by-result : (P : Result SoloChild ForkFault → Type 0) → (Forked old new notes later n Done → P (Ok (record { number = n })))
+        → ((at : ℕ) → Forked old new notes later n (NoFrame at) → P (Err (FrameLacking at))) → (Forked old new notes later n TooMany → P (Err TooManyLive))
+        → (result : Result SoloChild ForkFault) → result ≡ fork_answer outcome n → P result
+    by-result P done lacking full result told = subst P (sym told) (by-forked (λ o. P (fork_answer o n)) done lacking full)
+
+    -- one child more lives, and no request was refused
+    abbrev pub AddsChild : Type 0
+    AddsChild = MayFork (children_in old) × (children_in new ≡ after_fork (children_in old)) × (new.supply.refused ≡ old.supply.refused)
+
+    -- no child is there, and what could be stored to still can be
+    abbrev pub LeavesChildren : Type 0
+    LeavesChildren = (children_in new ≡ children_in old) × KeepsReady (kernel_memory old notes) (kernel_memory new later)
+
+    -- what is kept for a child
+    abbrev pub LeavesKept : Type 0
+    LeavesKept = (kept_in new.snapshot later.forked ≡ kept_in old.snapshot notes.forked) × (◌≡◌ {A = Option ℕ} (Some later.born) (Some notes.born))
+
+    -- ---- the child
+
+    -- it has the memory whole
+    pub fork-copy : (result : Result SoloChild ForkFault) → result ≡ fork_answer outcome n → IfOk result (λ child. kept_in new.snapshot later.forked ≡ parent_of old)
+    fork-copy = by-result (λ r. IfOk r (λ child. kept_in new.snapshot later.forked ≡ parent_of old))
+        (λ its. ∥∥₁_elim known (flat-prop (kept_in new.snapshot later.forked) (parent_of old)) (λ it.
+        let ran : EventRan old new it.0 (λ answers. fork_end it.0 it.1.0 answers n Eager) Done = its.ran it.0 it.1.0 it.1.1.stands in
+        let lives = forked-lives old new it.0 it.1.0 it.1.1.stands n Eager ran in
+        ap (λ snapshot. kept_in snapshot later.forked) lives.1 ∙ ap (kept_memory lives.0) (its.noted.forked refl).0
+        ∙ forked-kept old new it.0 it.1.0 it.1.1.stands n Eager ran lives.0 lives.1))
+        (λ at its. tt) (λ its. tt)
+
+    -- one child more lives
+    pub fork-forked : IsNext old n → (result : Result SoloChild ForkFault) → result ≡ fork_answer outcome n
+        → OnOk result AddsChild
+    fork-forked next =
+        by-result (λ r. OnOk r AddsChild)
+        (λ its. ∥∥₁_elim known
+        (×₃_prop (MayFork-prop (children_in old)) (children-prop (children_in new) (after_fork (children_in old)))
+        (number-prop new.supply.refused old.supply.refused)) (λ it.
+        let ran : EventRan old new it.0 (λ answers. fork_end it.0 it.1.0 answers n Eager) Done = its.ran it.0 it.1.0 it.1.1.stands in (
+          forked-may old new it.0 it.1.0 it.1.1.stands n Eager ran (next-below old n next),
+          forked-children old new it.0 it.1.0 it.1.1.stands n Eager ran next.1,
+          forked-count old new it.0 it.1.0 n Eager notes.most later.most ran,
+        )))
+        (λ at its. tt) (λ its. tt)
+
+    -- ---- where it is refused
+
+    -- it tells why
+    pub fork-fails : IsNext old n → (result : Result SoloChild ForkFault) → result ≡ fork_answer outcome n
+        → IfErr result (λ fault. ForkFails (children_in old) (kernel_memory old notes) (kernel_memory new later) fault)
+    fork-fails next = by-result (λ r. IfErr r (λ fault. ForkFails (children_in old) (kernel_memory old notes) (kernel_memory new later) fault))
+        (λ its. tt)
+        (λ at its. ∥∥₁_elim known (ForkFails-prop (children_in old) (kernel_memory old notes) (kernel_memory new later) (FrameLacking at)) (λ it.
+        unforked-fails old new it.0 it.1.0 it.1.1.stands n Eager notes.most at (next-below old n next) (its.ran it.0 it.1.0 it.1.1.stands)))
+        (λ its.
+        let same : new ≡ old = its.full refl in (
+          ∥∥₁_elim known (number-prop (children_in old).live (children_in old).limit) (λ it.
+              full-live old new it.0 it.1.0 it.1.1.stands n Eager (its.ran it.0 it.1.0 it.1.1.stands)),
+          λ i. telling (its.noted.enough i) (memory_of (same i) (its.noted.most i)),
+        ))
+
+    failed-prop : IsProp LeavesChildren
+    failed-prop = ×_prop (children-prop (children_in new) (children_in old)) (KeepsReady-prop (kernel_memory old notes) (kernel_memory new later))
+
+    -- no child is there, and what could be stored to still can be
+    pub fork-failed : (result : Result SoloChild ForkFault) → result ≡ fork_answer outcome n
+        → OnErr result LeavesChildren
+    fork-failed = by-result (λ r. OnErr r LeavesChildren)
+        (λ its. tt)
+        (λ at its. ∥∥₁_elim known failed-prop (λ it.
+        let ran : EventRan old new it.0 (λ answers. fork_end it.0 it.1.0 answers n Eager) (NoFrame at) = its.ran it.0 it.1.0 it.1.1.stands in
+        (unforked-children old new it.0 it.1.0 it.1.1.stands n Eager at ran, unforked-ready old new it.0 it.1.0 it.1.1.stands n Eager (NoFrame at) refl notes.most later.most ran)))
+        (λ its. ∥∥₁_elim known failed-prop (λ it.
+        let ran : EventRan old new it.0 (λ answers. fork_end it.0 it.1.0 answers n Eager) TooMany = its.ran it.0 it.1.0 it.1.1.stands in
+        (full-children old new it.0 it.1.0 it.1.1.stands n Eager ran, unforked-ready old new it.0 it.1.0 it.1.1.stands n Eager TooMany refl notes.most later.most ran)))
+
+    -- ---- whatever it answers
+
+    -- the memory is as it was
+    pub fork-leaves : LeavesMemory (kernel_memory old notes) (kernel_memory new later)
+    fork-leaves =
+        let same : parent_of new ≡ parent_of old = ∥∥₁_elim known (flat-prop (parent_of new) (parent_of old)) (λ it.
+        (fork-memory old new it.0 it.1.0 it.1.1.stands n Eager outcome notes.most (its.ran it.0 it.1.0 it.1.1.stands)).mem) in
+        record { mem = same; most = its.noted.most }
+
+    -- and keeps what each call keeps
+    pub fork-kept : IsNext old n → IsInBounds old.supply → HasReached new later → IsKept (kernel_memory old notes) (kernel_memory new later) []
+    fork-kept next bounds reached = told-kept (memory_of old notes.most) (memory_of new later.most) notes.enough later.enough its.noted.enough [] reached
+        (subst (λ most. IsKept (memory_of old notes.most) (memory_of new most) []) (sym its.noted.most)
+        (known-kept (memory_of old notes.most) (memory_of new notes.most) [] known (λ it.
+        by-forked (λ o. IsKept (memory_of old notes.most) (memory_of new notes.most) [])
+        (λ its. forked-keeps old new notes it.0 it.1.0 it.1.1 n bounds Eager (next-counted old n next).0 (its.ran it.0 it.1.0 it.1.1.stands))
+        (λ at its. unforked-keeps old new notes it.0 it.1.0 it.1.1 n bounds Eager (NoFrame at) refl (its.ran it.0 it.1.0 it.1.1.stands))
+        (λ its. unforked-keeps old new notes it.0 it.1.0 it.1.1 n bounds Eager TooMany refl (its.ran it.0 it.1.0 it.1.1.stands)))))
+
+    -- the other children are as they were: where one lives, nothing changes
+    pub fork-others : IsNext old n → (k : ℕ) → IsListed k (live_numbers old.snapshot)
+        → LeavesKept
+    fork-others next k listed = by-forked (λ o. LeavesKept)
+        (λ its. absurd (∥∥₁_elim known ⊥_prop (λ it.
+        none-there old.snapshot k (forked-may old new it.0 it.1.0 it.1.1.stands n Eager (its.ran it.0 it.1.0 it.1.1.stands) (next-below old n next)).place listed)))
+        (λ at its. absurd (∥∥₁_elim known ⊥_prop (λ it.
+        none-there old.snapshot k (unforked-may old new it.0 it.1.0 it.1.1.stands n Eager at (its.ran it.0 it.1.0 it.1.1.stands) (next-below old n next)).place listed)))
+        (λ its.
+        let same : new ≡ old = its.full refl in
+        let kept = its.noted.kept refl in
+        (λ i. kept_in (same i).snapshot (kept.0 i), ap Some kept.1))
+
+    -- ---- the kernel behind it
+
+    fork-ran : Ran old new (Fork n Eager) outcome
+    fork-ran = ran-parent old new (Fork n Eager) (Fork n Eager) outcome refl refl refl its.ran
+
+    -- it is sound again
+    pub fork-known : IsNext old n → ∥ IsKernelNoted new later ∥₁
+    fork-known next =
+        sound-behind seen-pages old new notes later (Fork n Eager) outcome (next-counted old n next, refl) fork-ran its.noted.most
+        (λ e. (its.noted.forked e).0) (λ e. (its.noted.kept e).0) known
+
+    -- and what is noted holds
+    pub fork-holds : IsNext old n → old.supply.refused ≤ 2 ^ 64 - 1 → NotesHold old notes → NotesHold new later
+    fork-holds next fits holds =
+        holds-behind old new notes later (Fork n Eager) outcome (next-counted old n next, refl) fork-ran its.noted fits
+        (λ e. cells-filled old (known-noted old notes known)) known holds
+
+    -- and as many frames as are enough were wanted once a request was refused
+    pub fork-reached : IsNext old n → ForSome notes.enough (λ enough. IsTrue old.supply.policies.is_empty) → NotesHold old notes → HasReached old notes → HasReached new later
+    fork-reached next unasked holds reached =
+        has-reached-behind old new notes later (Fork n Eager) outcome (next-counted old n next, refl) fork-ran its.noted unasked known holds reached
+
+-- ---- a drop
+
+-- it dropped from whatever state it stood for
+abbrev pub HasDropped : KernelParts → KernelParts → ℕ → Outcome → Type 0
+HasDropped old new n outcome = (machine : Machine) (state : KernelState) → KernelStands old machine state → EventRan old new machine (λ answers. drop_end state answers n) outcome
+
+-- no refusal is told by what is left
+pub no-refusal : (n : ℕ) {X : Type 0} → HadRefusal (remains_of n) → X
+no-refusal n (inl copies) = absurd (past copies)
+  where
+    past : 0 < 0 → ⊥
+    past low = omega (arith, low)
+no-refusal n (inr found) = absurd (past (len (remains_of n).found) (len-empty nat_cmp ℕ) found)
+  where
+    past : (k : ℕ) → k ≡ 0 → 0 < k → ⊥
+    past k none some = omega (arith, none, some)
+
+module _ (old new : KernelParts) (notes : KernelNotes) (n : ℕ) (known : ∥ IsKernelNoted old notes ∥₁) (outcome : Outcome) (ran : HasDropped old new n outcome) where
+  -- the kernel is sound again
+  pub drop-known : ∥ IsKernelNoted new notes ∥₁
+  drop-known = ∥∥₁_map known (λ it.
+      let its = ran it.0 it.1.0 it.1.1.stands in (it.0, (its.after, drop-sound old new notes it.0 it.1.0 it.1.1 n outcome its)))
+
+  -- the memory is as it was
+  pub drop-leaves : LeavesAtReap (kernel_memory old notes) (kernel_memory new notes)
+  drop-leaves = ∥∥₁_elim known (LeavesAtReap-prop (kernel_memory old notes) (kernel_memory new notes)) (λ it.
+      let its : LeavesAtReap (memory_of old notes.most) (memory_of new notes.most) =
+      drop-reap old new it.0 it.1.0 it.1.1.stands n outcome notes.most (ran it.0 it.1.0 it.1.1.stands) in
+      record { mem = its.mem; most = its.most; refused = its.refused; keeps = its.keeps })
+
+  pub drop-kept : IsInBounds old.supply → HasReached new notes → IsKept (kernel_memory old notes) (kernel_memory new notes) []
+  drop-kept bounds reached = told-kept (memory_of old notes.most) (memory_of new notes.most) notes.enough notes.enough refl [] reached
+      (known-kept (memory_of old notes.most) (memory_of new notes.most) [] known (λ it.
+      drop-keeps old new notes it.0 it.1.0 it.1.1 n bounds outcome (ran it.0 it.1.0 it.1.1.stands)))
+
+  module _ (lives : IsListed n (live_numbers old.snapshot)) where
+    -- the child of this number lives no more
+    pub drop-reaps : Reaps (children_in old) (children_in new) n
+    drop-reaps = ∥∥₁_elim known (Reaps-prop (children_in old) (children_in new) n) (λ it.
+        dropped-children old new it.0 it.1.0 it.1.1.stands n outcome (ran it.0 it.1.0 it.1.1.stands) lives)
+
+    -- so none is listed
+    pub drop-unlisted : {X : Type 0} (k : ℕ) → IsListed k (live_numbers new.snapshot) → X
+    drop-unlisted k listed =
+        let fewer : length (live_numbers new.snapshot) + 1 ≡ length (live_numbers old.snapshot) = drop-reaps.live in
+        absurd (none-there new.snapshot k (omega (arith, fewer, few-live old.snapshot)) listed)
+
+    -- its number is one that was given out
+    drop-counted : old.last ≤ 4294967295 → IsCounted n
+    drop-counted last = ∥∥₁_elim known (×_prop le_prop le_prop) (λ it. by it.0 it.1.0 it.1.1 old.snapshot refl)
+      where
+        first-is : (one other : ℕ) → ◌≡◌ {A = List ℕ} (one ∷ []) (other ∷ []) → one ≡ other
+        first-is one other same = ap (λ list. elim list [ [] ↦ one | m ∷ rest ↦ m ]) same
+
+        by : (machine : Machine) (state : KernelState) → IsSound old notes machine state → (snapshot : Option SnapshotAreas) → old.snapshot ≡ snapshot → IsCounted n
+        by machine state sound None none = absurd (false≢true (ap (λ snapshot. list_any (λ other. other == n) (live_numbers snapshot)) (sym none) ∙ lives))
+        by machine state sound (Some kept) is =
+            let number = sound-number old notes machine state sound kept is in
+            let same : kept.number ≡ n = first-is kept.number n (ap live_numbers (sym is) ∙ number-held old.snapshot n (listed-held old.snapshot n lives)) in
+            (omega (arith, number.0, same), omega (arith, number.1, same, last))
+
+    -- what is noted holds
+    pub drop-holds : old.last ≤ 4294967295 → old.supply.refused ≤ 2 ^ 64 - 1 → NotesHold old notes → NotesHold new notes
+    drop-holds last fits holds =
+        holds-behind old new notes notes (Drop n) outcome (drop-counted last) (ran-parent old new (Drop n) (Drop n) outcome refl refl refl ran)
+        (record { most = refl; forked = λ e. absurd (false≢true e); kept = λ e. (refl, refl); enough = refl }) fits (λ e. absurd (false≢true e)) known holds

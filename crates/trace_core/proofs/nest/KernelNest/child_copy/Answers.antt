@@ -1,0 +1,30 @@
+use Rattle.std.proofs.Common.{refl}
+use Rattle.trace_core.specs.KernelSeen.{parts_of, notes_of}
+use Rattle.trace_core.proofs.SeenNests.{copy-lost, copy-none, nest-keeps}
+use Rattle.trace_core.proofs.nest.KernelNest.child_copy.Goals as goal
+
+-- src/nest.rt:50:5
+pub returns-in-Some-clause-fault : goal.returns-in-Some-clause-fault
+returns-in-Some-clause-fault g c = (
+  refl,
+  (
+    c.in-Some.lost.cell,
+    copy-lost (parts_of c.args.self.now.parts) (notes_of c.args.self.now.notes) c.args.child.now.number c.args.self.now.stood c.lowest_loss.result c.lowest_loss.ensures.loss c.in-Some.lost c.in-Some.is,
+  ),
+)
+
+-- src/nest.rt:50:5
+pub returns-in-Some-clause-keeps : goal.returns-in-Some-clause-keeps
+returns-in-Some-clause-keeps g c = nest-keeps (parts_of c.args.self.now.parts) (notes_of c.args.self.now.notes) c.args.child.now.number c.args.self.now.stood c.args.self.now.held
+
+-- src/nest.rt:50:5
+pub returns-in-None-clause-step : goal.returns-in-None-clause-step
+returns-in-None-clause-step g c = (
+  record { found = refl; refused = refl },
+  refl,
+  copy-none (parts_of c.args.self.now.parts) (notes_of c.args.self.now.notes) c.args.child.now.number c.args.self.now.stood c.lowest_loss.result c.lowest_loss.ensures.loss c.in-None.is,
+)
+
+-- src/nest.rt:50:5
+pub returns-in-None-clause-keeps : goal.returns-in-None-clause-keeps
+returns-in-None-clause-keeps g c = nest-keeps (parts_of c.args.self.now.parts) (notes_of c.args.self.now.notes) c.args.child.now.number c.args.self.now.stood c.args.self.now.held

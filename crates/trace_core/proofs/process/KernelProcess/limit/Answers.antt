@@ -1,0 +1,6 @@
+use Rattle.trace_core.proofs.KernelProcesses.{known-children}
+use Rattle.trace_core.proofs.process.KernelProcess.limit.Goals as goal
+
+-- src/process.rt:85:5
+pub returns-clause-sound : goal.returns-clause-sound
+returns-clause-sound g c = known-children _ _ c.args.self.now.stood c.args.self.now.parts.numbered

@@ -1,0 +1,73 @@
+//! The kernel as the nest of its snapshot.
+ghost use Rattle.std.specs.Prelude.{◌≡◌};
+
+use crate::kernel::Kernel;
+use crate::process::SoloChild;
+use crate::snapshots::SnapshotFault;
+use vm_base::{CopyFault, Housing, Nest, SnapFault, Step};
+
+impl Nest for Kernel {
+    ghost use Rattle.trace_core.specs.KernelSeen.{BesideChild, beside_of, kernel_memory, nest_of, parts_of, notes_of};
+    ghost use Rattle.trace_core.specs.KernelStanding.{kept_number};
+    ghost use Rattle.kernel_meaning.specs.Leaves.{holds_number};
+
+    type Child = SoloChild;
+
+    ghost Beside = { BesideChild };
+
+    ghost beside = { λ kernel child. record {
+      memory = kernel_memory (parts_of kernel.parts) (notes_of kernel.notes);
+      beside = beside_of (parts_of kernel.parts) (notes_of kernel.notes);
+      number = child.number;
+    } };
+
+    ghost lives = { λ beside. holds_number (kept_number beside.beside.snapshot) beside.number };
+
+    ghost born = { λ beside. beside.beside.born };
+
+    ghost refused = { λ beside. beside.memory.refused };
+
+    ghost nested = { λ kernel child. nest_of (parts_of kernel.parts) (notes_of kernel.notes) child.number };
+
+    fn child_read(
+        &mut self,
+        child: &mut SoloChild,
+        addr: u64,
+        buf: &mut [u8],
+    ) -> Result<(), SnapFault> {
+        if buf.is_empty() {
+            return Ok(());
+        }
+        match self.parts.snap_read(child.number, addr, buf) {
+            Ok(()) => Ok(()),
+            Err(SnapshotFault::NoArea(page)) => Err(SnapFault::NoArea(page)),
+            Err(SnapshotFault::Lost(at)) => Err(SnapFault::Lost { at }),
+            Err(SnapshotFault::NotLive) => unreachable!("the child lives"),
+        }
+    }
+
+    /// Each cell is copied at the fork, so none is left to be copied; but one may be lost.
+    fn child_copy(&mut self, child: &mut SoloChild) -> Result<Step, CopyFault> {
+        match self.parts.tables.lowest_loss(child.number) {
+            Some(lost) => Err(CopyFault::Lost { at: lost.at }),
+            None => Ok(Step::AllDone),
+        }
+    }
+}
+
+impl Housing for Kernel {
+    ghost use Rattle.trace_core.specs.Housed.{same_memory, same_beside, lives_numbered};
+    ghost use Rattle.std.proofs.Common.{refl};
+
+    ghost state_beside = { λ p q c d same. same_memory same };
+
+    ghost aside_beside = { λ p q c d same. same_beside same };
+
+    ghost refused_beside = { λ p c. refl };
+
+    ghost born_beside = { λ p c. refl };
+
+    ghost kept_nested = { λ p c. refl };
+
+    ghost lives_numbered = { λ p c. lives_numbered p.parts.snapshot c.number };
+}

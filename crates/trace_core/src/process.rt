@@ -1,0 +1,124 @@
+//! The kernel as a process: the snapshot that lives is its one child.
+ghost use Rattle.std.specs.Prelude.{◌≡◌, length};
+ghost use Rattle.trace_core.specs.KernelSeen.{IsForkAnswer, fork_answer, spent_fault, live_numbers};
+
+use crate::kernel::Kernel;
+use crate::parts::SnapshotAreas;
+use std::snapshot::Snapshot;
+use trace_events::{Event, Outcome};
+use vm_base::{ForkFault, Mode, Process};
+
+/// A snapshot of a kernel, by its number. It must be spent: `reap` takes it, and drops the
+/// snapshot.
+#[derive(Debug)]
+pub struct SoloChild {
+    pub(crate) number: u32,
+}
+
+impl Process for Kernel {
+    ghost use Rattle.std.specs.Prelude.{Some};
+    ghost use Rattle.trace_core.specs.KernelSeen.{BesideMemory, beside_of, parts_of, notes_of, children_of, kept_in, remains_of};
+
+    type Child = SoloChild;
+
+    type Gone = SoloChild;
+
+    ghost Beside = { BesideMemory };
+
+    ghost beside = { λ kernel. beside_of (parts_of kernel.parts) (notes_of kernel.notes) };
+
+    // A kernel has one child, and children tell no kernel from another.
+    ghost Home = { Unit {0} };
+
+    ghost home = { λ beside. tt };
+
+    ghost children = { λ beside. children_of beside.snapshot beside.last };
+
+    ghost kept = { λ beside child. kept_in beside.snapshot beside.forked };
+
+    ghost born = { λ beside child. Some beside.born };
+
+    ghost child_number = { λ child. child.number };
+
+    ghost child_home = { λ child. tt };
+
+    ghost gone_home = { λ gone. tt };
+
+    ghost remains = { λ gone. remains_of gone.number };
+
+    ghost beside_memory = { λ p q same. same };
+
+    /// Whatever the mode, the snapshot has all leaf tables of its own at once.
+    fn fork(&mut self, _mode: Mode) -> Result<SoloChild, ForkFault> {
+        let Some(number) = self.parts.last.checked_add(1) else {
+            return Err(no_number(&self.parts.snapshot));
+        };
+        let before = Snapshot::of(&self.parts.tables);
+        let outcome = self.parts.fork(number);
+        let refused = self.parts.refused();
+        let event = Event::Fork {
+            number,
+            mode: Mode::Eager,
+        };
+        self.notes
+            .ran(&before, &event, &outcome, &self.parts.tables, refused);
+        fork_answer(outcome, number)
+    }
+
+    fn reap(&mut self, gone: SoloChild) {
+        let SoloChild { number } = gone;
+        let _ = self.parts.drop_snapshot(number);
+    }
+
+    fn number(child: &SoloChild) -> u32
+        ensures { result ≡ child.now.number }
+    {
+        child.number
+    }
+
+    fn live(&self) -> u32 {
+        live_count(&self.parts.snapshot)
+    }
+
+    fn last(&self) -> u32 {
+        self.parts.last
+    }
+
+    fn limit(&self) -> u32 {
+        1
+    }
+}
+
+// Why there is no fork where the last number was given out: a snapshot lives, or else no number is
+// left.
+fn no_number(snapshot: &Option<SnapshotAreas>) -> ForkFault
+    ensures { result ≡ spent_fault snapshot.now }
+{
+    match snapshot {
+        Some(_) => ForkFault::TooMany,
+        None => ForkFault::NumbersSpent,
+    }
+}
+
+// How many snapshots live.
+fn live_count(snapshot: &Option<SnapshotAreas>) -> u32
+    ensures { result ≡ length (live_numbers snapshot.now) }
+{
+    match snapshot {
+        Some(_) => 1,
+        None => 0,
+    }
+}
+
+// What a fork of the snapshot of this number answers.
+fn fork_answer(outcome: Outcome, number: u32) -> Result<SoloChild, ForkFault>
+    requires { IsForkAnswer outcome }
+    ensures { result ≡ fork_answer outcome number }
+{
+    match outcome {
+        Outcome::Done => Ok(SoloChild { number }),
+        Outcome::NoFrame(at) => Err(ForkFault::NoFrame { at }),
+        Outcome::TooMany => Err(ForkFault::TooMany),
+        _ => unreachable!("a fork answers no other way"),
+    }
+}
