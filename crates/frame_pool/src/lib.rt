@@ -10,6 +10,7 @@ mod ask;
 mod boxed;
 mod deny_nth;
 mod frame_stack;
+mod laws;
 mod one_pool;
 mod policy;
 mod snap_quota;
@@ -19,6 +20,7 @@ mod turns;
 
 pub use ask::Ask;
 pub use deny_nth::DenyNth;
+pub use laws::each_frame_is_at_one_place;
 pub use one_pool::{Pool, PoolOf, Seen, Why};
 pub use policy::FramePolicy;
 pub use snap_quota::SnapQuota;

@@ -121,15 +121,15 @@ mod tests {
         policies.push(Box::new(rt.alloc(), DenyNth::new(2))?)?;
         let mut pool = Pool::new(rt.alloc(), 8, policies)?;
         assert_eq!(rt; pool.free(), 8);
-        for (free, left) in [(7, 1), (7, 0), (6, 0)] {
-            let answer = pool.take(Asker::Parent, Want::Page);
-            assert_eq!(rt; answer.is_err(), free == 7 && left == 0);
+        for (refusal, free, left) in [(None, 7, 1), (Some(Why::Denied(0)), 7, 0), (None, 6, 0)] {
+            assert_eq!(rt; pool.take(Asker::Parent, Want::Page).err(), refusal);
             assert_eq!(rt; pool.free(), free);
             assert_eq!(rt; pool.policies.len(), left);
         }
         for _ in 0..6 {
-            assert_eq!(rt; pool.take(Asker::Parent, Want::Page).is_ok(), true);
+            assert_eq!(rt; pool.take(Asker::Parent, Want::Page).err(), None);
         }
+        assert_eq!(rt; pool.free(), 0);
         assert_eq!(rt;
             pool.take(Asker::Parent, Want::Page).err(),
             Some(Why::Empty)

@@ -8,13 +8,13 @@ use crate::policy::FramePolicy;
 
 // What one policy answered, and where in the list the policy behind it is now.
 #[derive(Clone, Copy)]
-pub(crate) struct Turn {
+pub(crate) struct PolicyAnswer {
     granted: bool,
     next: usize,
 }
 
 // Asks one policy, and drops it where it is done then.
-pub(crate) fn ask_one<P: FramePolicy>(policies: &mut Vec<P>, at: usize, ask: Ask) -> Turn
+pub(crate) fn ask_one<P: FramePolicy>(policies: &mut Vec<P>, at: usize, ask: Ask) -> PolicyAnswer
     requires inside { at < length policies.old.items }
     requires undone { All (λ policy. (P.told policy).done ≡ false) policies.old.items }
     ensures turn { TakesTurn P.told ask at result.granted result.next policies.old.items policies.new.items }
@@ -25,9 +25,9 @@ pub(crate) fn ask_one<P: FramePolicy>(policies: &mut Vec<P>, at: usize, ask: Ask
     let granted = policy.grant(ask);
     if policy.done() {
         policies.remove(at);
-        Turn { granted, next: at }
+        PolicyAnswer { granted, next: at }
     } else {
-        Turn {
+        PolicyAnswer {
             granted,
             next: at + 1,
         }
@@ -49,12 +49,12 @@ pub(crate) fn ask_in_turn<P: FramePolicy>(policies: &mut Vec<P>, ask: Ask) -> Re
     let mut place = 0;
     let mut at = 0;
     while at < policies.len() {
-        let turn = ask_one(policies, at, ask);
-        if !turn.granted {
+        let answer = ask_one(policies, at, ask);
+        if !answer.granted {
             return Err(place);
         }
         place += 1;
-        at = turn.next;
+        at = answer.next;
     }
     Ok(())
 }

@@ -7,19 +7,19 @@ loop-at-init g c =
     let all = length c.args.policies.now.items in
     (HaveGranted-none g.P.FramePolicy.told c.args.ask c.args.policies.now.items, c.requires.undone, omega arith)
 
-pub returns-then-not-turn-clause-denied : goal.returns-then-not-turn-clause-denied
-returns-then-not-turn-clause-denied g c =
-    DeniesAt-one g.P.FramePolicy.told c.args.ask c.ask_one-turn.result.granted c.loop-at.place c.loop-at.at c.ask_one-turn.result.next
-    c.args.policies.now.items c.loop-at.policies.items c.ask_one-turn.new.policies.items
-    c.loop-at.invariant.0 c.ask_one-turn.ensures.turn (is_refused c.ask_one-turn.result.granted c.if-not-turn.true)
+pub returns-then-not-answer-clause-denied : goal.returns-then-not-answer-clause-denied
+returns-then-not-answer-clause-denied g c =
+    DeniesAt-one g.P.FramePolicy.told c.args.ask c.ask_one-answer.result.granted c.loop-at.place c.loop-at.at c.ask_one-answer.result.next
+    c.args.policies.now.items c.loop-at.policies.items c.ask_one-answer.new.policies.items
+    c.loop-at.invariant.0 c.ask_one-answer.ensures.turn (is_refused c.ask_one-answer.result.granted c.if-not-answer.true)
 
 pub loop-at-preserved : goal.loop-at-preserved
 loop-at-preserved g c =
     let bound = c.loop-at.invariant.2 in
-    let fewer = c.ask_one-turn.ensures.fewer in (
-      HaveGranted-one g.P.FramePolicy.told c.args.ask c.ask_one-turn.result.granted c.loop-at.place c.loop-at.at c.ask_one-turn.result.next
-          c.args.policies.now.items c.loop-at.policies.items c.ask_one-turn.new.policies.items
-          c.loop-at.invariant.0 c.ask_one-turn.ensures.turn (is_granted c.ask_one-turn.result.granted c.if-not-turn.false),
-      c.ask_one-turn.ensures.undone,
+    let fewer = c.ask_one-answer.ensures.fewer in (
+      HaveGranted-one g.P.FramePolicy.told c.args.ask c.ask_one-answer.result.granted c.loop-at.place c.loop-at.at c.ask_one-answer.result.next
+          c.args.policies.now.items c.loop-at.policies.items c.ask_one-answer.new.policies.items
+          c.loop-at.invariant.0 c.ask_one-answer.ensures.turn (is_granted c.ask_one-answer.result.granted c.if-not-answer.false),
+      c.ask_one-answer.ensures.undone,
       omega arith,
     )
