@@ -53,17 +53,6 @@ impl Area {
         ensures { result ≡ ((self.now.first + self.now.pages == next.now.first)
             && is_same_perm self.now.perm next.now.perm) }
     {
-        self.first <= next.first
-            && next.first - self.first == self.pages
-            && is_same(self.perm, next.perm)
-    }
-}
-
-fn is_same(one: Perm, other: Perm) -> bool
-    ensures { result ≡ is_same_perm one other }
-{
-    match one {
-        Perm::Read => matches!(other, Perm::Read),
-        Perm::ReadWrite => matches!(other, Perm::ReadWrite),
+        self.first <= next.first && next.first - self.first == self.pages && self.perm == next.perm
     }
 }

@@ -126,12 +126,7 @@ impl Areas {
         ensures pages { OnOk result (Sets self.old self.new first pages (option_map (λ area. area.perm) area)) }
         ensures form { IsAreaList self.old }
     {
-        match replaced(self.list(), first, first + pages, area) {
-            Ok(list) => {
-                self.list = list;
-                Ok(())
-            }
-            Err(fault) => Err(fault),
-        }
+        self.list = replaced(self.list(), first, first + pages, area)?;
+        Ok(())
     }
 }

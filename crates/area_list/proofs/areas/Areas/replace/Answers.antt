@@ -14,16 +14,16 @@ pub invariant_of-self : goal.invariant_of-self
 invariant_of-self c =
     let old = c.args.self.now in
     let parts = pieces c.args.first (c.args.first + c.args.pages) c.args.area old in
-    let made : c.in-Ok.list.items ≡ joined parts =
-    c.in-Ok.ensures.0 ∙ ap (λ l. joined (pieces c.args.first (c.args.first + c.args.pages) c.args.area l)) c.list.ensures.areas in
+    let made : c.in_ok-self-inside.field-0.items ≡ joined parts =
+    c.in_ok-self-inside.ensures.0 ∙ ap (λ l. joined (pieces c.args.first (c.args.first + c.args.pages) c.args.area l)) c.list.ensures.areas in
     record {
       in_order = subst AreInOrder (sym made)
           (joined_in_order 0 parts (pieces_from c.args.first c.args.pages c.args.area old c.requires.some c.requires.over (IsFrom-in_order old c.list.ensures.form.in_order)));
-      few = c.in-Ok.ensures.1;
+      few = c.in_ok-self-inside.ensures.1;
       within = subst AreWithin (sym made) (pieces_end (2 ^ 36) c.args.first c.args.pages c.args.area old c.requires.over c.requires.within c.list.ensures.form.within);
     }
 
-pub returns-in-Ok-clause-pages : goal.returns-in-Ok-clause-pages
-returns-in-Ok-clause-pages c =
-    pieces_set c.args.first c.args.pages c.args.area c.args.self.now c.in-Ok.list.items c.requires.over
-    (c.in-Ok.ensures.0 ∙ ap (λ l. joined (pieces c.args.first (c.args.first + c.args.pages) c.args.area l)) c.list.ensures.areas)
+pub returns-clause-pages : goal.returns-clause-pages
+returns-clause-pages c =
+    pieces_set c.args.first c.args.pages c.args.area c.args.self.now c.in_ok-self-inside.field-0.items c.requires.over
+    (c.in_ok-self-inside.ensures.0 ∙ ap (λ l. joined (pieces c.args.first (c.args.first + c.args.pages) c.args.area l)) c.list.ensures.areas)
