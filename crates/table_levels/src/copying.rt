@@ -25,13 +25,9 @@ pub(crate) fn copy_of<A: Allot>(
     let Some(source) = table else {
         return Ok(None);
     };
-    match allot.take(want) {
-        Ok(mut frame) => {
-            frame.bytes_mut().copy_from_slice(source.bytes());
-            Ok(Some(frame))
-        }
-        Err(refused) => Err(refused),
-    }
+    let mut frame = allot.take(want)?;
+    frame.bytes_mut().copy_from_slice(source.bytes());
+    Ok(Some(frame))
 }
 
 /// Copies the tables of a level, each to the place that it has, or none of them.
@@ -84,10 +80,7 @@ pub(crate) fn copy_lower<A: Allot>(
     ensures out { Adds A.out (A.state allot.old) (tables_at upper_tables.now + tables_at middle_tables.now) result (A.state allot.new) }
     ensures untold { A.grants allot.new ≡ A.grants allot.old }
 {
-    match copy_level(uppers, upper_tables, Want::Upper, allot) {
-        Ok(()) => {}
-        Err(refused) => return Err(refused),
-    }
+    copy_level(uppers, upper_tables, Want::Upper, allot)?;
     match copy_level(middles, middle_tables, Want::Middle, allot) {
         Ok(()) => Ok(()),
         Err(refused) => {

@@ -58,7 +58,8 @@ impl Directory {
         })
     }
 
-    /// How many frames the tables take.
+    /// How many frames the tables take. It is there for a caller who has no allot that counts, and
+    /// for tests: the program has the number of frames that are out from its pool.
     pub fn tables(&self) -> u32
         ensures { result ≡ tables_of self.now }
     {
@@ -70,10 +71,8 @@ impl Directory {
         requires { cell < 2 ^ 27 }
         ensures { result ≡ map.get self.now cell }
     {
-        match place_of(&self.top, &self.uppers, cell / ENTRIES as u32) {
-            Some(middle) => named_by(&self.middles[middle as usize], cell as usize % ENTRIES),
-            None => None,
-        }
+        let middle = place_of(&self.top, &self.uppers, cell / ENTRIES as u32)?;
+        named_by(&self.middles[middle as usize], cell as usize % ENTRIES)
     }
 
     /// Adds a cell with its slot. It asks for the missing top, upper and middle table in this
@@ -99,21 +98,17 @@ impl Directory {
             upper: named_by(&self.top, index as usize / ENTRIES).is_none(),
             middle: place_of(&self.top, &self.uppers, index).is_none(),
         };
-        match take_fresh(wanted, allot) {
-            Ok(fresh) => {
-                self.tables += wanted.count();
-                link(
-                    &mut self.top,
-                    &mut self.uppers,
-                    &mut self.middles,
-                    cell,
-                    slot,
-                    fresh,
-                );
-                Ok(())
-            }
-            Err(refused) => Err(refused),
-        }
+        let fresh = take_fresh(wanted, allot)?;
+        self.tables += wanted.count();
+        link(
+            &mut self.top,
+            &mut self.uppers,
+            &mut self.middles,
+            cell,
+            slot,
+            fresh,
+        );
+        Ok(())
     }
 
     /// The lowest cell that is there and not below this one, with its slot.
@@ -159,10 +154,7 @@ impl Directory {
         ensures out { Adds A.out (A.state allot.old) (tables_of other.now) result (A.state allot.new) }
         ensures untold { A.grants allot.new ≡ A.grants allot.old }
     {
-        let top = match copy_of(&other.top, Want::Top, allot) {
-            Ok(top) => top,
-            Err(refused) => return Err(refused),
-        };
+        let top = copy_of(&other.top, Want::Top, allot)?;
         match copy_lower(
             &mut self.uppers,
             &mut self.middles,
@@ -205,10 +197,7 @@ pub(crate) fn named_by(table: &Option<Frame>, i: usize) -> Option<u32>
     requires { i < 512 }
     ensures { result ≡ entry_in table.now i }
 {
-    match table {
-        Some(frame) => entry(frame, i),
-        None => None,
-    }
+    entry(table.as_ref()?, i)
 }
 
 /// The place of the middle table of 512 cells, by its index in all.
@@ -219,10 +208,8 @@ pub(crate) fn place_of(top: &Option<Frame>, uppers: &[Option<Frame>], index: u32
     ensures { result ≡ middle_at top.now uppers.now index }
 {
     let upper = index as usize / ENTRIES;
-    match named_by(top, upper) {
-        Some(_) => named_by(&uppers[upper], index as usize % ENTRIES),
-        None => None,
-    }
+    named_by(top, upper)?;
+    named_by(&uppers[upper], index as usize % ENTRIES)
 }
 
 /// Places for as many tables as a directory may have on a level.

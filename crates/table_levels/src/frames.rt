@@ -43,10 +43,7 @@ pub(crate) fn take_fresh<A: Allot>(wanted: Wanted, allot: &mut A) -> Result<Fres
     ensures out { Adds A.out (A.state allot.old) (length (wanted_tables wanted)) result (A.state allot.new) }
     ensures untold { A.grants allot.new ≡ A.grants allot.old }
 {
-    let top = match take_if(wanted.top, Want::Top, allot) {
-        Ok(top) => top,
-        Err(refused) => return Err(refused),
-    };
+    let top = take_if(wanted.top, Want::Top, allot)?;
     match take_lower(wanted, allot) {
         Ok((upper, middle)) => Ok(Fresh { top, upper, middle }),
         Err(refused) => {
@@ -68,10 +65,7 @@ fn take_lower<A: Allot>(
     ensures out { Adds A.out (A.state allot.old) (length (wanted_lower wanted)) result (A.state allot.new) }
     ensures untold { A.grants allot.new ≡ A.grants allot.old }
 {
-    let upper = match take_if(wanted.upper, Want::Upper, allot) {
-        Ok(upper) => upper,
-        Err(refused) => return Err(refused),
-    };
+    let upper = take_if(wanted.upper, Want::Upper, allot)?;
     match take_if(wanted.middle, Want::Middle, allot) {
         Ok(middle) => Ok((upper, middle)),
         Err(refused) => {
@@ -93,10 +87,7 @@ fn take_if<A: Allot>(is_wanted: bool, want: Want, allot: &mut A) -> Result<Optio
     if !is_wanted {
         return Ok(None);
     }
-    match allot.take(want) {
-        Ok(frame) => Ok(Some(frame)),
-        Err(refused) => Err(refused),
-    }
+    Ok(Some(allot.take(want)?))
 }
 
 /// Gives a table back, if it is there.

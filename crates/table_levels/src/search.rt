@@ -41,13 +41,9 @@ fn first_middle(top: &Option<Frame>, uppers: &[Option<Frame>], from: u32) -> Opt
     if let Some((i, place)) = first_entry(&uppers[upper], from as usize % ENTRIES) {
         return Some(((upper * ENTRIES + i) as u32, place));
     }
-    let Some((next, _)) = first_entry(top, upper + 1) else {
-        return None;
-    };
-    match first_entry(&uppers[next], 0) {
-        Some((i, place)) => Some(((next * ENTRIES + i) as u32, place)),
-        None => None,
-    }
+    let (next, _) = first_entry(top, upper + 1)?;
+    let (i, place) = first_entry(&uppers[next], 0)?;
+    Some(((next * ENTRIES + i) as u32, place))
 }
 
 /// The first cell of its middle table from a cell on, with its slot.
@@ -61,14 +57,10 @@ fn first_beside(
     requires directory { AreDirectory (levels_of top.now uppers.now middles.now) }
     ensures { IsFirst ((from / 512 + 1) * 512) (slot_of (levels_of top.now uppers.now middles.now)) from result }
 {
-    let Some(place) = place_of(top, uppers, from / ENTRIES as u32) else {
-        return None;
-    };
+    let place = place_of(top, uppers, from / ENTRIES as u32)?;
     let index = from as usize / ENTRIES;
-    match first_entry(&middles[place as usize], from as usize % ENTRIES) {
-        Some((i, slot)) => Some(((index * ENTRIES + i) as u32, slot)),
-        None => None,
-    }
+    let (i, slot) = first_entry(&middles[place as usize], from as usize % ENTRIES)?;
+    Some(((index * ENTRIES + i) as u32, slot))
 }
 
 /// The first cell from a cell on, with its slot.
@@ -87,11 +79,7 @@ pub(crate) fn first_slot(
     if let Some(found) = first_beside(top, uppers, middles, from) {
         return Some(found);
     }
-    let Some((index, place)) = first_middle(top, uppers, from / ENTRIES as u32 + 1) else {
-        return None;
-    };
-    match first_entry(&middles[place as usize], 0) {
-        Some((i, slot)) => Some((index * ENTRIES as u32 + i as u32, slot)),
-        None => None,
-    }
+    let (index, place) = first_middle(top, uppers, from / ENTRIES as u32 + 1)?;
+    let (i, slot) = first_entry(&middles[place as usize], 0)?;
+    Some((index * ENTRIES as u32 + i as u32, slot))
 }

@@ -7,14 +7,14 @@ use Rattle.table_levels.proofs.Asking.{refuses_after}
 use Rattle.table_levels.proofs.Copied.{grants_more}
 use Rattle.table_levels.proofs.copying.copy_lower.Goals as goal
 
-pub returns-in-Ok-copy_level-clause-requests : goal.returns-in-Ok-copy_level-clause-requests
-returns-in-Ok-copy_level-clause-requests g c =
+pub returns-in-Ok-clause-requests : goal.returns-in-Ok-clause-requests
+returns-in-Ok-clause-requests g c =
     grants_more g.A.Allot.goes (replicate (tables_at c.args.upper_tables.now) Upper) (replicate (tables_at c.args.middle_tables.now) Middle) _ _ _
-    c.in-Ok.ensures.requests c.in-Ok-copy_level.ensures.requests
+    c.in_ok-copy_level.ensures.requests c.in-Ok.ensures.requests
 
-pub returns-in-Err-copy_level-clause-requests : goal.returns-in-Err-copy_level-clause-requests
-returns-in-Err-copy_level-clause-requests g c =
+pub returns-in-Err-clause-requests : goal.returns-in-Err-clause-requests
+returns-in-Err-clause-requests g c =
     refuses_after g.A.Allot.goes (replicate (tables_at c.args.upper_tables.now) Upper) (replicate (tables_at c.args.middle_tables.now) Middle)
-    c.in-Err-copy_level.refused.at (tables_at c.copy_level.new.places.items) _ _ _ _
-    c.in-Ok.ensures.requests c.in-Err-copy_level.ensures.requests c.give_all.ensures.given
-    (c.in-Ok.ensures.copied.counted ∙ sym (length-replicate (tables_at c.args.upper_tables.now) Upper))
+    c.in-Err.refused.at (tables_at c.copy_level.new.places.items) _ _ _ _
+    c.in_ok-copy_level.ensures.requests c.in-Err.ensures.requests c.give_all.ensures.given
+    (c.in_ok-copy_level.ensures.copied.counted ∙ sym (length-replicate (tables_at c.args.upper_tables.now) Upper))

@@ -4,7 +4,7 @@ use Rattle.table_levels.specs.Requests.{wanted_if, wanted_lower}
 use Rattle.table_levels.proofs.Asking.{refuses_after, fresh_count}
 use Rattle.table_levels.proofs.frames.take_fresh.Goals as goal
 
-pub returns-in-Err-take_lower-clause-requests : goal.returns-in-Err-take_lower-clause-requests
-returns-in-Err-take_lower-clause-requests g c =
+pub returns-in-Err-clause-requests : goal.returns-in-Err-clause-requests
+returns-in-Err-clause-requests g c =
     refuses_after g.A.Allot.goes (wanted_if c.args.wanted.top Top) (wanted_lower c.args.wanted) _ _ _ _ _ _
-    c.in-Ok.ensures.requests c.in-Err-take_lower.ensures.requests c.give_back.ensures.given (fresh_count c.args.wanted.top Top c.in-Ok.top c.in-Ok.ensures.fresh)
+    c.in_ok-top.ensures.requests c.in-Err.ensures.requests c.give_back.ensures.given (fresh_count c.args.wanted.top Top c.in_ok-top.top c.in_ok-top.ensures.fresh)

@@ -6,21 +6,22 @@ use Rattle.table_levels.proofs.Walking.{table_at-get}
 use Rattle.table_levels.proofs.FoundFirst.{beside_some, beside_none}
 use Rattle.table_levels.proofs.search.first_beside.Goals as goal
 
-pub returns-in-Some-first_entry : goal.returns-in-Some-first_entry
-returns-in-Some-first_entry c =
+pub returns : goal.returns
+returns c =
     let levels = levels_of c.args.top.now c.args.uppers.now c.args.middles.now in
-    let at : middle_of levels (c.args.from / 512) ≡ Some c.in-Some.place = sym c.place_of.ensures ∙ c.in-Some.is in
+    let at : middle_of levels (c.args.from / 512) ≡ Some c.in_ok-place.place = sym c.place_of.ensures ∙ c.in_ok-place.was in
     let below : c.args.from / 512 < 2 ^ 18 = omega (arith, c.requires.cell) in
-    let inside : c.in-Some.place < length levels.middles = omega (arith, (c.requires.directory.middle_there (c.args.from / 512) c.in-Some.place below at).0, c.requires.directory.middles) in
-    let table : c.index-middles-place.result ≡ table_at levels.middles c.in-Some.place = c.index-middles-place.is ∙ sym (table_at-get levels.middles c.in-Some.place c.index-middles-place.result inside) in
-    beside_some levels c.args.from c.in-Some.place c.in-Some-first_entry.i c.in-Some-first_entry.slot at
-    (subst (λ p. IsFirst 512 (entry_in p) (c.args.from % 512) (Some (c.in-Some-first_entry.i, c.in-Some-first_entry.slot))) table c.in-Some-first_entry.ensures)
+    let inside : c.in_ok-place.place < length levels.middles = omega (arith, (c.requires.directory.middle_there (c.args.from / 512) c.in_ok-place.place below at).0, c.requires.directory.middles) in
+    let table : c.index-middles-place.result ≡ table_at levels.middles c.in_ok-place.place = c.index-middles-place.is ∙ sym (table_at-get levels.middles c.in_ok-place.place c.index-middles-place.result inside) in
+    beside_some levels c.args.from c.in_ok-place.place c.in_ok-i.i c.in_ok-i.slot at
+    (subst (λ p. IsFirst 512 (entry_in p) (c.args.from % 512) (Some (c.in_ok-i.i, c.in_ok-i.slot))) table c.in_ok-i.ensures)
 
-pub returns-in-None : goal.returns-in-None
-returns-in-None c =
+pub returns-in_err-i : goal.returns-in_err-i
+returns-in_err-i c =
     let levels = levels_of c.args.top.now c.args.uppers.now c.args.middles.now in
-    let at : middle_of levels (c.args.from / 512) ≡ Some c.in-Some.place = sym c.place_of.ensures ∙ c.in-Some.is in
+    let at : middle_of levels (c.args.from / 512) ≡ Some c.in_ok-place.place = sym c.place_of.ensures ∙ c.in_ok-place.was in
     let below : c.args.from / 512 < 2 ^ 18 = omega (arith, c.requires.cell) in
-    let inside : c.in-Some.place < length levels.middles = omega (arith, (c.requires.directory.middle_there (c.args.from / 512) c.in-Some.place below at).0, c.requires.directory.middles) in
-    let table : c.index-middles-place.result ≡ table_at levels.middles c.in-Some.place = c.index-middles-place.is ∙ sym (table_at-get levels.middles c.in-Some.place c.index-middles-place.result inside) in
-    beside_none levels c.args.from c.in-Some.place at (subst (λ p. IsFirst 512 (entry_in p) (c.args.from % 512) None) table c.in-None.ensures)
+    let inside : c.in_ok-place.place < length levels.middles = omega (arith, (c.requires.directory.middle_there (c.args.from / 512) c.in_ok-place.place below at).0, c.requires.directory.middles) in
+    let table : c.index-middles-place.result ≡ table_at levels.middles c.in_ok-place.place = c.index-middles-place.is ∙ sym (table_at-get levels.middles c.in_ok-place.place c.index-middles-place.result inside) in
+    rw c.from_residual-in_err-i.ensures
+    (beside_none levels c.args.from c.in_ok-place.place at (subst (λ p. IsFirst 512 (entry_in p) (c.args.from % 512) None) table c.in_err-i.ensures))

@@ -8,25 +8,25 @@ use Rattle.table_levels.proofs.directory.Directory.find.Goals as goal
 pub index-requires : goal.index-requires
 index-requires c =
     let levels : Levels = record { top = c.self.inside.top; uppers = c.self.inside.uppers.items; middles = c.self.inside.middles.items } in
-    let there : middle_of levels (c.args.cell / 512) ≡ Some c.in-Some.middle =
-    ap (λ l. middle_at c.self.inside.top l (c.args.cell / 512)) (sym c.deref.ensures.value) ∙ sym c.place_of.ensures ∙ c.in-Some.is in
+    let there : middle_of levels (c.args.cell / 512) ≡ Some c.in_ok-middle.middle =
+    ap (λ l. middle_at c.self.inside.top l (c.args.cell / 512)) (sym c.deref.ensures.value) ∙ sym c.place_of.ensures ∙ c.in_ok-middle.was in
     let below : c.args.cell / 512 < 2 ^ 18 = omega (arith, c.requires) in
-    omega (arith, (c.self.invariant.middle_there (c.args.cell / 512) c.in-Some.middle below there).0, c.self.invariant.middles)
+    omega (arith, (c.self.invariant.middle_there (c.args.cell / 512) c.in_ok-middle.middle below there).0, c.self.invariant.middles)
 
-pub returns-in-Some : goal.returns-in-Some
-returns-in-Some c =
+pub returns : goal.returns
+returns c =
     let levels : Levels = record { top = c.self.inside.top; uppers = c.self.inside.uppers.items; middles = c.self.inside.middles.items } in
-    let there : middle_of levels (c.args.cell / 512) ≡ Some c.in-Some.middle =
-    ap (λ l. middle_at c.self.inside.top l (c.args.cell / 512)) (sym c.deref.ensures.value) ∙ sym c.place_of.ensures ∙ c.in-Some.is in
+    let there : middle_of levels (c.args.cell / 512) ≡ Some c.in_ok-middle.middle =
+    ap (λ l. middle_at c.self.inside.top l (c.args.cell / 512)) (sym c.deref.ensures.value) ∙ sym c.place_of.ensures ∙ c.in_ok-middle.was in
     let below : c.args.cell / 512 < 2 ^ 18 = omega (arith, c.requires) in
-    let inside = (c.self.invariant.middle_there (c.args.cell / 512) c.in-Some.middle below there).0 in
-    let table = c.index.ensures ∙ sym (table_at-get levels.middles c.in-Some.middle c.index.result.now (omega (arith, inside, c.self.invariant.middles))) in
+    let inside = (c.self.invariant.middle_there (c.args.cell / 512) c.in_ok-middle.middle below there).0 in
+    let table = c.index.ensures ∙ sym (table_at-get levels.middles c.in_ok-middle.middle c.index.result.now (omega (arith, inside, c.self.invariant.middles))) in
     c.named_by.ensures ∙ ap (λ t. entry_in t (c.args.cell % 512)) table
-    ∙ sym (slot_there levels c.args.cell c.in-Some.middle there) ∙ sym (get-cells_of levels c.args.cell c.requires) ∙ ap (λ m. get m c.args.cell) c.self.view_is
+    ∙ sym (slot_there levels c.args.cell c.in_ok-middle.middle there) ∙ sym (get-cells_of levels c.args.cell c.requires) ∙ ap (λ m. get m c.args.cell) c.self.view_is
 
-pub returns-in-None : goal.returns-in-None
-returns-in-None c =
+pub returns-in_err-middle : goal.returns-in_err-middle
+returns-in_err-middle c =
     let levels : Levels = record { top = c.self.inside.top; uppers = c.self.inside.uppers.items; middles = c.self.inside.middles.items } in
     let absent : middle_of levels (c.args.cell / 512) ≡ None =
-    ap (λ l. middle_at c.self.inside.top l (c.args.cell / 512)) (sym c.deref.ensures.value) ∙ sym c.place_of.ensures ∙ c.in-None.is in
-    sym (slot_absent levels c.args.cell absent) ∙ sym (get-cells_of levels c.args.cell c.requires) ∙ ap (λ m. get m c.args.cell) c.self.view_is
+    ap (λ l. middle_at c.self.inside.top l (c.args.cell / 512)) (sym c.deref.ensures.value) ∙ sym c.place_of.ensures ∙ c.in_err-middle.was in
+    c.from_residual.ensures ∙ sym (slot_absent levels c.args.cell absent) ∙ sym (get-cells_of levels c.args.cell c.requires) ∙ ap (λ m. get m c.args.cell) c.self.view_is

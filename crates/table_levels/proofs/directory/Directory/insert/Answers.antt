@@ -3,6 +3,7 @@ use Rattle.std.proofs.Common.{◌≡◌, ◌+◌, ◌/◌, ◌<◌, ◌∷◌, l
 use Rattle.std.specs.Prelude.{is_some}
 use Rattle.std.specs.FinMap as map
 use Rattle.vm_base.specs.Deals.{LeadsAlong}
+use Rattle.std.proofs.lemmas.Result.{err_from_is_err_and}
 use Rattle.table_levels.specs.declared.frames.Wanted.{Wanted}
 use Rattle.table_levels.specs.Cells.{tables_of}
 use Rattle.table_levels.specs.Requests.{granted, missing_tables, wanted_tables, RefusesOne}
@@ -43,17 +44,17 @@ invariant_of-self g c =
     ∙ ap (λ n. c.self.inside.tables + n) (sym (c.count.ensures ∙ missing)) in
     subst (IsDirectory new) total c.link.ensures.linked.directory
 
-pub returns-in-Ok-clause-requests : goal.returns-in-Ok-clause-requests
-returns-in-Ok-clause-requests g c =
+pub returns-clause-requests : goal.returns-clause-requests
+returns-clause-requests g c =
     let levels : Levels = record { top = c.self.inside.top; uppers = c.self.inside.uppers.items; middles = c.self.inside.middles.items } in
     let asked = wanted_same levels c.args.cell c.is_none.result c.is_none-2.result c.is_none-3.result c.is_none.ensures (ap is_some (sym c.named_by.ensures) ∙ c.is_none-2.ensures)
     (ap is_some (sym (c.place_of.ensures ∙ ap (λ l. middle_at c.self.inside.top l (c.args.cell / 512)) c.deref.ensures.value)) ∙ c.is_none-3.ensures) in
     let missing = ap wanted_tables asked ∙ wanted_for_missing levels c.self.inside.tables c.self.invariant c.args.cell c.requires.cell
     ∙ ap (λ m. missing_tables (map.keys m) c.args.cell) c.self.view_is in
-    subst (λ wants. LeadsAlong g.A.Allot.goes (g.A.Allot.state c.args.allot.now) (granted wants) (g.A.Allot.state c.take_fresh.new.allot)) missing c.in-Ok.ensures.requests
+    subst (λ wants. LeadsAlong g.A.Allot.goes (g.A.Allot.state c.args.allot.now) (granted wants) (g.A.Allot.state c.take_fresh.new.allot)) missing c.in_ok-fresh.ensures.requests
 
-pub returns-in-Ok-clause-out : goal.returns-in-Ok-clause-out
-returns-in-Ok-clause-out g c =
+pub returns-clause-out : goal.returns-clause-out
+returns-clause-out g c =
     let levels : Levels = record { top = c.self.inside.top; uppers = c.self.inside.uppers.items; middles = c.self.inside.middles.items } in
     let new : Levels = record { top = c.link.new.top; uppers = c.link.new.uppers.items; middles = c.link.new.middles.items } in
     let asked = wanted_same levels c.args.cell c.is_none.result c.is_none-2.result c.is_none-3.result c.is_none.ensures (ap is_some (sym c.named_by.ensures) ∙ c.is_none-2.ensures)
@@ -61,13 +62,14 @@ returns-in-Ok-clause-out g c =
     let missing = ap length (ap wanted_tables asked ∙ wanted_for_missing levels c.self.inside.tables c.self.invariant c.args.cell c.requires.cell) in
     let before : tables_of c.args.self.now ≡ tables_in levels = ap tables_of (sym c.self.view_is) ∙ sym c.self.invariant.taken ∙ c.self.invariant.counted in
     let after : tables_of (cells_of new) ≡ tables_in new = sym c.link.ensures.linked.directory.taken in
-    omega (arith, c.in-Ok.ensures.out, before, after, c.link.ensures.linked.counted, missing)
+    omega (arith, c.in_ok-fresh.ensures.out, before, after, c.link.ensures.linked.counted, missing)
 
-pub returns-in-Err-clause-requests : goal.returns-in-Err-clause-requests
-returns-in-Err-clause-requests g c =
+pub returns-in_err-fresh-clause-requests : goal.returns-in_err-fresh-clause-requests
+returns-in_err-fresh-clause-requests g c =
     let levels : Levels = record { top = c.self.inside.top; uppers = c.self.inside.uppers.items; middles = c.self.inside.middles.items } in
     let asked = wanted_same levels c.args.cell c.is_none.result c.is_none-2.result c.is_none-3.result c.is_none.ensures (ap is_some (sym c.named_by.ensures) ∙ c.is_none-2.ensures)
     (ap is_some (sym (c.place_of.ensures ∙ ap (λ l. middle_at c.self.inside.top l (c.args.cell / 512)) c.deref.ensures.value)) ∙ c.is_none-3.ensures) in
     let missing = ap wanted_tables asked ∙ wanted_for_missing levels c.self.inside.tables c.self.invariant c.args.cell c.requires.cell
     ∙ ap (λ m. missing_tables (map.keys m) c.args.cell) c.self.view_is in
-    subst (λ wants. RefusesOne g.A.Allot.goes (g.A.Allot.state c.args.allot.now) wants c.in-Err.refused.at (g.A.Allot.state c.take_fresh.new.allot)) missing c.in-Err.ensures.requests
+    let exit = err_from_is_err_and c.from_residual.result c.from_residual.ensures.1 in
+    rw (exit.1, exit.2) (subst (λ wants. RefusesOne g.A.Allot.goes (g.A.Allot.state c.args.allot.now) wants c.in_err-fresh.field-0.0.at (g.A.Allot.state c.take_fresh.new.allot)) missing c.in_err-fresh.ensures.requests)
