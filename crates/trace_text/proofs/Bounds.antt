@@ -1,12 +1,13 @@
 -- The test for the bounds of an event's fields decides them.
-use Rattle.std.proofs.Common.{◌≡◌, ℕ, ◌+◌, ◌^◌, ◌<◌, Bool, true, false, ◌&&◌, ltb, leb, not, List, [], ◌∷◌, length, refl, ap, arith}
+use Rattle.std.proofs.Common.{◌≡◌, ℕ, ◌+◌, ◌^◌, ◌<◌, Bool, true, false, ◌&&◌, ltb, leb, not, List, [], ◌∷◌, length, refl, sym, ap, arith}
 use Rattle.std.specs.List.{list_any, AllByRecursion}
 use Rattle.std.proofs.lemmas.Bool.{lt-ltb, ltb-true, le-leb, leb-true, leb-false, lt-leb, and_parts}
 use Rattle.std.proofs.lemmas.List.Elements.{All-from_recursion, recursion_from_All}
 use Rattle.trace_events.specs.declared.event.Event.{Event}
 use Rattle.trace_events.specs.declared.event.Event.TheVariants.{Map, Unmap, Protect, Read, Write, Fill, Fork, Copy, Drop, SnapRead, Frames, ListAreas, Refuse}
 use Rattle.trace_events.specs.EventBounds.{is_fork_mode, IsWithinBounds, ArePages, IsRange, IsCounted}
-use Rattle.trace_text.specs.ScriptReading.{are_pages, is_counted, is_range, is_within}
+use Rattle.std.specs.Bool.{then_some}
+use Rattle.trace_text.specs.ScriptReading.{are_pages, is_counted, is_range, is_within, only_if}
 use Rattle.trace_text.proofs.Steps.{or_parts}
 
 both : (a b : Bool) → a ≡ true → b ≡ true → (a && b) ≡ true
@@ -100,3 +101,14 @@ true_within (SnapRead number addr len) h = both _ _ (true_counted number h.0) (t
 true_within Frames h = refl
 true_within ListAreas h = refl
 true_within (Refuse nth) h = true_counted nth h
+
+-- tests that hold together are one
+pub same_truth : (a b : Bool) → (a ≡ true → b ≡ true) → (b ≡ true → a ≡ true) → a ≡ b
+same_truth true b to back = sym (to refl)
+same_truth false true to back = back refl
+same_truth false false to back = refl
+
+-- a value that a test lets through
+pub then_some-only_if : {A : Type 0} (holds : Bool) (x : A) → then_some holds x ≡ only_if holds x
+then_some-only_if true x = refl
+then_some-only_if false x = refl

@@ -28,11 +28,7 @@ pub(crate) fn event_of(alloc: Global, line: &[u8]) -> Result<Option<Event>, NoMe
 fn if_within_bounds(event: Event) -> Option<Event>
     ensures { result ≡ only_if (is_within event) event }
 {
-    if event.is_within_bounds() {
-        Some(event)
-    } else {
-        None
-    }
+    event.is_within_bounds().then_some(event)
 }
 
 // The table of first words.

@@ -25,11 +25,7 @@ pub(crate) fn machine_of(line: &[u8]) -> Option<Machine>
         return None;
     }
     let machine = machine_fields(fields)?;
-    if machine.is_within_bounds() {
-        Some(machine)
-    } else {
-        None
-    }
+    machine.is_within_bounds().then_some(machine)
 }
 
 #[tactic(auto, unfolding(crate::specs::ScriptReading::machine_fields))]

@@ -23,11 +23,7 @@ pub(crate) fn count(token: &[u8]) -> Option<u32>
     ensures { result ≡ count_of token.now }
 {
     let number = number(token, 10)?;
-    if number < 0x1_0000_0000 {
-        Some(number as u32)
-    } else {
-        None
-    }
+    u32::try_from(number).ok()
 }
 
 // A token of a thousand digits is left as soon as its number is too large.
@@ -51,11 +47,7 @@ fn digit(byte: u8) -> Option<u64>
     ensures value { result ≡ digit_of byte }
     ensures below { IfSome result (λ digit. digit < 16) }
 {
-    if is_digit(byte) {
-        Some(u64::from(value(byte)))
-    } else {
-        None
-    }
+    is_digit(byte).then(|| u64::from(value(byte)))
 }
 
 /// The byte that two digits spell.
@@ -72,11 +64,7 @@ pub(crate) fn byte(token: &[u8]) -> Option<u8>
 pub(crate) fn pair(high: u8, low: u8) -> Option<u8>
     ensures { result ≡ byte_of (high ∷ low ∷ []) }
 {
-    if is_digit(high) & is_digit(low) {
-        Some(value(high) * 16 + value(low))
-    } else {
-        None
-    }
+    (is_digit(high) & is_digit(low)).then(|| value(high) * 16 + value(low))
 }
 
 // Both kinds of digits come in any order, so that a branch here would be guessed wrong: this test

@@ -60,10 +60,12 @@ fn count_text(alloc: Global, word: &str, at: u64, out: &mut Bytes) -> Result<(),
     ensures ok { OnOk result (out.new ≡ out.old ++ (word.now ++ decimal at ++ codes "\n")) }
     ensures no_memory { OnErr result (out.new ≡ out.old) }
 {
-    let mut buffer = Buffer::new();
-    let digits = buffer.format(at);
-    let line = format!(in alloc; "{word}{digits}\n")?;
-    out.push_all(line.as_bytes())
+    let mut digits = Buffer::new();
+    let mut line = Bytes::new(alloc);
+    line.push_all(word.as_bytes())?;
+    line.push_all(digits.format(at).as_bytes())?;
+    line.push_all(b"\n")?;
+    out.push_all(line.as_slice())
 }
 
 fn page_text(alloc: Global, word: &str, page: u64, out: &mut Bytes) -> Result<(), NoMemory>

@@ -45,11 +45,7 @@ fn decoded(alloc: Global, digits: &[u8]) -> Result<Option<Vec<u8>>, NoMemory>
         list.push(byte)?;
         rest = others;
     }
-    if rest.is_empty() {
-        Ok(Some(list))
-    } else {
-        Ok(None)
-    }
+    Ok(rest.is_empty().then_some(list))
 }
 
 #[tactic(auto, unfolding(crate::specs::ScriptReading::perm_of))]
@@ -86,11 +82,7 @@ pub(crate) fn page_at(token: &[u8]) -> Option<u64>
     ensures { result ≡ page_at token.now }
 {
     let address = number(token, 16)?;
-    if address % 4096 == 0 {
-        Some(address / 4096)
-    } else {
-        None
-    }
+    (address % 4096 == 0).then_some(address / 4096)
 }
 
 /// An address and a length.
