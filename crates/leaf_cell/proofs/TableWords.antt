@@ -1,18 +1,18 @@
 -- The words of a table, and the places that they hold.
-use Rattle.std.proofs.Common.{◌≡◌, ◌≢◌, ℕ, zero, suc, ◌+◌, ◌-◌, ◌*◌, ◌^◌, ◌<◌, ◌≤◌, List, [], ◌∷◌, ◌++◌, length, take, drop, replicate, get_or, Option, Some, None, refl, sym, ◌∙◌, ap, arith, inl, inr, ◌⊎◌, append_assoc}
-use Rattle.std.specs.Prelude.{slice_set, slice_index, cond, Bool, true, false, ◌==◌, bit_and}
+use Rattle.std.proofs.Common.{◌≡◌, ◌≢◌, ℕ, zero, suc, ◌+◌, ◌-◌, ◌*◌, ◌^◌, ◌<◌, ◌≤◌, List, [], ◌∷◌, ◌++◌, length, take, drop, replicate, get_or, Option, Some, None, refl, sym, ◌∙◌, ap, arith, inl, inr, ◌⊎◌, append_assoc, subst}
+use Rattle.std.specs.Prelude.{slice_set, slice_index, cond, Bool, true, false, ◌==◌, bit_and, bit_or}
 use Rattle.std.proofs.Math.ListN.{get_or-append}
 use Rattle.std.proofs.Math.Seq.{get_or-append_right, drop-append_seam}
-use Rattle.std.proofs.lemmas.Bool.{cases_eq, cases_lt, ne_eqb}
-use Rattle.std.proofs.lemmas.List.{length-take-le, length-set, get_or-set_same, get_or-set_other, get_or-replicate, length-replicate, get_or-take, get_or-drop, get_or_past}
+use Rattle.std.proofs.lemmas.Bool.{cases_eq, cases_lt}
+use Rattle.std.proofs.lemmas.List.{length-append, length-drop, length-take-le, length-set, get_or-set_same, get_or-set_other, get_or-replicate, length-replicate, get_or-take, get_or-drop, get_or_past}
 use Rattle.std.proofs.lemmas.List.FromFn.{length-map-range_with_len, get_or-map-range_with_len, fill_by_all}
 use Rattle.byteorder.specs.Endian.{little_from, little_number, little_bytes}
 use Rattle.byteorder.specs.Numbers.{little_number-reads_back, length-bytes_low_first}
-use Rattle.vm_base.specs.Entries.{entry_of, number_of}
+use Rattle.vm_base.specs.Entries.{entry_of, number_of, bits_of}
 use Rattle.vm_base.specs.FlatMemory.{spliced, zero_page}
 use Rattle.vm_base.proofs.EntryLemmas.{bits_of-entry}
 use Rattle.kernel_meaning.specs.Leaves.{no_versions, version_at, without_versions}
-use Rattle.leaf_cell.specs.Places.{word_at, with_word, without_words, place_in, places_of, may_write, writable_of}
+use Rattle.leaf_cell.specs.Places.{IsLeafEntry, word_at, with_word, without_words, place_in, places_of, may_write, writable_of}
 use Rattle.leaf_cell.specs.Writable.{none_writable, writable_at, without_writable}
 use Rattle.leaf_cell.proofs.WritablePages.{beyond-within, beyond-outside, with_writable-is}
 use Rattle.leaf_cell.proofs.Without.{in-or-out, length-without, without-within, without-outside}
@@ -59,6 +59,10 @@ module _ (bytes : List ℕ) (at : ℕ) (new : List ℕ) (fits : at + length new 
       ∙ ap (λ i. get_or (new ++ drop (at + length new) bytes) i 0) place
       ∙ get_or-append new (drop (at + length new) bytes) 0 (k - at) (omega arith)
 
+  -- and it is as long as it was
+  pub length-spliced : length (spliced bytes at new) ≡ length bytes
+  length-spliced = ap length parts ∙ length-append (take at bytes) (new ++ drop (at + length new) bytes) ∙ omega (arith, front, fits, length-append new (drop (at + length new) bytes), length-drop (at + length new) bytes)
+
 -- the word that was put is there
 word_at-here : (bytes : List ℕ) (i word : ℕ) → length bytes ≡ 4096 → i < 512 → word < 2 ^ 64 → word_at (with_word bytes i word) i ≡ word
 word_at-here bytes i word whole small fits =
@@ -79,6 +83,19 @@ word_at-apart bytes i word k whole small small_too apart =
       | inr more ↦ spliced-above bytes (8 * i) (little_bytes 8 word) room (8 * k + j) (omega (arith, size, apart))
     ]
     ∙ sym (get_or-drop (8 * k) bytes j 0))
+
+pub length-with_word : (bytes : List ℕ) (page word : ℕ) → length bytes ≡ 4096 → page < 512 → length (with_word bytes page word) ≡ 4096
+length-with_word bytes page word whole small =
+    let size : length (little_bytes 8 word) ≡ 8 = length-bytes_low_first 0 8 word in
+    length-spliced bytes (8 * page) (little_bytes 8 word) (omega (arith, size)) ∙ whole
+
+-- an entry that was put leaves the others what they are
+pub entries-with_word : (bytes : List ℕ) (page word : ℕ) → length bytes ≡ 4096 → page < 512 → word < 2 ^ 64 → IsLeafEntry word → ((k : ℕ) → k < 512 → IsLeafEntry (word_at bytes k))
+    → (k : ℕ) → k < 512 → IsLeafEntry (word_at (with_word bytes page word) k)
+entries-with_word bytes page word whole small fits entry entries k below = elim (cases_eq k page) [
+  | inl here ↦ subst IsLeafEntry (sym (ap (word_at (with_word bytes page word)) here ∙ word_at-here bytes page word whole small fits)) entry
+  | inr apart ↦ subst IsLeafEntry (sym (word_at-apart bytes page word k whole small below apart)) (entries k below)
+]
 
 -- the place of a page that a table holds
 pub version_at-places_of : (bytes : List ℕ) (page : ℕ) → page < 512 → version_at (places_of bytes) page ≡ place_in (word_at bytes page)
@@ -150,6 +167,9 @@ places_of-zeros = sym (filled zero_page no_versions (length-replicate {A = Optio
 pub writable_of-zeros : writable_of zero_page ≡ none_writable
 writable_of-zeros = sym (told zero_page none_writable (length-replicate {A = Bool} 512 false) (λ page small. get_or-replicate 512 page false false small ∙ sym (ap may_write (zero_word page))))
 
+pub entries-zeros : (i : ℕ) → i < 512 → IsLeafEntry (word_at zero_page i)
+entries-zeros i small = inl (zero_word i)
+
 module _ (bytes : List ℕ) (first n : ℕ) (whole : length bytes ≡ 4096) (range : first + n ≤ 512) where
   zeros : List ℕ
   zeros = replicate (8 * n) 0
@@ -177,6 +197,17 @@ module _ (bytes : List ℕ) (first n : ℕ) (whole : length bytes ≡ 4096) (ran
       ]
       ∙ sym (get_or-drop (8 * k) bytes j 0))
 
+  pub length-without_words : length (without_words bytes first n) ≡ 4096
+  unfolding zeros
+  length-without_words = length-spliced bytes (8 * first) zeros fits ∙ whole
+
+  pub entries-without_words : ((k : ℕ) → k < 512 → IsLeafEntry (word_at bytes k)) → (k : ℕ) → k < 512 → IsLeafEntry (word_at (without_words bytes first n) k)
+  unfolding zeros
+  entries-without_words entries k small = elim (in-or-out first n k) [
+    | inl within ↦ inl (word_at-zeroed k within.0 within.1)
+    | inr outside ↦ subst IsLeafEntry (sym (word_at-left k small outside)) (entries k small)
+  ]
+
   pub places_of-without_words : places_of (without_words bytes first n) ≡ without_versions (places_of bytes) first n
   unfolding zeros
   places_of-without_words =
@@ -197,18 +228,12 @@ module _ (bytes : List ℕ) (first n : ℕ) (whole : length bytes ≡ 4096) (ran
             ∙ sym (ap (λ b. cond b (writable_at (writable_of bytes) k) false) (beyond-outside first n k outside))
       ])
 
--- the entry of a place is not 0, and holds the place
-pub place_in-entry : (word place : ℕ) → word ≡ entry_of place 1 → number_of word ≡ place → place_in word ≡ Some place
-place_in-entry word place is number =
-    let not_zero : word ≡ 0 → ⊥ = λ zero. absurd (omega (arith, is, zero)) in
-    ap (λ b. cond b None (Some (number_of word))) (ne_eqb word 0 not_zero) ∙ ap Some number
-
--- the same where the entry also tells that the page may be written to
-pub place_in-present : (word place : ℕ) (is_writable : Bool) → word ≡ entry_of place (cond is_writable 3 1) → number_of word ≡ place → place_in word ≡ Some place
+-- an entry with the bits of a present page, written to or not, holds its place
+pub place_in-present : (word place : ℕ) (may : Bool) → word ≡ entry_of place (cond may 3 1) → number_of word ≡ place → place_in word ≡ Some place
 place_in-present word place true is number =
-    let not_zero : word ≡ 0 → ⊥ = λ zero. absurd (omega (arith, is, zero)) in
-    ap (λ b. cond b None (Some (number_of word))) (ne_eqb word 0 not_zero) ∙ ap Some number
-place_in-present word place false is number = place_in-entry word place is number
+    ap (λ bits. cond (bit_or bits 2 == 3) (Some (number_of word)) None) (ap bits_of is ∙ bits_of-entry place 3) ∙ ap Some number
+place_in-present word place false is number =
+    ap (λ bits. cond (bit_or bits 2 == 3) (Some (number_of word)) None) (ap bits_of is ∙ bits_of-entry place 1) ∙ ap Some number
 
 -- an entry with the bits of a present page tells what they tell
 pub may_write-present : (word place : ℕ) (may : Bool) → word ≡ entry_of place (cond may 3 1) → may_write word ≡ may

@@ -1,12 +1,11 @@
 -- A table without the pages of a range.
-use Rattle.std.proofs.Common.{◌≡◌, ◌≢◌, ℕ, zero, suc, ◌+◌, ◌-◌, ◌<◌, ◌≤◌, [], ◌∷◌, ◌++◌, length, take, drop, replicate, get_or, Option, Some, None, refl, sym, ◌∙◌, ap, arith, inl, inr, ◌⊎◌, append_assoc}
-use Rattle.std.specs.Prelude.{is_some, Bool, true, false, cond, count_by}
+use Rattle.std.proofs.Common.{◌≡◌, ℕ, zero, suc, ◌+◌, ◌-◌, ◌<◌, ◌≤◌, [], ◌∷◌, ◌++◌, length, take, drop, replicate, get_or, Option, Some, None, refl, sym, ◌∙◌, ap, arith, inl, inr, ◌⊎◌, append_assoc}
+use Rattle.std.specs.Prelude.{false}
 use Rattle.std.specs.Option.{option_map}
 use Rattle.std.proofs.Math.ListN.{get_or-append}
 use Rattle.std.proofs.Math.Seq.{get_or-append_right}
 use Rattle.std.proofs.lemmas.Bool.{cases_lt, false≢true}
 use Rattle.std.proofs.lemmas.List.{length-append, length-drop, length-take-le, length-replicate, get_or-replicate, get_or-take, get_or-drop}
-use Rattle.std.proofs.lemmas.List.Sums.{sum_by-cons}
 use Rattle.kernel_meaning.specs.Leaves.{Versions, no_versions, version_at, without_versions, has_pages}
 use Rattle.leaf_cell.specs.Renaming.{renamed}
 use Rattle.leaf_cell.proofs.AbsentPages.{version_at-none}
@@ -96,21 +95,3 @@ none-left (Some v ∷ versions) none page = absurd (false≢true (sym none))
 
 pub table-none : (versions : Versions) → length versions ≡ 512 → has_pages versions ≡ false → no_versions ≡ versions
 table-none versions size none = sym (same_versions versions no_versions (size ∙ sym (length-replicate {A = Option ℕ} 512 None)) (λ page small. none-left versions none page ∙ sym (version_at-none page)))
-
--- a table with pages counts some
-pub pages-counted : (versions : Versions) → count_by is_some versions ≡ 0 → has_pages versions ≡ false
-pages-counted [] none = refl
-pages-counted (None ∷ versions) none = pages-counted versions (omega (arith, none, sum_by-cons (λ o. cond (is_some o) 1 0) None versions))
-pages-counted (Some v ∷ versions) none = absurd (omega (arith, none, sum_by-cons (λ o. cond (is_some o) 1 0) (Some v) versions))
-
-none-counted : (versions : Versions) → has_pages versions ≡ false → count_by is_some versions ≡ 0
-none-counted [] none = refl
-none-counted (None ∷ versions) none = omega (arith, none-counted versions none, sum_by-cons (λ o. cond (is_some o) 1 0) None versions)
-none-counted (Some v ∷ versions) none = absurd (false≢true (sym none))
-
-pub some-counted : (versions : Versions) → count_by is_some versions ≢ 0 → has_pages versions ≡ true
-some-counted versions some = by (has_pages versions) refl
-  where
-    by : (b : Bool) → has_pages versions ≡ b → b ≡ true
-    by true is = refl
-    by false is = absurd (some (none-counted versions is))

@@ -45,17 +45,6 @@ pub record LedByTwo {State : Type 0} (goes : State → Deal → State → Type 0
   pub led : LeadsAlong goes from deals to
   pub two : TwoDeals result deals
 
--- the deals of a page that is copied
-abbrev pub CopyDeals : Result (Unit {0}) RefusedRequest → List Deal → Type 0
-CopyDeals (Ok done) deals = deals ≡ Granted want.Page ∷ []
-CopyDeals (Err refused) deals = deals ≡ Denied want.Page refused.at ∷ []
-
--- they led from one state to another
-pub record LedByCopy {State : Type 0} (goes : State → Deal → State → Type 0) (from to : State) (result : Result (Unit {0}) RefusedRequest) : Type 0 where
-  pub deals : List Deal
-  pub led : LeadsAlong goes from deals to
-  pub copying : CopyDeals result deals
-
 -- a frame with some of its bytes replaced
 abbrev pub with_stored : ℕ → List ℕ → FrameView → FrameView
 with_stored at bytes frame = record frame { bytes = spliced frame.bytes at bytes }

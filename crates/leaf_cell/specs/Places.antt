@@ -1,9 +1,9 @@
 -- A leaf table in a frame: 512 entries of 64 bits, least significant byte first, each 0 or with the place of a page's frame.
-use Rattle.std.specs.Prelude.{ℕ, ◌*◌, ◌==◌, bit_and, if◌then◌else◌, Bool, List, drop, replicate, map, slice_set, Option, Some, None}
+use Rattle.std.specs.Prelude.{◌≡◌, ◌⊎◌, ◌<◌, ℕ, ◌*◌, ◌==◌, cond, length, bit_and, bit_or, if◌then◌else◌, Bool, List, drop, replicate, map, slice_set, Option, Some, None}
 use Rattle.std.specs.List.{range_with_len}
 use Rattle.byteorder.specs.Endian.{little_number, little_bytes}
 use Rattle.vm_base.specs.FlatMemory.{spliced}
-use Rattle.vm_base.specs.Entries.{number_of, bits_of}
+use Rattle.vm_base.specs.Entries.{entry_of, number_of, bits_of}
 use Rattle.kernel_meaning.specs.Leaves.{Versions, no_versions, with_version, without_versions}
 use Rattle.leaf_cell.specs.Writable.{none_writable, without_writable}
 
@@ -19,9 +19,22 @@ with_word bytes i word = spliced bytes (8 * i) (little_bytes 8 word)
 abbrev pub without_words : List ℕ → ℕ → ℕ → List ℕ
 without_words bytes first n = spliced bytes (8 * first) (replicate (8 * n) 0)
 
--- the place of a frame that an entry holds
+-- an entry of a leaf table is 0, or has the place of a present page's frame, the bit for presence, and that for writing or not
+abbrev pub IsLeafEntry : ℕ → Type 0
+IsLeafEntry word = (word ≡ 0) ⊎ ((place : ℕ) × (may : Bool) × (word ≡ entry_of place (cond may 3 1)))
+
+-- the bytes of a table: each of its entries is one of a leaf table
+pub record IsLeafTable (bytes : List ℕ) : Type 0 where
+  pub size : length bytes ≡ 4096
+  pub entries : (i : ℕ) → i < 512 → IsLeafEntry (word_at bytes i)
+
+-- whether an entry tells that its page is present, and nothing else but that it may be written to: its bits are of value 1 or 3
+abbrev pub is_of_page : ℕ → Bool
+is_of_page word = bit_or (bits_of word) 2 == 3
+
+-- the place of a frame that an entry holds, which only an entry of a present page does
 abbrev pub place_in : ℕ → Option ℕ
-place_in word = if word == 0 then None else Some (number_of word)
+place_in word = if is_of_page word then Some (number_of word) else None
 
 -- the places that the bytes of a table hold, page after page
 unfoldable pub places_of : List ℕ → Versions

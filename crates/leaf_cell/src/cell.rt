@@ -1,7 +1,7 @@
 //! A cell, and what is read of it.
 ghost use Rattle.std.specs.Prelude.{◌≡◌, ◌+◌, ◌<◌, ◌≤◌, ℕ, length, IfOk, Ok, Err, OnOk, OnErr, IfErr, replicate, None, Some, is_some, count_by, true};
 ghost use Rattle.std.specs.FinMap.{get};
-ghost use Rattle.kernel_meaning.specs.Leaves.{has_present, kept_by, version_at};
+ghost use Rattle.kernel_meaning.specs.Leaves.{has_pages, has_present, kept_by, version_at};
 ghost use Rattle.kernel_meaning.specs.CellAccount.{CellAccount, empty_account, account_share};
 ghost use Rattle.leaf_cell.specs.CellView.{new_view, parent_page, part_of, held_of, AreUnjoined};
 ghost use Rattle.leaf_cell.specs.Writable.{writable_at};
@@ -123,7 +123,17 @@ impl Cell {
         }
     }
 
-    /// How many frames the cell holds.
+    /// Whether the parent has a page here. It reads no entry: a leaf table that is there has one.
+    pub fn has_pages(&self) -> bool
+        ensures pages { result ≡ has_pages self.now.leaves.parent }
+        ensures account { (account : CellAccount) → StandsFor self.now account → result ≡ has_pages account.state.leaves.parent }
+    {
+        self.parent.is_some()
+    }
+
+    /// How many frames the cell holds. It counts them, for a caller that wants the number of one
+    /// cell itself. The crates above keep the sum of all cells instead, and there a proof takes
+    /// `tell_share`.
     pub fn held(&self) -> u32
         ensures held { result ≡ held_of self.now }
         ensures share { (account : CellAccount) → StandsFor self.now account → result ≡ account_share account }

@@ -95,7 +95,7 @@ fn left_table<A: Allot>(
 {
     let mut left = table;
     left.clear(first, pages);
-    let is_empty = left.pages() == 0;
+    let is_empty = !left.has_pages();
     if is_empty {
         allot.give(left.into_frame());
         None

@@ -2,7 +2,7 @@
 ghost use Rattle.std.specs.Prelude.{◌≡◌, ◌<◌, ◌*◌, ◌+◌, ◌≤◌, slice_set, Some, None, length, replicate, count_by, is_some, cond};
 ghost use Rattle.byteorder.specs.Endian.{little_bytes};
 ghost use Rattle.vm_base.specs.FlatMemory.{zero_page, spliced};
-ghost use Rattle.kernel_meaning.specs.Leaves.{version_at, has_present};
+ghost use Rattle.kernel_meaning.specs.Leaves.{version_at, has_pages, has_present};
 ghost use Rattle.leaf_cell.specs.Places.{word_at, place_in, with_word, without_words, no_table, with_entry, without_entries};
 ghost use Rattle.leaf_cell.specs.Writable.{writable_at};
 
@@ -25,14 +25,13 @@ pub(crate) struct LeafTable {
 }
 
 impl Model for LeafTable {
-    ghost use Rattle.std.specs.Prelude.{◌≡◌, length};
-    ghost use Rattle.leaf_cell.specs.Places.{TableView, places_of, writable_of};
+    ghost use Rattle.leaf_cell.specs.Places.{TableView, IsLeafTable, places_of, writable_of};
 
     ghost Value = { TableView };
 
     ghost view = { λ table. record { places = places_of table.frame.bytes; writable = writable_of table.frame.bytes } };
 
-    ghost invariant = { λ table. length table.frame.bytes ≡ 4096 };
+    ghost invariant = { λ table. IsLeafTable table.frame.bytes };
 }
 
 impl LeafTable {
@@ -132,6 +131,13 @@ impl LeafTable {
         false
     }
 
+    /// Whether a page is present. It reads no entry after the first of one.
+    pub(crate) fn has_pages(&self) -> bool
+        ensures { result ≡ has_pages self.now.places }
+    {
+        self.covers(0, self.entries())
+    }
+
     /// The frame that the table was in.
     pub(crate) fn into_frame(self) -> Frame {
         self.frame
@@ -153,10 +159,12 @@ fn page_bits(is_writable: bool) -> Bits
 fn place_of(word: u64) -> Option<u32>
     ensures { result ≡ place_in word }
 {
-    if word == 0 {
-        None
+    let (place, bits) = entry_parts(word);
+    // Present, to be written to or not, and no other bit.
+    if bits.union(Bits::WRITE) == page_bits(true) {
+        Some(place)
     } else {
-        Some(entry_parts(word).0)
+        None
     }
 }
 

@@ -49,6 +49,7 @@ fn a_new_cell_holds_nothing(rt: HostRuntime) -> Result<(), Fail> {
     let cell = Cell::new(rt.alloc())?;
     assert_eq!(rt; cell.held(), 0);
     assert_eq!(rt; cell.pages(), 0);
+    assert_eq!(rt; cell.has_pages(), false);
     assert_eq!(rt; cell.state(7), LeafState::Absent);
     assert_eq!(rt; cell.snap(0), None);
     let mut buf = [9; 3];
@@ -78,24 +79,24 @@ fn write_around_a_fork(alloc: Global, left: u32) -> Result<Option<Trial>, NoMemo
         refused: 0,
     };
     let mut cell = Cell::new(alloc)?;
-    let Ok(()) = cell.touch(3, &mut supply) else {
+    let Ok(()) = cell.touch(0, &mut supply) else {
         return Ok(None);
     };
-    cell.store(3, 0, b"ab");
     let touched = cell.held();
+    cell.store(0, 0, b"ab");
     let Ok(()) = cell.fork_eager(1, &mut supply) else {
         return Ok(None);
     };
     let forked = cell.held();
-    let Ok(()) = cell.touch(3, &mut supply) else {
+    let Ok(()) = cell.touch(0, &mut supply) else {
         return Ok(None);
     };
-    cell.store(3, 0, b"z");
+    cell.store(0, 0, b"z");
     let copied = cell.held();
     let mut parent = [0; 2];
-    cell.read(3, 0, &mut parent);
+    cell.read(0, 0, &mut parent);
     let mut buf = [0; 2];
-    let snapshot = match cell.snap_read(1, 3, 0, &mut buf) {
+    let snapshot = match cell.snap_read(1, 0, 0, &mut buf) {
         Ok(()) => Ok(buf),
         Err(lost) => Err(lost),
     };
