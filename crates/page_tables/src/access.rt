@@ -1,6 +1,5 @@
 //! Reading both sides, and storing.
-ghost use Rattle.std.specs.Prelude.{◌≡◌, ◌+◌, ◌*◌, ◌/◌, ◌%◌, ◌^◌, ◌<◌, ◌≤◌, ℕ, Some, is_some, length};
-ghost use Rattle.std.specs.FinMap.{get};
+ghost use Rattle.std.specs.Prelude.{◌≡◌, ◌+◌, ◌*◌, ◌/◌, ◌%◌, ◌^◌, ◌<◌, ◌≤◌, ℕ, Some, length};
 ghost use Rattle.vm_base.specs.Places.{page_of, offset_of, cell_of};
 ghost use Rattle.vm_base.specs.FlatMemory.{bytes_at};
 ghost use Rattle.vm_base.specs.FlatStep.{with_bytes};
@@ -185,16 +184,6 @@ impl PageTables {
         ensures loss { (sides : Sides) → TablesStandFor self.now sides → IsLowestLoss sides.leaves number result }
     {
         lowest_lost(&self.slots, number)
-    }
-
-    /// Whether a snapshot of this number lives.
-    pub fn is_live(&self, number: u32) -> bool
-        ensures live { (sides : Sides) → TablesStandFor self.now sides → result ≡ is_some (get sides.snapshots number) }
-    {
-        match &self.snapshot {
-            Some(tables) => tables.number == number,
-            None => false,
-        }
     }
 
     /// The slot of a cell that the snapshot has.

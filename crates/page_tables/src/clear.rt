@@ -13,12 +13,10 @@ ghost use Rattle.page_tables.specs.Sides.{Sides};
 ghost use Rattle.page_tables.specs.Standing.{TablesStandFor, slot_count};
 ghost use Rattle.page_tables.specs.Held.{frames_of, frames_in, shares_in};
 
+use crate::pieces::CELL_PAGES;
 use crate::slot::Slot;
 use crate::tables::PageTables;
 use vm_base::Allot;
-
-/// Pages in a cell.
-const CELL_PAGES: u64 = 512;
 
 impl PageTables {
     /// Takes the parent's pages of a range out, one cell after another in rising order. No frame
@@ -131,7 +129,7 @@ impl PageTables {
         home.cell.tell_share();
         home.cell.clear(first, count, allot);
         home.cell.tell_share();
-        if home.cell.pages() == 0 {
+        if !home.cell.has_pages() {
             leave_slot(home);
             self.directory.remove(cell, allot);
         }

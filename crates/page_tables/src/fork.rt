@@ -170,7 +170,7 @@ fn fork_slot<A: Allot>(slot: &mut Slot, number: u32, allot: &mut A) -> Result<()
     ensures untold { A.grants allot.new ≡ None }
     ensures even { held_of slot.old.cell + share slot.new.cell.leaves ≡ share slot.old.cell.leaves + held_of slot.new.cell }
 {
-    if slot.cell.pages() == 0 {
+    if !slot.cell.has_pages() {
         return Ok(());
     }
     slot.cell.tell_share();
@@ -236,5 +236,5 @@ pub(crate) fn free_if_unused(slot: &mut Slot)
 fn is_unused(cell: &Cell) -> bool
     ensures { result ≡ not (is_used cell.now.leaves) }
 {
-    cell.pages() == 0 && cell.snap(0).is_none()
+    !cell.has_pages() && cell.snap(0).is_none()
 }

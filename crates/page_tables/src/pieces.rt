@@ -6,7 +6,7 @@ ghost use Rattle.vm_base.specs.Places.{page_of, offset_of, cell_of};
 const PAGE_BYTES: u64 = 4096;
 
 /// Pages in a cell.
-const CELL_PAGES: u64 = 512;
+pub(crate) const CELL_PAGES: u64 = 512;
 
 /// Bytes in a cell.
 const CELL_BYTES: u64 = PAGE_BYTES * CELL_PAGES;
@@ -26,12 +26,21 @@ pub(crate) fn location_of(addr: u64) -> Location
     ensures page { result.page ≡ page_of addr % 512 }
     ensures at { result.at ≡ offset_of addr }
 {
-    let page = addr / PAGE_BYTES;
+    let (cell, page) = cell_and_index(addr / PAGE_BYTES);
     Location {
-        cell: (page / CELL_PAGES) as u32,
-        page: (page % CELL_PAGES) as u16,
+        cell,
+        page,
         at: (addr % PAGE_BYTES) as u16,
     }
+}
+
+/// The cell of a page, and the page's index in the cell.
+pub(crate) fn cell_and_index(page: u64) -> (u32, u16)
+    requires { page < 2 ^ 36 }
+    ensures cell { result.0 ≡ cell_of page }
+    ensures index { result.1 ≡ page % 512 }
+{
+    ((page / CELL_PAGES) as u32, (page % CELL_PAGES) as u16)
 }
 
 /// How many bytes of a range lie in its first page.

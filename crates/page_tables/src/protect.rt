@@ -8,11 +8,9 @@ ghost use Rattle.page_tables.specs.Sides.{Sides};
 ghost use Rattle.page_tables.specs.Standing.{TablesStandFor};
 ghost use Rattle.page_tables.specs.Permissions.{may_write, may_write_after, LeavesAllButPermissions};
 
+use crate::pieces::CELL_PAGES;
 use crate::tables::PageTables;
 use vm_base::{Allot, Perm};
-
-/// Pages in a cell.
-const CELL_PAGES: u64 = 512;
 
 impl PageTables {
     /// Gives the parent's pages of a range another permission, one cell after another in rising

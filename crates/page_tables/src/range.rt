@@ -3,6 +3,7 @@ ghost use Rattle.std.specs.Prelude.{◌≡◌, ◌↔◌, ◌+◌, ◌-◌, ◌�
 ghost use Rattle.std.specs.FinMap.{get};
 ghost use Rattle.vm_base.specs.Counts.{next_count};
 ghost use Rattle.vm_base.specs.Deals.{LeadsAlong};
+ghost use Rattle.vm_base.specs.Places.{cell_of};
 ghost use Rattle.table_levels.specs.Requests.{returned};
 ghost use Rattle.kernel_meaning.specs.EventRequests.{page_version};
 ghost use Rattle.page_tables.specs.Sides.{Sides};
@@ -12,11 +13,9 @@ ghost use Rattle.page_tables.specs.Permissions.{may_write, is_alone, LetsWrite};
 ghost use Rattle.page_tables.specs.Held.{frames_of, frames_in, shares_in};
 ghost use Rattle.page_tables.specs.Ranges.{MadeRange, HasRoom, cells_of_pages, range_refusal, sides_without_pages, AreThere};
 
+use crate::pieces::cell_and_index;
 use crate::tables::PageTables;
 use vm_base::Allot;
-
-/// Pages in a cell.
-const CELL_PAGES: u64 = 512;
 
 /// A page of a range was refused a frame, for itself or for a table on its way.
 #[derive(Clone, Copy, Debug, PartialEq, Eq)]
@@ -32,8 +31,8 @@ impl PageTables {
     /// `kernel_meaning` has it. After a refusal those that were absent are gone again, with the
     /// tables that they alone needed; copies and losses that came before stay, and both sides read
     /// as before. `added` is room of the caller's where the call notes what it may have to take
-    /// back, so that it takes no memory; what is in it afterwards means nothing. It costs two
-    /// look-ups for each page, and for a new cell a look through the slots.
+    /// back, so that it takes no memory; what is in it afterwards means nothing. It costs one
+    /// look-up for each page, and for a new cell a look through the slots.
     pub fn touch<A: Allot>(
         &mut self,
         first: u64,
@@ -58,8 +57,9 @@ impl PageTables {
     {
         added.clear();
         for page in first..first + count {
-            let was_present = self.is_present(page);
-            match self.touch_page(page, allot) {
+            let slot = self.known_slot(page);
+            let was_present = self.has_page(slot, page);
+            match self.touch_page(slot, page, allot) {
                 Ok(()) => note_added(added, page, was_present),
                 Err(refused) => {
                     self.take_back(added, allot);
@@ -80,15 +80,36 @@ impl PageTables {
         ensures version { (sides : Sides) → TablesStandFor self.now sides → result ≡ is_some (page_version sides.leaves page) }
         ensures page { (sides : Sides) → TablesStandFor self.now sides → result ≡ is_some (get sides.pages page) }
 
-        // A page may be stored to exactly where it is the parent's alone, and so it is where its
-        // entry tells that it may be written to.
+        // These two are about the tables and not about the answer: a page may be stored to exactly
+        // where it is the parent's alone, and so it is where its entry tells that it may be written
+        // to. What the second rests on, each cell keeps, and tells a proof by its calls alone: so
+        // it stands at a call, and in no law.
         ensures alone { (sides : Sides) → TablesStandFor self.now sides → (is_alone self.now page ≡ true) ↔ IsReady sides.leaves page }
         ensures ready { may_write self.now page ≡ true → (sides : Sides) → TablesStandFor self.now sides → IsReady sides.leaves page }
     {
-        let cell = (page / CELL_PAGES) as u32;
-        match self.directory.find(cell) {
+        self.has_page(self.known_slot(page), page)
+    }
+
+    /// The slot of a page's cell, where the directory has it.
+    fn known_slot(&self, page: u64) -> Option<u32>
+        requires { page < 2 ^ 36 }
+        ensures { result ≡ get self.now.directory (cell_of page) }
+    {
+        self.directory.find(cell_and_index(page).0)
+    }
+
+    /// Whether the parent has a page, where the directory has the page's cell in this slot, or not.
+    fn has_page(&self, slot: Option<u32>, page: u64) -> bool
+        requires page { page < 2 ^ 36 }
+        requires known { slot ≡ get self.now.directory (cell_of page) }
+        requires stands { ∥ ((sides : Sides) × TablesStandFor self.now sides) ∥₁ }
+        ensures version { (sides : Sides) → TablesStandFor self.now sides → result ≡ is_some (page_version sides.leaves page) }
+        ensures page { (sides : Sides) → TablesStandFor self.now sides → result ≡ is_some (get sides.pages page) }
+        ensures ready { may_write self.now page ≡ true → (sides : Sides) → TablesStandFor self.now sides → IsReady sides.leaves page }
+    {
+        match slot {
             Some(slot) => {
-                let index = (page % CELL_PAGES) as u16;
+                let (_, index) = cell_and_index(page);
                 self.slots[slot as usize].cell.covers(index, 1)
             }
             None => false,
@@ -112,8 +133,7 @@ impl PageTables {
         ensures snapshot { self.new.snapshot ≡ self.old.snapshot }
     {
         for &page in added {
-            let cell = (page / CELL_PAGES) as u32;
-            let index = (page % CELL_PAGES) as u16;
+            let (cell, index) = cell_and_index(page);
             self.clear_in_cell(cell, index, 1, allot);
         }
     }

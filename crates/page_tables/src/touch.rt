@@ -10,19 +10,24 @@ ghost use Rattle.page_tables.specs.Held.{frames_of, frames_in, shares_in};
 ghost use Rattle.page_tables.specs.Permissions.{LetsWrite};
 ghost use Rattle.page_tables.specs.Making.{MadeTouch, page_refusal};
 
+use crate::pieces::cell_and_index;
 use crate::slot::Slot;
 use crate::tables::PageTables;
 use vm_base::{Allot, Refused};
 
-/// Pages in a cell.
-const CELL_PAGES: u64 = 512;
-
 impl PageTables {
-    /// Touches a page: it is present then, and no snapshot names it. The frames are asked for in
-    /// this order: the missing top, upper, middle and leaf tables, then the page. After a refusal
-    /// what was granted has been given back, and both sides read as before.
-    pub(crate) fn touch_page<A: Allot>(&mut self, page: u64, allot: &mut A) -> Result<(), Refused>
+    /// Touches a page, where the directory has the page's cell in this slot, or not: it is present
+    /// then, and no snapshot names it. The frames are asked for in this order: the missing top,
+    /// upper, middle and leaf tables, then the page. After a refusal what was granted has been
+    /// given back, and both sides read as before.
+    pub(crate) fn touch_page<A: Allot>(
+        &mut self,
+        slot: Option<u32>,
+        page: u64,
+        allot: &mut A,
+    ) -> Result<(), Refused>
         requires page { page < 2 ^ 36 }
+        requires known { slot ≡ get self.old.directory (cell_of page) }
         requires stands { ∥ ((sides : Sides) × (TablesStandFor self.old sides × (lacks_slots (slot_count self.old) sides.leaves (cell_of page ∷ []) ≡ false))) ∥₁ }
         requires lent { frames_of self.old ≤ A.out (A.state allot.old) }
         requires untold { A.grants allot.old ≡ None }
@@ -35,10 +40,9 @@ impl PageTables {
         ensures snapshot { self.new.snapshot ≡ self.old.snapshot }
         ensures writable { OnOk result (LetsWrite page 1 self.old self.new) }
     {
-        let cell = (page / CELL_PAGES) as u32;
-        match self.directory.find(cell) {
+        match slot {
             Some(slot) => self.touch_known(slot, page, allot),
-            None => match self.slot_for(cell) {
+            None => match self.slot_for(cell_and_index(page).0) {
                 Some(slot) => self.touch_new(slot, page, allot),
                 None => unreachable!("a slot is free or the cell's"),
             },
@@ -61,7 +65,7 @@ impl PageTables {
         ensures snapshot { self.new.snapshot ≡ self.old.snapshot }
         ensures writable { OnOk result (LetsWrite page 1 self.old self.new) }
     {
-        let index = (page % CELL_PAGES) as u16;
+        let (_, index) = cell_and_index(page);
         let home = &mut self.slots[slot as usize];
         home.cell.tell_share();
         let answer = home.cell.touch(index, allot);
@@ -85,12 +89,11 @@ impl PageTables {
         ensures snapshot { self.new.snapshot ≡ self.old.snapshot }
         ensures writable { OnOk result (LetsWrite page 1 self.old self.new) }
     {
-        let cell = (page / CELL_PAGES) as u32;
+        let (cell, index) = cell_and_index(page);
         match self.directory.insert(cell, slot, allot) {
             Ok(()) => {}
             Err(refused) => return Err(refused),
         }
-        let index = (page % CELL_PAGES) as u16;
         let home = &mut self.slots[slot as usize];
         home.cell.tell_share();
         // The parent has no page here, so none may be written to yet.

@@ -7,12 +7,10 @@ ghost use Rattle.page_tables.specs.Sides.{Sides};
 ghost use Rattle.page_tables.specs.Standing.{TablesStandFor, slot_count};
 ghost use Rattle.page_tables.specs.Ranges.{cells_of_pages, missing_in};
 
+use crate::pieces::CELL_PAGES;
 use crate::slot::Slot;
 use crate::tables::PageTables;
 use crate::touch::slot_of;
-
-/// Pages in a cell.
-const CELL_PAGES: u64 = 512;
 
 impl PageTables {
     /// Whether the cells of a range of pages that have no slot are more than the free slots: what a

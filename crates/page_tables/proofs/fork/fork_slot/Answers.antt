@@ -3,7 +3,6 @@ use Rattle.std.specs.Prelude.{true, false}
 use Rattle.vm_base.specs.declared.frame_request.Want.TheVariants as want
 use Rattle.vm_base.specs.Deals.{LeadsAlong}
 use Rattle.kernel_meaning.specs.Leaves.{has_pages}
-use Rattle.leaf_cell.proofs.Without.{pages-counted, some-counted}
 use Rattle.table_levels.specs.Requests.{granted, Asks}
 use Rattle.page_tables.proofs.ForkSlots.{unforked-becomes, fork-becomes-ok, fork-asks}
 use Rattle.kernel_meaning.specs.Leaves.{share}
@@ -12,27 +11,27 @@ use Rattle.leaf_cell.proofs.HeldShare.{share-stands}
 use Rattle.page_tables.proofs.Known.{known-number}
 use Rattle.page_tables.proofs.fork.fork_slot.Goals as goal
 
-pub returns-then-pages-eq0-clause-forked : goal.returns-then-pages-eq0-clause-forked
-returns-then-pages-eq0-clause-forked g c =
-    unforked-becomes c.args.number c.args.slot.now (pages-counted c.args.slot.now.cell.leaves.parent (sym c.pages.ensures.pages ∙ c.if-pages-eq0.true))
+pub returns-then-not-has_pages-clause-forked : goal.returns-then-not-has_pages-clause-forked
+returns-then-not-has_pages-clause-forked g c =
+    unforked-becomes c.args.number c.args.slot.now (sym c.has_pages.ensures.pages ∙ c.if-not-has_pages.true)
 
-pub returns-then-pages-eq0-clause-requests : goal.returns-then-pages-eq0-clause-requests
-returns-then-pages-eq0-clause-requests g c =
-    let none : has_pages c.args.slot.now.cell.leaves.parent ≡ false = pages-counted c.args.slot.now.cell.leaves.parent (sym c.pages.ensures.pages ∙ c.if-pages-eq0.true) in
+pub returns-then-not-has_pages-clause-requests : goal.returns-then-not-has_pages-clause-requests
+returns-then-not-has_pages-clause-requests g c =
+    let none : has_pages c.args.slot.now.cell.leaves.parent ≡ false = sym c.has_pages.ensures.pages ∙ c.if-not-has_pages.true in
     subst (λ b. LeadsAlong g.A.Allot.goes (g.A.Allot.state c.args.allot.now) (granted (replicate (cond b 1 0) want.Leaf)) (g.A.Allot.state c.args.allot.now)) (sym none) refl
 
 pub fork_eager-answer-requires-clause-present : goal.fork_eager-answer-requires-clause-present
-fork_eager-answer-requires-clause-present g c = some-counted c.args.slot.now.cell.leaves.parent (λ e. c.if-pages-eq0.false (c.pages.ensures.pages ∙ e))
+fork_eager-answer-requires-clause-present g c = sym c.has_pages.ensures.pages ∙ c.if-not-has_pages.false
 
 pub returns-clause-forked : goal.returns-clause-forked
 returns-clause-forked g c =
-    let there : has_pages c.args.slot.now.cell.leaves.parent ≡ true = some-counted c.args.slot.now.cell.leaves.parent (λ e. c.if-pages-eq0.false (c.pages.ensures.pages ∙ e)) in
+    let there : has_pages c.args.slot.now.cell.leaves.parent ≡ true = sym c.has_pages.ensures.pages ∙ c.if-not-has_pages.false in
     fork-becomes-ok g.A.Allot.goes _ _ c.args.number c.args.slot.now c.fork_eager-answer.new.self c.requires.alone there c.fork_eager-answer.result c.fork_eager-answer.ensures.leaves
     (c.fork_eager-answer.ensures.made 0)
 
 pub returns-clause-requests : goal.returns-clause-requests
 returns-clause-requests g c =
-    let there : has_pages c.args.slot.now.cell.leaves.parent ≡ true = some-counted c.args.slot.now.cell.leaves.parent (λ e. c.if-pages-eq0.false (c.pages.ensures.pages ∙ e)) in
+    let there : has_pages c.args.slot.now.cell.leaves.parent ≡ true = sym c.has_pages.ensures.pages ∙ c.if-not-has_pages.false in
     subst (λ b. Asks g.A.Allot.goes (g.A.Allot.state c.args.allot.now) (replicate (cond b 1 0) want.Leaf) c.fork_eager-answer.result (g.A.Allot.state c.fork_eager-answer.new.allot)) (sym there)
     (fork-asks g.A.Allot.goes _ _ c.args.number c.args.slot.now.cell c.fork_eager-answer.new.self c.requires.known c.fork_eager-answer.result (c.fork_eager-answer.ensures.made 0))
 

@@ -1,13 +1,12 @@
 use Rattle.std.proofs.Common.{◌≡◌, ℕ, ◌+◌, ◌-◌, ◌≤◌, ◌<◌, length, Some, sym, ◌∙◌, ap, subst, refl, arith}
-use Rattle.std.specs.Prelude.{slice_set, true, count_by, is_some}
+use Rattle.std.specs.Prelude.{slice_set, true, false}
 use Rattle.std.specs.FinMap.{get, remove}
 use Rattle.std.specs.List.{slice_get}
 use Rattle.vm_base.specs.Deals.{Returned, LeadsAlong}
 use Rattle.vm_base.proofs.DealLemmas.{LeadsAlong-append}
 use Rattle.leaf_cell.specs.CellView.{held_of}
 use Rattle.leaf_cell.proofs.Releases.{replicate-both}
-use Rattle.leaf_cell.proofs.Without.{pages-counted, some-counted}
-use Rattle.kernel_meaning.specs.Leaves.{has_present}
+use Rattle.kernel_meaning.specs.Leaves.{has_present, has_pages}
 use Rattle.kernel_meaning.specs.FrameLaw.{cell_at}
 use Rattle.table_levels.specs.Cells.{tables_of}
 use Rattle.table_levels.specs.Requests.{returned}
@@ -57,8 +56,8 @@ remove-requires-clause-lent g c =
     let held : g.A.Allot.out (g.A.Allot.state c.clear.new.allot) + held_of c.index_mut-home.result.now.cell ≡ g.A.Allot.out (g.A.Allot.state c.args.allot.now) + held_of c.clear.new.self = c.clear.ensures.held in
     omega (arith, part, lent, held)
 
-pub returns-then-pages-eq0-clause-given : goal.returns-then-pages-eq0-clause-given
-returns-then-pages-eq0-clause-given g c =
+pub returns-then-not-has_pages-clause-given : goal.returns-then-not-has_pages-clause-given
+returns-then-not-has_pages-clause-given g c =
     let old : PageTables = c.args.self.now in
     let within : c.args.slot < length old.slots.items = slot-within c.args.self.now c.args.cell c.args.first c.args.count c.requires.stands c.args.slot c.requires.known in
     let here : slice_get old.slots.items c.args.slot ≡ Some c.index_mut-home.result.now = read-slot old.slots.items c.args.slot c.index_mut-home.result.now within c.index_mut-home.ensures.value in
@@ -78,8 +77,8 @@ returns-then-pages-eq0-clause-given g c =
     (g.A.Allot.state c.args.allot.now) (g.A.Allot.state c.clear.new.allot) (g.A.Allot.state c.remove.new.allot)
     (subst (λ deals. LeadsAlong g.A.Allot.goes (g.A.Allot.state c.args.allot.now) deals (g.A.Allot.state c.clear.new.allot)) deals made.led) c.remove.ensures.given))
 
-pub returns-then-pages-eq0-clause-shrunk : goal.returns-then-pages-eq0-clause-shrunk
-returns-then-pages-eq0-clause-shrunk g c =
+pub returns-then-not-has_pages-clause-shrunk : goal.returns-then-not-has_pages-clause-shrunk
+returns-then-not-has_pages-clause-shrunk g c =
     let old : PageTables = c.args.self.now in
     let within : c.args.slot < length old.slots.items = slot-within c.args.self.now c.args.cell c.args.first c.args.count c.requires.stands c.args.slot c.requires.known in
     let here : slice_get old.slots.items c.args.slot ≡ Some c.index_mut-home.result.now = read-slot old.slots.items c.args.slot c.index_mut-home.result.now within c.index_mut-home.ensures.value in
@@ -94,8 +93,8 @@ returns-then-pages-eq0-clause-shrunk g c =
     let fewer : tables_of c.remove.new.self ≤ tables_of old.directory = c.remove.ensures.shrunk in
     omega (arith, less, sums, fewer)
 
-pub returns-then-pages-eq0-clause-follows : goal.returns-then-pages-eq0-clause-follows
-returns-then-pages-eq0-clause-follows g c = λ sides st.
+pub returns-then-not-has_pages-clause-follows : goal.returns-then-not-has_pages-clause-follows
+returns-then-not-has_pages-clause-follows g c = λ sides st.
     let old : PageTables = c.args.self.now in
     let within : c.args.slot < length old.slots.items = slot-within c.args.self.now c.args.cell c.args.first c.args.count c.requires.stands c.args.slot c.requires.known in
     let here : slice_get old.slots.items c.args.slot ≡ Some c.index_mut-home.result.now = read-slot old.slots.items c.args.slot c.index_mut-home.result.now within c.index_mut-home.ensures.value in
@@ -106,14 +105,14 @@ returns-then-pages-eq0-clause-follows g c = λ sides st.
     let seen : has_present (cell_at sides.leaves c.args.cell).parent c.args.first c.args.count ≡ true =
     sym (present-here old c.args.cell c.args.slot c.args.first c.args.count slot c.requires.known here c.requires.range sides st)
     ∙ known-test c.requires.stands (λ it. present-here old c.args.cell c.args.slot c.args.first c.args.count slot c.requires.known here c.requires.range it.0 it.1.0 ∙ it.1.1) in
-    let none : count_by is_some c.clear.new.self.leaves.parent ≡ 0 = sym c.pages.ensures.pages ∙ c.if-pages-eq0.true in
+    let none : has_pages c.clear.new.self.leaves.parent ≡ false = sym c.has_pages.ensures.pages ∙ c.if-not-has_pages.true in
     subst (λ d. StandFor d old.snapshot (slice_set old.slots.items c.args.slot c.leave_slot.new.home) (sides_without c.args.cell c.args.first c.args.count sides)) (sym c.remove.ensures.removed)
     (subst (λ new. StandFor (remove old.directory c.args.cell) old.snapshot (slice_set old.slots.items c.args.slot new) (sides_without c.args.cell c.args.first c.args.count sides)) (sym c.leave_slot.ensures)
     (leaves-cell old c.args.cell c.args.slot c.args.first c.args.count slot c.requires.known here c.requires.range c.clear.new.self made.deals made.follows before later sides st seen
-    (pages-counted c.clear.new.self.leaves.parent none)))
+    none))
 
-pub returns-then-pages-eq0-clause-event : goal.returns-then-pages-eq0-clause-event
-returns-then-pages-eq0-clause-event g c = λ sides st.
+pub returns-then-not-has_pages-clause-event : goal.returns-then-not-has_pages-clause-event
+returns-then-not-has_pages-clause-event g c = λ sides st.
     let old : PageTables = c.args.self.now in
     let within : c.args.slot < length old.slots.items = slot-within c.args.self.now c.args.cell c.args.first c.args.count c.requires.stands c.args.slot c.requires.known in
     let here : slice_get old.slots.items c.args.slot ≡ Some c.index_mut-home.result.now = read-slot old.slots.items c.args.slot c.index_mut-home.result.now within c.index_mut-home.ensures.value in
@@ -124,17 +123,17 @@ returns-then-pages-eq0-clause-event g c = λ sides st.
     let seen : has_present (cell_at sides.leaves c.args.cell).parent c.args.first c.args.count ≡ true =
     sym (present-here old c.args.cell c.args.slot c.args.first c.args.count slot c.requires.known here c.requires.range sides st)
     ∙ known-test c.requires.stands (λ it. present-here old c.args.cell c.args.slot c.args.first c.args.count slot c.requires.known here c.requires.range it.0 it.1.0 ∙ it.1.1) in
-    let none : count_by is_some c.clear.new.self.leaves.parent ≡ 0 = sym c.pages.ensures.pages ∙ c.if-pages-eq0.true in
+    let none : has_pages c.clear.new.self.leaves.parent ≡ false = sym c.has_pages.ensures.pages ∙ c.if-not-has_pages.true in
     let now : StandFor c.remove.new.self old.snapshot (slice_set old.slots.items c.args.slot c.leave_slot.new.home) (sides_without c.args.cell c.args.first c.args.count sides) =
     subst (λ d. StandFor d old.snapshot (slice_set old.slots.items c.args.slot c.leave_slot.new.home) (sides_without c.args.cell c.args.first c.args.count sides)) (sym c.remove.ensures.removed)
     (subst (λ new. StandFor (remove old.directory c.args.cell) old.snapshot (slice_set old.slots.items c.args.slot new) (sides_without c.args.cell c.args.first c.args.count sides)) (sym c.leave_slot.ensures)
     (leaves-cell old c.args.cell c.args.slot c.args.first c.args.count slot c.requires.known here c.requires.range c.clear.new.self made.deals made.follows before later sides st seen
-    (pages-counted c.clear.new.self.leaves.parent none))) in
+    none)) in
     event-made old c.args.cell c.args.slot c.args.first c.args.count slot c.requires.known here c.requires.range c.clear.new.self made.deals made.follows before later sides st seen
     c.remove.new.self c.leave_slot.new.home (ap (λ it. it.cell) c.leave_slot.ensures) c.remove.ensures.shrunk now
 
-pub returns-then-pages-eq0-clause-held : goal.returns-then-pages-eq0-clause-held
-returns-then-pages-eq0-clause-held g c =
+pub returns-then-not-has_pages-clause-held : goal.returns-then-not-has_pages-clause-held
+returns-then-not-has_pages-clause-held g c =
     let old : PageTables = c.args.self.now in
     let within : c.args.slot < length old.slots.items = slot-within c.args.self.now c.args.cell c.args.first c.args.count c.requires.stands c.args.slot c.requires.known in
     let here : slice_get old.slots.items c.args.slot ≡ Some c.index_mut-home.result.now = read-slot old.slots.items c.args.slot c.index_mut-home.result.now within c.index_mut-home.ensures.value in
@@ -145,8 +144,8 @@ returns-then-pages-eq0-clause-held g c =
     let back : g.A.Allot.out (g.A.Allot.state c.remove.new.allot) + tables_of old.directory ≡ g.A.Allot.out (g.A.Allot.state c.clear.new.allot) + tables_of c.remove.new.self = c.remove.ensures.out in
     omega (arith, sums, held, back)
 
-pub returns-else-pages-eq0-clause-given : goal.returns-else-pages-eq0-clause-given
-returns-else-pages-eq0-clause-given g c =
+pub returns-else-not-has_pages-clause-given : goal.returns-else-not-has_pages-clause-given
+returns-else-not-has_pages-clause-given g c =
     let old : PageTables = c.args.self.now in
     let within : c.args.slot < length old.slots.items = slot-within c.args.self.now c.args.cell c.args.first c.args.count c.requires.stands c.args.slot c.requires.known in
     let here : slice_get old.slots.items c.args.slot ≡ Some c.index_mut-home.result.now = read-slot old.slots.items c.args.slot c.index_mut-home.result.now within c.index_mut-home.ensures.value in
@@ -165,8 +164,8 @@ returns-else-pages-eq0-clause-given g c =
     old.directory new refl same) ∙ none in
     subst (λ deals. LeadsAlong g.A.Allot.goes (g.A.Allot.state c.args.allot.now) deals (g.A.Allot.state c.clear.new.allot)) (deals ∙ ap returned (sym freed)) made.led
 
-pub returns-else-pages-eq0-clause-shrunk : goal.returns-else-pages-eq0-clause-shrunk
-returns-else-pages-eq0-clause-shrunk g c =
+pub returns-else-not-has_pages-clause-shrunk : goal.returns-else-not-has_pages-clause-shrunk
+returns-else-not-has_pages-clause-shrunk g c =
     let old : PageTables = c.args.self.now in
     let within : c.args.slot < length old.slots.items = slot-within c.args.self.now c.args.cell c.args.first c.args.count c.requires.stands c.args.slot c.requires.known in
     let here : slice_get old.slots.items c.args.slot ≡ Some c.index_mut-home.result.now = read-slot old.slots.items c.args.slot c.index_mut-home.result.now within c.index_mut-home.ensures.value in
@@ -180,8 +179,8 @@ returns-else-pages-eq0-clause-shrunk g c =
     let sums : frames_in (slice_set old.slots.items c.args.slot new) + held_of slot.cell ≡ frames_in old.slots.items + held_of c.clear.new.self = frames-set old.slots.items c.args.slot slot new here in
     omega (arith, less, sums)
 
-pub returns-else-pages-eq0-clause-follows : goal.returns-else-pages-eq0-clause-follows
-returns-else-pages-eq0-clause-follows g c = λ sides st.
+pub returns-else-not-has_pages-clause-follows : goal.returns-else-not-has_pages-clause-follows
+returns-else-not-has_pages-clause-follows g c = λ sides st.
     let old : PageTables = c.args.self.now in
     let within : c.args.slot < length old.slots.items = slot-within c.args.self.now c.args.cell c.args.first c.args.count c.requires.stands c.args.slot c.requires.known in
     let here : slice_get old.slots.items c.args.slot ≡ Some c.index_mut-home.result.now = read-slot old.slots.items c.args.slot c.index_mut-home.result.now within c.index_mut-home.ensures.value in
@@ -193,10 +192,10 @@ returns-else-pages-eq0-clause-follows g c = λ sides st.
     sym (present-here old c.args.cell c.args.slot c.args.first c.args.count slot c.requires.known here c.requires.range sides st)
     ∙ known-test c.requires.stands (λ it. present-here old c.args.cell c.args.slot c.args.first c.args.count slot c.requires.known here c.requires.range it.0 it.1.0 ∙ it.1.1) in
     stays old c.args.cell c.args.slot c.args.first c.args.count slot c.requires.known here c.requires.range c.clear.new.self made.deals made.follows before later sides st seen
-    (some-counted c.clear.new.self.leaves.parent (λ e. c.if-pages-eq0.false (c.pages.ensures.pages ∙ e)))
+    (sym c.has_pages.ensures.pages ∙ c.if-not-has_pages.false)
 
-pub returns-else-pages-eq0-clause-event : goal.returns-else-pages-eq0-clause-event
-returns-else-pages-eq0-clause-event g c = λ sides st.
+pub returns-else-not-has_pages-clause-event : goal.returns-else-not-has_pages-clause-event
+returns-else-not-has_pages-clause-event g c = λ sides st.
     let old : PageTables = c.args.self.now in
     let within : c.args.slot < length old.slots.items = slot-within c.args.self.now c.args.cell c.args.first c.args.count c.requires.stands c.args.slot c.requires.known in
     let here : slice_get old.slots.items c.args.slot ≡ Some c.index_mut-home.result.now = read-slot old.slots.items c.args.slot c.index_mut-home.result.now within c.index_mut-home.ensures.value in
@@ -210,10 +209,10 @@ returns-else-pages-eq0-clause-event g c = λ sides st.
     event-made old c.args.cell c.args.slot c.args.first c.args.count slot c.requires.known here c.requires.range c.clear.new.self made.deals made.follows before later sides st seen
     old.directory (record { owner = slot.owner; cell = c.clear.new.self }) refl (omega arith)
     (stays old c.args.cell c.args.slot c.args.first c.args.count slot c.requires.known here c.requires.range c.clear.new.self made.deals made.follows before later sides st seen
-    (some-counted c.clear.new.self.leaves.parent (λ e. c.if-pages-eq0.false (c.pages.ensures.pages ∙ e))))
+    (sym c.has_pages.ensures.pages ∙ c.if-not-has_pages.false))
 
-pub returns-else-pages-eq0-clause-held : goal.returns-else-pages-eq0-clause-held
-returns-else-pages-eq0-clause-held g c =
+pub returns-else-not-has_pages-clause-held : goal.returns-else-not-has_pages-clause-held
+returns-else-not-has_pages-clause-held g c =
     let old : PageTables = c.args.self.now in
     let within : c.args.slot < length old.slots.items = slot-within c.args.self.now c.args.cell c.args.first c.args.count c.requires.stands c.args.slot c.requires.known in
     let here : slice_get old.slots.items c.args.slot ≡ Some c.index_mut-home.result.now = read-slot old.slots.items c.args.slot c.index_mut-home.result.now within c.index_mut-home.ensures.value in
@@ -223,8 +222,8 @@ returns-else-pages-eq0-clause-held g c =
     let held : g.A.Allot.out (g.A.Allot.state c.clear.new.allot) + held_of slot.cell ≡ g.A.Allot.out (g.A.Allot.state c.args.allot.now) + held_of c.clear.new.self = c.clear.ensures.held in
     omega (arith, sums, held)
 
-pub returns-then-pages-eq0-clause-even : goal.returns-then-pages-eq0-clause-even
-returns-then-pages-eq0-clause-even g c =
+pub returns-then-not-has_pages-clause-even : goal.returns-then-not-has_pages-clause-even
+returns-then-not-has_pages-clause-even g c =
     let old : PageTables = c.args.self.now in
     let within : c.args.slot < length old.slots.items = slot-within c.args.self.now c.args.cell c.args.first c.args.count c.requires.stands c.args.slot c.requires.known in
     let here : slice_get old.slots.items c.args.slot ≡ Some c.index_mut-home.result.now = read-slot old.slots.items c.args.slot c.index_mut-home.result.now within c.index_mut-home.ensures.value in
@@ -234,8 +233,8 @@ returns-then-pages-eq0-clause-even g c =
     known-number c.requires.stands (λ it. even-here old c.args.cell c.args.slot c.args.first c.args.count c.index_mut-home.result.now c.requires.known here c.requires.range c.clear.new.self made.deals made.follows before later it.0 it.1.0 it.1.1
     c.leave_slot.new.home (ap (λ it. it.cell) c.leave_slot.ensures))
 
-pub returns-else-pages-eq0-clause-even : goal.returns-else-pages-eq0-clause-even
-returns-else-pages-eq0-clause-even g c =
+pub returns-else-not-has_pages-clause-even : goal.returns-else-not-has_pages-clause-even
+returns-else-not-has_pages-clause-even g c =
     let old : PageTables = c.args.self.now in
     let within : c.args.slot < length old.slots.items = slot-within c.args.self.now c.args.cell c.args.first c.args.count c.requires.stands c.args.slot c.requires.known in
     let here : slice_get old.slots.items c.args.slot ≡ Some c.index_mut-home.result.now = read-slot old.slots.items c.args.slot c.index_mut-home.result.now within c.index_mut-home.ensures.value in

@@ -43,8 +43,8 @@ loop-page-init g c =
     }
 
 -- src/range.rt:51:17
-pub is_present-was_present-requires-clause-stands : goal.is_present-was_present-requires-clause-stands
-is_present-was_present-requires-clause-stands g c =
+pub has_page-was_present-requires-clause-stands : goal.has_page-was_present-requires-clause-stands
+has_page-was_present-requires-clause-stands g c =
     ∥∥₁_map c.requires.stands (λ it.
     let so_far = c.loop-page.invariant.touched.touched it.0 it.1.0 in
     (_, so_far.stands))
@@ -140,9 +140,9 @@ loop-page-preserved g c =
             let up_to = so_far.touched sides st in
             subst (λ added. IsTouchedUpTo c.args.first c.args.count (c.loop-page.page + 1 - c.args.first) added c.touch_page.new.self deals sides slots) (sym c.note_added.ensures.noted)
             (subst (λ k. IsTouchedUpTo c.args.first c.args.count k
-            (c.loop-page.added.items ++ cond c.is_present-was_present.result [] (c.loop-page.page ∷ [])) c.touch_page.new.self deals sides slots) next
+            (c.loop-page.added.items ++ cond c.has_page-was_present.result [] (c.loop-page.page ∷ [])) c.touch_page.new.self deals sides slots) next
             (one-page-more c.args.first c.args.count i small c.loop-page.added.items c.loop-page.self c.touch_page.new.self so_far.deals made.deals sides slots up_to c.loop-page.page here
-            c.is_present-was_present.result (c.is_present-was_present.ensures.version _ up_to.stands) (c.is_present-was_present.ensures.page _ up_to.stands) (made.follows _ up_to.stands)));
+            c.has_page-was_present.result (c.has_page-was_present.ensures.version _ up_to.stands) (c.has_page-was_present.ensures.page _ up_to.stands) (made.follows _ up_to.stands)));
       };
       from = omega (arith, c.loop-page.invariant.from);
       held = (let before : g.A.Allot.out (g.A.Allot.state c.loop-page.allot) + frames_of c.args.self.now ≡ g.A.Allot.out (g.A.Allot.state c.args.allot.now) + frames_of c.loop-page.self =

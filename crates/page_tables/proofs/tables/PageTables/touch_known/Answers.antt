@@ -1,13 +1,16 @@
 use Rattle.std.proofs.Common.{◌≡◌, ◌+◌, ◌%◌, ◌≤◌, ◌<◌, ℕ, length, Some, sym, ◌∙◌, ap, subst, refl, arith}
-use Rattle.std.specs.Prelude.{slice_set}
+use Rattle.std.specs.Prelude.{slice_set, true, OnOk}
 use Rattle.std.specs.List.{slice_get}
 use Rattle.std.specs.Option.{option_and_then}
 use Rattle.vm_base.specs.Places.{cell_of}
 use Rattle.leaf_cell.specs.CellView.{held_of}
+use Rattle.leaf_cell.specs.Writable.{writable_at}
+use Rattle.leaf_cell.specs.States.{refused_count}
+use Rattle.leaf_cell.specs.Touching.{IsTouched}
 use Rattle.page_tables.specs.declared.slot.Slot.{Slot}
 use Rattle.page_tables.specs.Sides.{Sides}
-use Rattle.leaf_cell.specs.Standing.{StandsFor}
-use Rattle.kernel_meaning.specs.CellAccount.{CellAccount}
+use Rattle.leaf_cell.specs.Standing.{StandsFor, TakesAccount}
+use Rattle.kernel_meaning.specs.CellAccount.{CellAccount, Touch}
 use Rattle.page_tables.specs.Standing.{owner_at, TablesStandFor}
 use Rattle.page_tables.proofs.ParentPages.{account_at, slot-stands}
 use Rattle.page_tables.proofs.ClearedSlot.{even-slots, holds-own}
@@ -52,7 +55,11 @@ returns-clause-made g c =
     record {
       deals = c.touch-answer.ensures.made.deals;
       led = c.touch-answer.ensures.made.led;
-      follows = λ sides st. known-touches c.args.self.now sides st c.args.page c.args.slot c.index_mut-home.result.now c.requires.known here c.touch-answer.new.self c.touch-answer.ensures.made.deals c.touch-answer.result c.touch-answer.ensures.made.follows (g.A.Allot.refused (g.A.Allot.state c.args.allot.now)) (g.A.Allot.refused (g.A.Allot.state c.touch-answer.new.allot)) c.touch-answer.ensures.touched
+      follows = λ sides st. known-touches c.args.self.now sides st c.args.page c.args.slot c.index_mut-home.result.now c.requires.known here c.touch-answer.new.self c.touch-answer.ensures.made.deals c.touch-answer.result
+          (λ account stood. subst (λ i. TakesAccount (Touch i) c.index_mut-home.result.now.cell c.touch-answer.new.self c.touch-answer.ensures.made.deals (refused_count c.touch-answer.result) account)
+          c.cell_and_index-index.ensures.index (c.touch-answer.ensures.made.follows account stood)) (g.A.Allot.refused (g.A.Allot.state c.args.allot.now)) (g.A.Allot.refused (g.A.Allot.state c.touch-answer.new.allot))
+          (subst (λ i. OnOk c.touch-answer.result (IsTouched i (g.A.Allot.refused (g.A.Allot.state c.args.allot.now)) (g.A.Allot.refused (g.A.Allot.state c.touch-answer.new.allot)) c.index_mut-home.result.now.cell c.touch-answer.new.self))
+          c.cell_and_index-index.ensures.index c.touch-answer.ensures.touched)
           _
           refl refl (ap (λ owner. slice_set c.args.self.now.slots.items c.args.slot (record { owner = owner; cell = c.touch-answer.new.self })) mine);
     }
@@ -94,8 +101,10 @@ returns-clause-writable g c =
     let owned : owner_at old.slots.items c.args.slot ≡ Some cell = known-owner old c.requires.stands cell c.args.slot c.requires.known in
     let within : c.args.slot < length old.slots.items = owned-within old.slots.items c.args.slot cell owned in
     let here : slice_get old.slots.items c.args.slot ≡ Some home = read-slot old.slots.items c.args.slot home within c.index_mut-home.ensures.value in
+    let at = c.cell_and_index-index.ensures.index in
     granted-both c.touch-answer.result c.touch-answer.ensures.writable c.touch-answer.ensures.allowed (λ set allowed.
     page-written c.args.page c.args.slot old _ it c.requires.known (slice_get-set-here old.slots.items c.args.slot it within) (λ q apart. refl)
     (λ t apart. slice_get-set-apart old.slots.items c.args.slot t it apart)
-    (λ q t apart is. other-slot old.slots.items c.args.slot t cell q owned (known-owner old c.requires.stands q t is) apart) allowed
-    (λ q same apart. others-set home.cell.writable c.touch-answer.new.self.writable (c.args.page % 512) (q % 512) set apart ∙ sym (bit-known old cell c.args.slot home c.requires.known here q same)))
+    (λ q t apart is. other-slot old.slots.items c.args.slot t cell q owned (known-owner old c.requires.stands q t is) apart) (subst (λ i. writable_at c.touch-answer.new.self.writable i ≡ true) at allowed)
+    (λ q same apart. others-set home.cell.writable c.touch-answer.new.self.writable (c.args.page % 512) (q % 512)
+    (subst (λ i. c.touch-answer.new.self.writable ≡ slice_set home.cell.writable i true) at set) apart ∙ sym (bit-known old cell c.args.slot home c.requires.known here q same)))

@@ -1,6 +1,6 @@
 use Rattle.std.proofs.Common.{◌≡◌, ◌+◌, ◌-◌, ◌%◌, ◌≤◌, ◌<◌, ℕ, length, List, [], ◌++◌, Some, None, sym, ◌∙◌, ap, subst, refl, arith}
-use Rattle.std.specs.Prelude.{slice_set, false}
-use Rattle.std.specs.FinMap.{get, remove, keys}
+use Rattle.std.specs.Prelude.{slice_set, true, false}
+use Rattle.std.specs.FinMap.{get, insert, remove, keys}
 use Rattle.std.specs.List.{slice_get}
 use Rattle.vm_base.specs.Places.{cell_of}
 use Rattle.vm_base.specs.Deals.{LeadsAlong}
@@ -8,6 +8,9 @@ use Rattle.vm_base.specs.declared.frame_request.Want.{Want}
 use Rattle.vm_base.proofs.DealLemmas.{LeadsAlong-append}
 use Rattle.leaf_cell.specs.CellView.{held_of}
 use Rattle.leaf_cell.specs.Writable.{writable_at}
+use Rattle.leaf_cell.specs.Standing.{TakesAccount}
+use Rattle.leaf_cell.specs.Touching.{IsTouched}
+use Rattle.kernel_meaning.specs.CellAccount.{Touch}
 use Rattle.table_levels.specs.Cells.{tables_of}
 use Rattle.table_levels.specs.Requests.{missing_tables, granted, returned}
 use Rattle.table_levels.proofs.Counting.{tables_of-insert}
@@ -51,7 +54,7 @@ returns-in-Err-clause-made g c =
       follows = λ sides st.
           let before : FollowsTouch c.args.page old (deals_up_to refuses.front refuses.want c.in-Err.refused.at) (Some (record { at = c.in-Err.refused.at; page = Some c.args.page })) sides =
           lacking-touches old sides st c.args.page c.args.slot there.0 c.requires.new there.1 (known-fits old (cell_of c.args.page) c.args.slot c.requires.stands sides st there.0 there.1)
-          refuses.front refuses.want refuses.rest refuses.order c.in-Err.refused.at in
+          refuses.front refuses.want refuses.rest (ap (missing_tables (keys old.directory)) (sym c.cell_and_index-cell.ensures.cell) ∙ refuses.order) c.in-Err.refused.at in
           let then : Sides = record { leaves = before.follows.leaves; pages = sides.pages; snapshots = sides.snapshots; made = before.follows.made } in
           record {
             follows = record {
@@ -98,16 +101,22 @@ returns-in-Ok-touch-clause-made g c =
     let wants : List Want = missing_tables (keys old.directory) (cell_of c.args.page) in
     record {
       deals = deals_behind (missing_tables (keys old.directory) (cell_of c.args.page)) made.deals None;
-      led = LeadsAlong-append g.A.Allot.goes (granted wants) (made.deals ++ []) (g.A.Allot.state c.args.allot.now) (g.A.Allot.state c.insert.new.allot) (g.A.Allot.state c.touch.new.allot) c.in-Ok.ensures.requests
+      led = LeadsAlong-append g.A.Allot.goes (granted wants) (made.deals ++ []) (g.A.Allot.state c.args.allot.now) (g.A.Allot.state c.insert.new.allot) (g.A.Allot.state c.touch.new.allot)
+          (subst (λ q. LeadsAlong g.A.Allot.goes (g.A.Allot.state c.args.allot.now) (granted (missing_tables (keys old.directory) q)) (g.A.Allot.state c.insert.new.allot))
+          c.cell_and_index-cell.ensures.cell c.in-Ok.ensures.requests)
           (LeadsAlong-append g.A.Allot.goes made.deals [] (g.A.Allot.state c.insert.new.allot) (g.A.Allot.state c.touch.new.allot) (g.A.Allot.state c.touch.new.allot) made.led refl);
       follows = λ sides st.
           let fits : IsSlotFor sides.leaves (cell_of c.args.page) c.index_mut-home.result.now.owner =
           known-fits old (cell_of c.args.page) c.args.slot c.requires.stands sides st c.index_mut-home.result.now here in
           granted-touches old sides st c.args.page c.args.slot c.index_mut-home.result.now c.requires.new here fits c.touch.new.self made.deals
-          (made.follows (account old sides st c.args.page c.args.slot c.index_mut-home.result.now c.requires.new here fits) (stood old sides st c.args.page c.args.slot c.index_mut-home.result.now c.requires.new here fits))
-          (g.A.Allot.refused (g.A.Allot.state c.insert.new.allot)) (g.A.Allot.refused (g.A.Allot.state c.touch.new.allot)) c.in-Ok-touch.ensures.touched
+          (subst (λ i. TakesAccount (Touch i) c.index_mut-home.result.now.cell c.touch.new.self made.deals None (account old sides st c.args.page c.args.slot c.index_mut-home.result.now c.requires.new here fits)) c.cell_and_index-cell.ensures.index
+          (made.follows (account old sides st c.args.page c.args.slot c.index_mut-home.result.now c.requires.new here fits) (stood old sides st c.args.page c.args.slot c.index_mut-home.result.now c.requires.new here fits)))
+          (g.A.Allot.refused (g.A.Allot.state c.insert.new.allot)) (g.A.Allot.refused (g.A.Allot.state c.touch.new.allot))
+          (subst (λ i. IsTouched i (g.A.Allot.refused (g.A.Allot.state c.insert.new.allot)) (g.A.Allot.refused (g.A.Allot.state c.touch.new.allot)) c.index_mut-home.result.now.cell c.touch.new.self)
+          c.cell_and_index-cell.ensures.index c.in-Ok-touch.ensures.touched)
           _
-          c.in-Ok.ensures.added refl refl;
+          (c.in-Ok.ensures.added ∙ ap (λ q. insert old.directory q c.args.slot) c.cell_and_index-cell.ensures.cell) refl
+          (ap (λ q. slice_set old.slots.items c.args.slot (record { owner = Some q; cell = c.touch.new.self })) c.cell_and_index-cell.ensures.cell);
     }
 
 -- src/touch.rt:60:5
@@ -115,7 +124,7 @@ pub returns-in-Ok-touch-clause-held : goal.returns-in-Ok-touch-clause-held
 returns-in-Ok-touch-clause-held g c =
     let within : c.args.slot < length c.args.self.now.slots.items = known-home c.args.self.now (cell_of c.args.page) c.args.slot c.requires.stands in
     let here : slice_get c.args.self.now.slots.items c.args.slot ≡ Some c.index_mut-home.result.now = read-slot c.args.self.now.slots.items c.args.slot c.index_mut-home.result.now within c.index_mut-home.ensures.value in
-    let new : Slot = record { owner = Some (cell_of c.args.page); cell = c.touch.new.self } in
+    let new : Slot = record { owner = Some c.cell_and_index-cell.result.0; cell = c.touch.new.self } in
     let sums : frames_in (slice_set c.args.self.now.slots.items c.args.slot new) + held_of c.index_mut-home.result.now.cell ≡ frames_in c.args.self.now.slots.items + held_of c.touch.new.self = frames-set c.args.self.now.slots.items c.args.slot c.index_mut-home.result.now new here in
     let held : g.A.Allot.out (g.A.Allot.state c.touch.new.allot) + held_of c.index_mut-home.result.now.cell ≡ g.A.Allot.out (g.A.Allot.state c.insert.new.allot) + held_of c.touch.new.self = c.touch.ensures.held in
     let moved : g.A.Allot.out (g.A.Allot.state c.insert.new.allot) + tables_of c.args.self.now.directory ≡ g.A.Allot.out (g.A.Allot.state c.args.allot.now) + tables_of c.insert.new.self = c.insert.ensures.out in
@@ -131,20 +140,24 @@ returns-in-Err-touch-clause-made g c =
     let made = c.in-Err-touch.ensures.made in
     let wants : List Want = missing_tables (keys old.directory) cell in
     let at : ℕ = c.in-Err-touch.refused.at in
-    let gone : c.remove.new.self ≡ old.directory = c.remove.ensures.removed ∙ ap (λ d. remove d cell) c.in-Ok.ensures.added ∙ added-removed old.directory cell c.args.slot c.requires.new in
-    let more : tables_of c.insert.new.self ≡ tables_of old.directory + length wants = ap tables_of c.in-Ok.ensures.added ∙ tables_of-insert old.directory cell c.args.slot c.requires.new in
+    let added : c.insert.new.self ≡ insert old.directory cell c.args.slot = c.in-Ok.ensures.added ∙ ap (λ q. insert old.directory q c.args.slot) c.cell_and_index-cell.ensures.cell in
+    let gone : c.remove.new.self ≡ old.directory = c.remove.ensures.removed ∙ ap (remove c.insert.new.self) c.cell_and_index-cell.ensures.cell ∙ ap (λ d. remove d cell) added ∙ added-removed old.directory cell c.args.slot c.requires.new in
+    let more : tables_of c.insert.new.self ≡ tables_of old.directory + length wants = ap tables_of added ∙ tables_of-insert old.directory cell c.args.slot c.requires.new in
     let less : tables_of c.remove.new.self ≡ tables_of old.directory = ap tables_of gone in
     let back : tables_of c.insert.new.self - tables_of c.remove.new.self ≡ length wants = omega (arith, more, less) in
     record {
       deals = deals_behind wants made.deals (Some at);
-      led = LeadsAlong-append g.A.Allot.goes (granted wants) (made.deals ++ returned (length wants)) (g.A.Allot.state c.args.allot.now) (g.A.Allot.state c.insert.new.allot) (g.A.Allot.state c.remove.new.allot) c.in-Ok.ensures.requests
+      led = LeadsAlong-append g.A.Allot.goes (granted wants) (made.deals ++ returned (length wants)) (g.A.Allot.state c.args.allot.now) (g.A.Allot.state c.insert.new.allot) (g.A.Allot.state c.remove.new.allot)
+          (subst (λ q. LeadsAlong g.A.Allot.goes (g.A.Allot.state c.args.allot.now) (granted (missing_tables (keys old.directory) q)) (g.A.Allot.state c.insert.new.allot))
+          c.cell_and_index-cell.ensures.cell c.in-Ok.ensures.requests)
           (LeadsAlong-append g.A.Allot.goes made.deals (returned (length wants)) (g.A.Allot.state c.insert.new.allot) (g.A.Allot.state c.touch.new.allot) (g.A.Allot.state c.remove.new.allot) made.led
           (subst (λ n. LeadsAlong g.A.Allot.goes (g.A.Allot.state c.touch.new.allot) (returned n) (g.A.Allot.state c.remove.new.allot)) back c.remove.ensures.given));
       follows = λ sides st.
           let fits : IsSlotFor sides.leaves cell c.index_mut-home.result.now.owner =
           known-fits old cell c.args.slot c.requires.stands sides st c.index_mut-home.result.now here in
           refused-touches old sides st c.args.page c.args.slot c.index_mut-home.result.now c.requires.new here fits c.touch.new.self made.deals at
-          (made.follows (account old sides st c.args.page c.args.slot c.index_mut-home.result.now c.requires.new here fits) (stood old sides st c.args.page c.args.slot c.index_mut-home.result.now c.requires.new here fits))
+          (subst (λ i. TakesAccount (Touch i) c.index_mut-home.result.now.cell c.touch.new.self made.deals (Some at) (account old sides st c.args.page c.args.slot c.index_mut-home.result.now c.requires.new here fits)) c.cell_and_index-cell.ensures.index
+          (made.follows (account old sides st c.args.page c.args.slot c.index_mut-home.result.now c.requires.new here fits) (stood old sides st c.args.page c.args.slot c.index_mut-home.result.now c.requires.new here fits)))
           _
           gone refl
           (ap (λ view. slice_set old.slots.items c.args.slot (record { owner = c.index_mut-home.result.now.owner; cell = view })) c.in-Err-touch.ensures.refused ∙ set-same old.slots.items c.args.slot c.index_mut-home.result.now here);
@@ -161,7 +174,7 @@ returns-in-Ok-touch-clause-even g c =
     let fits : IsSlotFor it.0.leaves (cell_of c.args.page) slot.owner = known-fits old (cell_of c.args.page) c.args.slot c.requires.stands it.0 it.1.0 slot here in
     let stood_here = stood old it.0 it.1.0 c.args.page c.args.slot slot c.requires.new here fits in
     let takes = c.in-Ok-touch.ensures.made.follows (account old it.0 it.1.0 c.args.page c.args.slot slot c.requires.new here fits) stood_here in
-    even-slots old.slots.items c.args.slot slot (record { owner = Some (cell_of c.args.page); cell = c.touch.new.self }) here
+    even-slots old.slots.items c.args.slot slot (record { owner = Some c.cell_and_index-cell.result.0; cell = c.touch.new.self }) here
     (holds-own slot.cell _ stood_here (λ account stands. c.tell_share.ensures account stands))
     (holds-own c.touch.new.self _ takes.stands (λ account stands. c.tell_share-in-Ok-touch.ensures account stands)))
 
@@ -170,22 +183,24 @@ returns-in-Ok-touch-clause-writable g c =
     let old : PageTables = c.args.self.now in
     let cell : ℕ = cell_of c.args.page in
     let home : Slot = c.index_mut-home.result.now in
-    let it : Slot = record { owner = Some cell; cell = c.touch.new.self } in
+    let added : c.insert.new.self ≡ insert old.directory cell c.args.slot = c.in-Ok.ensures.added ∙ ap (λ q. insert old.directory q c.args.slot) c.cell_and_index-cell.ensures.cell in
+    let it : Slot = record { owner = Some c.cell_and_index-cell.result.0; cell = c.touch.new.self } in
     let within : c.args.slot < length old.slots.items = known-home old cell c.args.slot c.requires.stands in
     let here : slice_get old.slots.items c.args.slot ≡ Some home = read-slot old.slots.items c.args.slot home within c.index_mut-home.ensures.value in
     let unwritten : (p : ℕ) → writable_at home.cell.writable p ≡ false = λ p. known-test c.requires.stands (λ known.
     none-writable old known.0 known.1.0 c.args.page c.args.slot home c.requires.new here (known-fits old cell c.args.slot c.requires.stands known.0 known.1.0 home here)
     c.covers.ensures.alone p) in
     page-written c.args.page c.args.slot old _ it
-    (ap (λ d. get d cell) c.in-Ok.ensures.added ∙ get_inserted_here old.directory cell c.args.slot cell refl)
+    (ap (λ d. get d cell) added ∙ get_inserted_here old.directory cell c.args.slot cell refl)
     (slice_get-set-here old.slots.items c.args.slot it within)
-    (λ q apart. ap (λ d. get d q) c.in-Ok.ensures.added ∙ get_inserted_apart old.directory cell c.args.slot q apart)
+    (λ q apart. ap (λ d. get d q) added ∙ get_inserted_apart old.directory cell c.args.slot q apart)
     (λ t apart. slice_get-set-apart old.slots.items c.args.slot t it apart)
     (λ q t apart is same. known-impossible c.requires.stands (λ known.
     other-home known.0.leaves old.slots.items c.args.slot t cell q home here (known-fits old cell c.args.slot c.requires.stands known.0 known.1.0 home here) (known.1.0.named q t is) apart same))
-    c.in-Ok-touch.ensures.allowed
+    (subst (λ i. writable_at c.touch.new.self.writable i ≡ true) c.cell_and_index-cell.ensures.index c.in-Ok-touch.ensures.allowed)
     (λ q same apart.
-    others-set home.cell.writable c.touch.new.self.writable (c.args.page % 512) (q % 512) c.in-Ok-touch.ensures.writable apart ∙ unwritten (q % 512)
+    others-set home.cell.writable c.touch.new.self.writable (c.args.page % 512) (q % 512)
+    (subst (λ i. c.touch.new.self.writable ≡ slice_set home.cell.writable i true) c.cell_and_index-cell.ensures.index c.in-Ok-touch.ensures.writable) apart ∙ unwritten (q % 512)
     ∙ sym (never-written old q (ap (get old.directory) same ∙ c.requires.new)))
 
 -- src/touch.rt:97:9
