@@ -1,74 +1,37 @@
 -- What a kernel that is sound answers as a memory where areas change, by the answer of its parts.
-use Rattle.std.proofs.Common.{◌≡◌, ◌≢◌, ℕ, ◌+◌, ◌-◌, ◌^◌, ◌<◌, ◌≤◌, Bool, true, false, cond, [], Option, Some, None, Result, Ok, Err, sym, ◌∙◌, ap, subst, refl}
-use Rattle.std.specs.Prelude.{length, nat_le, OnOk, IfErr}
-use Rattle.std.specs.Coded.{Unit-prop}
+use Rattle.std.proofs.Common.{◌≡◌, ◌≢◌, ℕ, ◌+◌, ◌-◌, ◌^◌, ◌<◌, ◌≤◌, [], Result, Ok, Err, sym, ◌∙◌, ap, subst, refl}
+use Rattle.std.specs.Prelude.{OnOk, OnErr, IfErr}
 use Rattle.std.proofs.lemmas.Bool.{false≢true}
 use Rattle.std.proofs.Math.Logic.{∥∥₁_elim, ∥∥₁_map}
-use mathlib.Core.HLevel.{⊥_prop}
 use Rattle.vm_base.specs.declared.permission.Perm.{Perm}
 use Rattle.vm_base.specs.declared.faults.Fault.{Fault}
-use Rattle.vm_base.specs.FlatMemory.{FlatMemory}
-use Rattle.vm_base.specs.FlatStep.{Refusal, OutsideAreas, Taken, TooManyAreas, or_refused, at_most_128, taken, outside, map_of, unmap_of, protect_of}
+use Rattle.vm_base.specs.FlatStep.{unmap_of, protect_of}
 use Rattle.vm_base.specs.MemoryState.{IsKept}
 use Rattle.vm_base.specs.MemoryCalls.{map_answer, unmap_answer, protect_answer, Refuses, Changes, Maps}
-use Rattle.kernel_meaning.specs.Requests.{answers_of}
-use Rattle.kernel_meaning.specs.EventRequests.{Progress, pages_unmapped, pages_protected}
+use Rattle.area_list.specs.declared.fault.AreaFault.{AreaFault}
+use Rattle.kernel_meaning.specs.EventRequests.{pages_unmapped, pages_protected}
 use Rattle.trace_events.specs.declared.outcome.Outcome.{Outcome}
-use Rattle.trace_events.specs.declared.outcome.Outcome.TheVariants.{Done, Bytes, Held, AreaRow, Copied, Nothing, Refused, Lost, NoArea, NoWrite, Overlap, AreasFull, CellsFull, NoFrame, TooMany, NoSnap}
+use Rattle.trace_events.specs.declared.outcome.Outcome.TheVariants.{Done}
 use Rattle.trace_core.specs.KernelState.{Machine, KernelState}
-use Rattle.trace_core.specs.EventMeaning.{EventEnd, areas_changed, mapped, begun, refusal_outcome}
+use Rattle.trace_core.specs.EventMeaning.{areas_changed, mapped, begun}
 use Rattle.trace_core.specs.TouchAnswers.{touch_outcome, fault_outcome}
+use Rattle.trace_core.specs.CallAnswers.{area_outcome}
 use Rattle.trace_core.specs.KernelStanding.{KernelParts, KernelStands, EventRan}
-use Rattle.trace_core.specs.KernelSeen.{KernelNotes, IsKernelNoted, IsAreaAnswer, HasReached, memory_of, kernel_memory}
+use Rattle.trace_core.specs.KernelSeen.{KernelNotes, IsKernelNoted, HasReached, memory_of, kernel_memory}
 use Rattle.trace_core.proofs.ToldMemories.{told-maps, told-changes, told-refuses, told-kept}
 use Rattle.trace_core.proofs.ClauseProps.{Maps-prop, Changes-prop, Refuses-prop, known-kept}
 use Rattle.trace_core.proofs.SeenChanges.{IsInBounds, is_done, fault-undone, map-maps, map-refuses, map-kept, map-sound, unmap-changes, unmap-refuses, unmap-kept, unmap-sound, protect-changes, protect-refuses, protect-kept, protect-sound}
 
--- ---- a change of areas answers no other way
-
-IsAreaAnswer-prop : (outcome : Outcome) → IsProp (IsAreaAnswer outcome)
-IsAreaAnswer-prop Done = Unit-prop
-IsAreaAnswer-prop (Bytes bytes) = ⊥_prop
-IsAreaAnswer-prop (Held held free) = ⊥_prop
-IsAreaAnswer-prop (AreaRow row) = ⊥_prop
-IsAreaAnswer-prop Copied = ⊥_prop
-IsAreaAnswer-prop Nothing = ⊥_prop
-IsAreaAnswer-prop (Refused at) = ⊥_prop
-IsAreaAnswer-prop (Lost at) = ⊥_prop
-IsAreaAnswer-prop (NoArea page) = Unit-prop
-IsAreaAnswer-prop (NoWrite page) = ⊥_prop
-IsAreaAnswer-prop (Overlap page) = Unit-prop
-IsAreaAnswer-prop AreasFull = Unit-prop
-IsAreaAnswer-prop CellsFull = ⊥_prop
-IsAreaAnswer-prop (NoFrame at) = ⊥_prop
-IsAreaAnswer-prop TooMany = ⊥_prop
-IsAreaAnswer-prop NoSnap = ⊥_prop
-
--- a change that is refused, if at all, as a change of areas may be
-abbrev ChangesAreas : Result FlatMemory Refusal → Type 0
-ChangesAreas (Ok memory) = Unit {0}
-ChangesAreas (Err refusal) = IsAreaAnswer (refusal_outcome refusal)
-
-few-change : (memory : FlatMemory) → ChangesAreas (at_most_128 memory)
-few-change memory = by (nat_le (length memory.areas) 128)
-  where
-    by : (few : Bool) → ChangesAreas (cond few (Ok memory) (Err TooManyAreas))
-    by true = tt
-    by false = tt
-
-refused-change : (why : ℕ → Refusal) (found : Option ℕ) (change : Result FlatMemory Refusal) → ((page : ℕ) → IsAreaAnswer (refusal_outcome (why page)))
-    → ChangesAreas change → ChangesAreas (or_refused why found change)
-refused-change why None change told changes = changes
-refused-change why (Some page) change told changes = told page
-
-change-answers : (state : KernelState) (change : Result FlatMemory Refusal) (progress : Progress) (end : EventEnd) → areas_changed state change progress ≡ end → ChangesAreas change
-    → IsAreaAnswer end.outcome
-change-answers state (Ok memory) progress end ends changes = subst (λ e. IsAreaAnswer e.outcome) ends tt
-change-answers state (Err refusal) progress end ends changes = subst (λ e. IsAreaAnswer e.outcome) ends changes
+-- ---- what a change of areas answers
 
 -- a fault is told otherwise than what was done
 undone : (fault : Fault) → fault_outcome fault ≢ Done
 undone fault done = false≢true (sym (fault-undone fault) ∙ ap is_done done)
+
+-- where it was not done it was refused
+pub unless-done : {P : Type 0} (changed : Result (Unit {0}) AreaFault) → OnErr changed P → area_outcome changed ≢ Done → P
+unless-done (Ok done) kept other = absurd (other refl)
+unless-done (Err fault) kept other = kept
 
 -- ---- the count of refused requests
 
@@ -88,13 +51,6 @@ HasMapped old new first n perm outcome = (machine : Machine) (state : KernelStat
     → EventRan old new machine (λ answers. mapped state answers first n perm) outcome
 
 module _ (old new : KernelParts) (notes : KernelNotes) (first n : ℕ) (perm : Perm) (known : ∥ IsKernelNoted old notes ∥₁) where
-  pub map-answers : (outcome : Outcome) → HasMapped old new first n perm outcome → IsAreaAnswer outcome
-  map-answers outcome ran = ∥∥₁_elim known (IsAreaAnswer-prop outcome) (λ it.
-      let state : KernelState = it.1.0 in
-      let behind : EventRan old new it.0 (λ answers. mapped state answers first n perm) outcome = ran it.0 state it.1.1.stands in
-      change-answers state (map_of state.world.parent first n perm) (begun state (answers_of behind.deals)) _ behind.ends
-      (refused-change Taken (taken state.world.parent.areas first n) _ (λ page. tt) (few-change _)))
-
   pub map-known : (outcome : Outcome) → 0 < n → first + n ≤ 2 ^ 36 → HasMapped old new first n perm outcome → ∥ IsKernelNoted new notes ∥₁
   map-known outcome some within ran = ∥∥₁_map known (λ it.
       let behind = ran it.0 it.1.0 it.1.1.stands in
@@ -129,13 +85,6 @@ HasUnmapped old new first n outcome = (machine : Machine) (state : KernelState) 
     → EventRan old new machine (λ answers. areas_changed state (unmap_of state.world.parent first n) (pages_unmapped first n (begun state answers))) outcome
 
 module _ (old new : KernelParts) (notes : KernelNotes) (first n : ℕ) (known : ∥ IsKernelNoted old notes ∥₁) where
-  pub unmap-answers : (outcome : Outcome) → HasUnmapped old new first n outcome → IsAreaAnswer outcome
-  unmap-answers outcome ran = ∥∥₁_elim known (IsAreaAnswer-prop outcome) (λ it.
-      let state : KernelState = it.1.0 in
-      let behind : EventRan old new it.0 (λ answers. areas_changed state (unmap_of state.world.parent first n) (pages_unmapped first n (begun state answers))) outcome = ran it.0 state it.1.1.stands in
-      change-answers state (unmap_of state.world.parent first n) (pages_unmapped first n (begun state (answers_of behind.deals))) _ behind.ends
-      (few-change _))
-
   pub unmap-known : (outcome : Outcome) → 0 < n → first + n ≤ 2 ^ 36 → HasUnmapped old new first n outcome → ∥ IsKernelNoted new notes ∥₁
   unmap-known outcome some within ran = ∥∥₁_map known (λ it.
       let behind = ran it.0 it.1.0 it.1.1.stands in
@@ -170,13 +119,6 @@ HasProtected old new first n perm outcome = (machine : Machine) (state : KernelS
     → EventRan old new machine (λ answers. areas_changed state (protect_of state.world.parent first n perm) (pages_protected first n (begun state answers))) outcome
 
 module _ (old new : KernelParts) (notes : KernelNotes) (first n : ℕ) (perm : Perm) (known : ∥ IsKernelNoted old notes ∥₁) where
-  pub protect-answers : (outcome : Outcome) → HasProtected old new first n perm outcome → IsAreaAnswer outcome
-  protect-answers outcome ran = ∥∥₁_elim known (IsAreaAnswer-prop outcome) (λ it.
-      let state : KernelState = it.1.0 in
-      let behind : EventRan old new it.0 (λ answers. areas_changed state (protect_of state.world.parent first n perm) (pages_protected first n (begun state answers))) outcome = ran it.0 state it.1.1.stands in
-      change-answers state (protect_of state.world.parent first n perm) (pages_protected first n (begun state (answers_of behind.deals))) _ behind.ends
-      (refused-change OutsideAreas (outside state.world.parent.areas first n) _ (λ page. tt) (few-change _)))
-
   pub protect-known : (outcome : Outcome) → 0 < n → first + n ≤ 2 ^ 36 → HasProtected old new first n perm outcome → ∥ IsKernelNoted new notes ∥₁
   protect-known outcome some within ran = ∥∥₁_map known (λ it.
       let behind = ran it.0 it.1.0 it.1.1.stands in

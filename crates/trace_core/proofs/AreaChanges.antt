@@ -1,6 +1,6 @@
 -- A change of the parent's areas ends as the definitions have it: refused by the areas, or behind what it gives back.
 use Rattle.std.proofs.Common.{◌≡◌, ℕ, List, [], length, None, Result, Ok, Err, Some, cond, refl, sym, ◌∙◌, ap, subst, append-nil}
-use Rattle.std.specs.Prelude.{true, false, nat_le}
+use Rattle.std.specs.Prelude.{true, false, nat_le, OnErr}
 use Rattle.std.specs.FinMap.{retain_keys}
 use Rattle.vm_base.specs.declared.permission.Perm.{Perm}
 use Rattle.vm_base.specs.Deals.{Deal, LeadsAlong}
@@ -9,6 +9,8 @@ use Rattle.vm_base.specs.FlatStep.{Refusal, OutsideAreas, Taken, TooManyAreas, m
 use Rattle.kernel_meaning.specs.FrameLaw.{held_frames}
 use Rattle.kernel_meaning.specs.Requests.{Answer, answers_of}
 use Rattle.kernel_meaning.specs.EventRequests.{Progress, pages_unmapped, pages_protected}
+use Rattle.area_list.specs.declared.fault.AreaFault.{AreaFault}
+use Rattle.area_list.specs.Answers.{Changes, refusal_of}
 use Rattle.area_list.specs.Calls.{areas_mapped, areas_unmapped, areas_protected, on_memory, if_few}
 use Rattle.page_tables.specs.declared.tables.PageTables.{PageTables}
 use Rattle.page_tables.specs.Courses.{requests_between, progress_between}
@@ -24,6 +26,7 @@ use Rattle.trace_events.specs.declared.outcome.Outcome.TheVariants.{Done}
 use Rattle.trace_core.specs.SupplyState.{SupplyState, SupplyGoes}
 use Rattle.trace_core.specs.KernelState.{Machine, KernelState}
 use Rattle.trace_core.specs.EventMeaning.{EventEnd, begun, areas_changed, mapped, refusal_outcome}
+use Rattle.trace_core.specs.CallAnswers.{area_outcome}
 use Rattle.trace_core.specs.KernelStanding.{KernelParts, KernelStands, EventRan, sides_of, kept_number}
 use Rattle.trace_core.specs.Supplied.{IsSupplied}
 use Rattle.trace_core.proofs.AnswerLemmas.{no_request_has_led}
@@ -146,6 +149,12 @@ module _ (parts : KernelParts) (machine : Machine) (state : KernelState) (st : K
     pub ran-mapped : (areas : List Area) → areas_mapped parts.areas first n perm ≡ Ok areas → EventRan parts (with_areas areas) machine (λ answers. mapped state answers first n perm) Done
     ran-mapped areas e = ran-areas_alone parts machine state st (map_of memory first n perm) (λ progress. progress) areas (map-is (Ok areas) e) (λ answers. refl)
 
+    -- whatever the areas answer
+    pub ran-map : (areas : List Area) (answer : Result (Unit {0}) AreaFault) → Changes parts.areas areas answer (areas_mapped parts.areas first n perm)
+        → EventRan parts (with_areas areas) machine (λ answers. mapped state answers first n perm) (area_outcome answer)
+    ran-map areas (Ok done) changes = ran-mapped areas changes
+    ran-map areas (Err fault) changes = ran-map_refused (refusal_of fault) areas (refusal_outcome (refusal_of fault)) changes.0 changes.1 refl
+
     abbrev protect_end : List Answer → EventEnd
     protect_end answers = areas_changed state (protect_of memory first n perm) (pages_protected first n (begun state answers))
 
@@ -224,6 +233,14 @@ module _ (parts : KernelParts) (machine : Machine) (state : KernelState) (st : K
       };
     }
 
+-- ---- a refusal leaves the areas
+
 -- where the areas are as they were, so are the parts
 pub with_areas-same : (parts : KernelParts) (areas : List Area) → areas ≡ parts.areas → record parts { areas = areas } ≡ parts
 with_areas-same parts areas same = ap (λ (it : List Area). record parts { areas = it }) same
+
+-- so they are where the areas answered a fault
+pub refused-same : (parts : KernelParts) (areas : List Area) (answer : Result (Unit {0}) AreaFault) (change : Result (List Area) Refusal) → Changes parts.areas areas answer change
+    → OnErr answer (record parts { areas = areas } ≡ parts)
+refused-same parts areas (Ok done) change changes = tt
+refused-same parts areas (Err fault) change changes = with_areas-same parts areas changes.1

@@ -1,7 +1,7 @@
 -- A fork and a reap of the kernel do what clauses know of a process, whatever state it stands for.
-use Rattle.std.proofs.Common.{◌≡◌, ℕ, ◌+◌, ◌<◌, ◌≤◌, ◌^◌, List, [], ◌∷◌, length, Option, Some, None, Result, Ok, Err, refl, sym, ◌∙◌, ap, subst, arith, cond, inl, inr}
-use Rattle.std.specs.Prelude.{◌-◌, IsTrue, Bool, true, false, ◌==◌, nat_le, OnOk, IfOk, OnErr, IfErr}
-use Rattle.std.specs.Option.{ForSome}
+use Rattle.std.proofs.Common.{◌≡◌, ℕ, ◌+◌, ◌<◌, ◌≤◌, ◌^◌, List, [], ◌∷◌, length, Option, Some, None, Result, Ok, Err, refl, sym, ◌∙◌, ap, subst, arith, inl, inr}
+use Rattle.std.specs.Prelude.{◌-◌, IsTrue, ◌==◌, OnOk, IfOk, OnErr, IfErr}
+use Rattle.std.specs.Option.{ForSome, IfSome}
 use Rattle.std.specs.Coded.{×_prop, le_prop}
 use Rattle.std.specs.Ordering.{nat_cmp}
 use Rattle.std.specs.FinMap.{len, len-empty}
@@ -14,20 +14,21 @@ use Rattle.vm_base.specs.declared.faults.ForkFault.{ForkFault}
 use Rattle.vm_base.specs.declared.faults.ForkFault.TheVariants.{NoFrame as FrameLacking, TooMany as TooManyLive}
 use Rattle.vm_base.specs.MemoryState.{IsKept, IsListed, KeepsReady}
 use Rattle.vm_base.specs.ProcessState.{Children, AreChildren, MayFork, ForkFails, LeavesMemory, LeavesAtReap, Reaps, HadRefusal, after_fork}
-use Rattle.kernel_meaning.specs.EventRequests.{FrameRefusal, Progress, snapshot_forked}
-use Rattle.kernel_meaning.specs.Requests.{answers_of}
 use Rattle.trace_events.specs.declared.event.Event.TheVariants.{Fork, Drop}
 use Rattle.trace_events.specs.declared.outcome.Outcome.{Outcome}
-use Rattle.trace_events.specs.declared.outcome.Outcome.TheVariants.{Done, Bytes, Held, AreaRow, Copied, Nothing, Refused, Lost, NoArea, NoWrite, Overlap, AreasFull, CellsFull, NoFrame, TooMany, NoSnap}
+use Rattle.trace_events.specs.declared.outcome.Outcome.TheVariants.{Done, NoFrame, TooMany}
 use Rattle.trace_events.specs.EventBounds.{IsCounted}
 use Rattle.page_tables.specs.declared.tables.PageTables.{PageTables}
 use Rattle.trace_core.specs.declared.parts.SnapshotAreas.{SnapshotAreas}
 use Rattle.trace_core.specs.declared.process.SoloChild.{SoloChild}
+use Rattle.trace_core.specs.declared.snapshots.ForkRefusal.{ForkRefusal}
+use Rattle.trace_core.specs.declared.snapshots.ForkRefusal.TheVariants.{NoFrame as FrameRefused, TooMany as LivesAlready}
+use Rattle.trace_core.specs.CallAnswers.{fork_outcome, child_answer}
 use Rattle.trace_core.specs.KernelState.{Machine, KernelState}
-use Rattle.trace_core.specs.EventMeaning.{only_answers, begun, fork_answered, fork_end, drop_end}
+use Rattle.trace_core.specs.EventMeaning.{fork_end, drop_end}
 use Rattle.trace_core.specs.KernelStanding.{KernelParts, KernelStands, EventRan}
 use Rattle.trace_core.specs.KernelRun.{Ran}
-use Rattle.trace_core.specs.KernelSeen.{KernelNotes, IsSound, IsKernelNoted, NotesHold, IsNoted, HasReached, IsForkAnswer, fork_answer, remains_of, parent_of, memory_of, kernel_memory, live_numbers, children_of, kept_memory, kept_in}
+use Rattle.trace_core.specs.KernelSeen.{KernelNotes, IsSound, IsKernelNoted, NotesHold, IsNoted, HasReached, remains_of, parent_of, memory_of, kernel_memory, live_numbers, children_of, kept_memory, kept_in}
 use Rattle.trace_core.proofs.ClauseProps.{number-prop, flat-prop, children-prop, MayFork-prop, AreChildren-prop, ForkFails-prop, KeepsReady-prop, LeavesAtReap-prop, Reaps-prop, known-kept}
 use Rattle.trace_core.proofs.FilledCells.{cells-filled}
 use Rattle.trace_core.proofs.ReachedEvents.{has-reached-behind}
@@ -42,33 +43,11 @@ use Rattle.trace_core.proofs.ToldMemories.{telling, told-kept}
 
 -- ---- the answers of a fork
 
--- what holds of each answer of a fork holds of those that it may give
-by-answer : (P : Outcome → Type 0) → P Done → ((at : ℕ) → P (NoFrame at)) → P TooMany → (outcome : Outcome) → IsForkAnswer outcome → P outcome
-by-answer P done lacking full Done may = done
-by-answer P done lacking full (Bytes bytes) may = absurd may
-by-answer P done lacking full (Held held free) may = absurd may
-by-answer P done lacking full (AreaRow row) may = absurd may
-by-answer P done lacking full Copied may = absurd may
-by-answer P done lacking full Nothing may = absurd may
-by-answer P done lacking full (Refused at) may = absurd may
-by-answer P done lacking full (Lost at) may = absurd may
-by-answer P done lacking full (NoArea page) may = absurd may
-by-answer P done lacking full (NoWrite page) may = absurd may
-by-answer P done lacking full (Overlap page) may = absurd may
-by-answer P done lacking full AreasFull may = absurd may
-by-answer P done lacking full CellsFull may = absurd may
-by-answer P done lacking full (NoFrame at) may = lacking at
-by-answer P done lacking full TooMany may = full
-by-answer P done lacking full NoSnap may = absurd may
-
-IsForkAnswer-prop : (outcome : Outcome) → IsProp (IsForkAnswer outcome)
-IsForkAnswer-prop outcome a b = by-answer (λ o. (x y : IsForkAnswer o) → x ≡ y) (λ x y. refl) (λ at x y. refl) (λ x y. refl) outcome a a b
-
-ends-so : (state : KernelState) (n : ℕ) (full : Bool) (refused : Option FrameRefusal) (progress : Progress)
-    → IsForkAnswer (cond full (only_answers state TooMany) (fork_answered state n refused progress)).outcome
-ends-so state n true refused progress = tt
-ends-so state n false None progress = tt
-ends-so state n false (Some refusal) progress = tt
+-- what holds of each answer of a fork holds of all
+by-answer : (P : Result (Unit {0}) ForkRefusal → Type 0) → P (Ok tt) → ((at : ℕ) → P (Err (FrameRefused at))) → P (Err LivesAlready) → (answer : Result (Unit {0}) ForkRefusal) → P answer
+by-answer P done lacking full (Ok it) = done
+by-answer P done lacking full (Err (FrameRefused at)) = lacking at
+by-answer P done lacking full (Err LivesAlready) = full
 
 -- ---- children that live
 
@@ -99,20 +78,19 @@ abbrev pub HasForked : KernelParts → KernelParts → ℕ → Outcome → Type 
 HasForked old new n outcome = (machine : Machine) (state : KernelState) → KernelStands old machine state
     → EventRan old new machine (λ answers. fork_end machine state answers n Eager) outcome
 
--- it forked with this outcome, which was noted
-pub record Forked (old new : KernelParts) (notes later : KernelNotes) (n : ℕ) (outcome : Outcome) : Type 0 where
-  pub ran : HasForked old new n outcome
-  pub noted : IsNoted old.tables (Fork n Eager) outcome new.tables new.supply.refused notes later
-  pub full : outcome ≡ TooMany → new ≡ old
+-- it answered so, which was noted
+pub record Forked (old new : KernelParts) (notes later : KernelNotes) (n : ℕ) (answer : Result (Unit {0}) ForkRefusal) : Type 0 where
+  pub ran : HasForked old new n (fork_outcome answer)
+  pub noted : IsNoted old.tables (Fork n Eager) (fork_outcome answer) new.tables new.supply.refused notes later
+  pub full : answer ≡ Err LivesAlready → new ≡ old
 
--- what is noted over the tables as they were, and of the count as it is
-pub forked-noted : (before : PageTables) (refused : ℕ) (old new : KernelParts) (notes later : KernelNotes) (n : ℕ) (outcome : Outcome)
-    → before ≡ old.tables → refused ≡ new.supply.refused → IsNoted before (Fork n Eager) outcome new.tables refused notes later
-    → HasForked old new n outcome → (outcome ≡ TooMany → new ≡ old) → Forked old new notes later n outcome
-forked-noted before refused old new notes later n outcome same count noted ran full = record {
+-- what is noted over any tables, of the count as it is
+pub forked-noted : (refused : ℕ) (old new : KernelParts) (notes later : KernelNotes) (n : ℕ) (answer : Result (Unit {0}) ForkRefusal) → refused ≡ new.supply.refused
+    → ((before : PageTables) (number : ℕ) → IsNoted before (Fork number Eager) (fork_outcome answer) new.tables refused notes later)
+    → HasForked old new n (fork_outcome answer) → (answer ≡ Err LivesAlready → new ≡ old) → Forked old new notes later n answer
+forked-noted refused old new notes later n answer count noted ran full = record {
   ran = ran;
-  noted = subst (λ tables. IsNoted tables (Fork n Eager) outcome new.tables new.supply.refused notes later) same
-      (subst (λ count. IsNoted before (Fork n Eager) outcome new.tables count notes later) count noted);
+  noted = subst (λ count. IsNoted old.tables (Fork n Eager) (fork_outcome answer) new.tables count notes later) count (noted old.tables n);
   full = full;
 }
 
@@ -126,24 +104,19 @@ next-counted parts n next = (omega (arith, next.1), omega (arith, next.0, next.1
 next-below : (parts : KernelParts) (n : ℕ) → IsNext parts n → parts.last < 4294967295
 next-below parts n next = omega (arith, next.0)
 
-module _ (old new : KernelParts) (notes later : KernelNotes) (n : ℕ) (known : ∥ IsKernelNoted old notes ∥₁) (outcome : Outcome) where
-  -- a fork answers in one of three ways
-  pub fork-answers : HasForked old new n outcome → IsForkAnswer outcome
-  fork-answers ran = ∥∥₁_elim known (IsForkAnswer-prop outcome) (λ it.
-      let state : KernelState = it.1.0 in
-      let behind : EventRan old new it.0 (λ answers. fork_end it.0 state answers n Eager) outcome = ran it.0 state it.1.1.stands in
-      let progress : Progress = snapshot_forked n Eager (begun state (answers_of behind.deals)) in
-      subst (λ e. IsForkAnswer e.outcome) behind.ends (ends-so state n (nat_le it.0.limit (len state.world.snapshots)) progress.refused progress))
+module _ (old new : KernelParts) (notes later : KernelNotes) (n : ℕ) (known : ∥ IsKernelNoted old notes ∥₁) (answer : Result (Unit {0}) ForkRefusal) where
+  abbrev outcome : Outcome
+  outcome = fork_outcome answer
 
-  module _ (its : Forked old new notes later n outcome) where
-    by-forked : (P : Outcome → Type 0) → (Forked old new notes later n Done → P Done) → ((at : ℕ) → Forked old new notes later n (NoFrame at) → P (NoFrame at))
-        → (Forked old new notes later n TooMany → P TooMany) → P outcome
-    by-forked P done lacking full = by-answer (λ o. Forked old new notes later n o → P o) done lacking full outcome (fork-answers its.ran) its
+  module _ (its : Forked old new notes later n answer) where
+    by-forked : (P : Result (Unit {0}) ForkRefusal → Type 0) → (Forked old new notes later n (Ok tt) → P (Ok tt)) → ((at : ℕ) → Forked old new notes later n (Err (FrameRefused at)) → P (Err (FrameRefused at)))
+        → (Forked old new notes later n (Err LivesAlready) → P (Err LivesAlready)) → P answer
+    by-forked P done lacking full = by-answer (λ a. Forked old new notes later n a → P a) done lacking full answer its
 
-    by-result : (P : Result SoloChild ForkFault → Type 0) → (Forked old new notes later n Done → P (Ok (record { number = n })))
-        → ((at : ℕ) → Forked old new notes later n (NoFrame at) → P (Err (FrameLacking at))) → (Forked old new notes later n TooMany → P (Err TooManyLive))
-        → (result : Result SoloChild ForkFault) → result ≡ fork_answer outcome n → P result
-    by-result P done lacking full result told = subst P (sym told) (by-forked (λ o. P (fork_answer o n)) done lacking full)
+    by-result : (P : Result SoloChild ForkFault → Type 0) → (Forked old new notes later n (Ok tt) → P (Ok (record { number = n })))
+        → ((at : ℕ) → Forked old new notes later n (Err (FrameRefused at)) → P (Err (FrameLacking at))) → (Forked old new notes later n (Err LivesAlready) → P (Err TooManyLive))
+        → (result : Result SoloChild ForkFault) → result ≡ child_answer answer n → P result
+    by-result P done lacking full result told = subst P (sym told) (by-forked (λ a. P (child_answer a n)) done lacking full)
 
     -- one child more lives, and no request was refused
     abbrev pub AddsChild : Type 0
@@ -160,7 +133,7 @@ module _ (old new : KernelParts) (notes later : KernelNotes) (n : ℕ) (known : 
     -- ---- the child
 
     -- it has the memory whole
-    pub fork-copy : (result : Result SoloChild ForkFault) → result ≡ fork_answer outcome n → IfOk result (λ child. kept_in new.snapshot later.forked ≡ parent_of old)
+    pub fork-copy : (result : Result SoloChild ForkFault) → result ≡ child_answer answer n → IfOk result (λ child. kept_in new.snapshot later.forked ≡ parent_of old)
     fork-copy = by-result (λ r. IfOk r (λ child. kept_in new.snapshot later.forked ≡ parent_of old))
         (λ its. ∥∥₁_elim known (flat-prop (kept_in new.snapshot later.forked) (parent_of old)) (λ it.
         let ran : EventRan old new it.0 (λ answers. fork_end it.0 it.1.0 answers n Eager) Done = its.ran it.0 it.1.0 it.1.1.stands in
@@ -170,7 +143,7 @@ module _ (old new : KernelParts) (notes later : KernelNotes) (n : ℕ) (known : 
         (λ at its. tt) (λ its. tt)
 
     -- one child more lives
-    pub fork-forked : IsNext old n → (result : Result SoloChild ForkFault) → result ≡ fork_answer outcome n
+    pub fork-forked : IsNext old n → (result : Result SoloChild ForkFault) → result ≡ child_answer answer n
         → OnOk result AddsChild
     fork-forked next =
         by-result (λ r. OnOk r AddsChild)
@@ -184,10 +157,15 @@ module _ (old new : KernelParts) (notes later : KernelNotes) (n : ℕ) (known : 
         )))
         (λ at its. tt) (λ its. tt)
 
+    -- it was forked behind so many refused requests
+    pub fork-born : (result : Result SoloChild ForkFault) → result ≡ child_answer answer n → IfOk result (λ child. IfSome (Some later.born) (λ born. born ≡ new.supply.refused))
+    fork-born = by-result (λ r. IfOk r (λ child. IfSome (Some later.born) (λ born. born ≡ new.supply.refused)))
+        (λ its. (its.noted.forked refl).1) (λ at its. tt) (λ its. tt)
+
     -- ---- where it is refused
 
     -- it tells why
-    pub fork-fails : IsNext old n → (result : Result SoloChild ForkFault) → result ≡ fork_answer outcome n
+    pub fork-fails : IsNext old n → (result : Result SoloChild ForkFault) → result ≡ child_answer answer n
         → IfErr result (λ fault. ForkFails (children_in old) (kernel_memory old notes) (kernel_memory new later) fault)
     fork-fails next = by-result (λ r. IfErr r (λ fault. ForkFails (children_in old) (kernel_memory old notes) (kernel_memory new later) fault))
         (λ its. tt)
@@ -204,7 +182,7 @@ module _ (old new : KernelParts) (notes later : KernelNotes) (n : ℕ) (known : 
     failed-prop = ×_prop (children-prop (children_in new) (children_in old)) (KeepsReady-prop (kernel_memory old notes) (kernel_memory new later))
 
     -- no child is there, and what could be stored to still can be
-    pub fork-failed : (result : Result SoloChild ForkFault) → result ≡ fork_answer outcome n
+    pub fork-failed : (result : Result SoloChild ForkFault) → result ≡ child_answer answer n
         → OnErr result LeavesChildren
     fork-failed = by-result (λ r. OnErr r LeavesChildren)
         (λ its. tt)
@@ -229,7 +207,7 @@ module _ (old new : KernelParts) (notes later : KernelNotes) (n : ℕ) (known : 
     fork-kept next bounds reached = told-kept (memory_of old notes.most) (memory_of new later.most) notes.enough later.enough its.noted.enough [] reached
         (subst (λ most. IsKept (memory_of old notes.most) (memory_of new most) []) (sym its.noted.most)
         (known-kept (memory_of old notes.most) (memory_of new notes.most) [] known (λ it.
-        by-forked (λ o. IsKept (memory_of old notes.most) (memory_of new notes.most) [])
+        by-forked (λ a. IsKept (memory_of old notes.most) (memory_of new notes.most) [])
         (λ its. forked-keeps old new notes it.0 it.1.0 it.1.1 n bounds Eager (next-counted old n next).0 (its.ran it.0 it.1.0 it.1.1.stands))
         (λ at its. unforked-keeps old new notes it.0 it.1.0 it.1.1 n bounds Eager (NoFrame at) refl (its.ran it.0 it.1.0 it.1.1.stands))
         (λ its. unforked-keeps old new notes it.0 it.1.0 it.1.1 n bounds Eager TooMany refl (its.ran it.0 it.1.0 it.1.1.stands)))))
@@ -237,7 +215,7 @@ module _ (old new : KernelParts) (notes later : KernelNotes) (n : ℕ) (known : 
     -- the other children are as they were: where one lives, nothing changes
     pub fork-others : IsNext old n → (k : ℕ) → IsListed k (live_numbers old.snapshot)
         → LeavesKept
-    fork-others next k listed = by-forked (λ o. LeavesKept)
+    fork-others next k listed = by-forked (λ a. LeavesKept)
         (λ its. absurd (∥∥₁_elim known ⊥_prop (λ it.
         none-there old.snapshot k (forked-may old new it.0 it.1.0 it.1.1.stands n Eager (its.ran it.0 it.1.0 it.1.1.stands) (next-below old n next)).place listed)))
         (λ at its. absurd (∥∥₁_elim known ⊥_prop (λ it.

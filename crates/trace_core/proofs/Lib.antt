@@ -56,6 +56,7 @@ pub mod SpentForks
 pub mod CellSums
 pub mod KeptFrames
 pub mod ParentFrames
+pub mod UsedCells
 pub mod WholeCells
 pub mod HeldNotes
 pub mod HeldEvents

@@ -63,15 +63,19 @@ told-follows parts machine state event outcome parents plain st ends =
 pub ran-same : (from new : KernelParts) (event one : Event) (outcome : Outcome) → event ≡ one → Ran from new one outcome → Ran from new event outcome
 ran-same from new event one outcome is ran = subst (λ e. Ran from new e outcome) (sym is) ran
 
+-- whatever state the parts stood for, the event ended there with this outcome
+abbrev pub HasEnded : KernelParts → KernelParts → Event → Outcome → Type 0
+HasEnded from new event outcome = (machine : Machine) (state : KernelState) → KernelStands from machine state
+    → EventRan from new machine (λ answers. event_end machine state answers event) outcome
+
 pub ran-parent : (from new : KernelParts) (event one : Event) (outcome : Outcome) → event ≡ one → asker_of one ≡ Parent → is_refuse one ≡ false
-    → ((machine : Machine) (state : KernelState) → KernelStands from machine state → EventRan from new machine (λ answers. event_end machine state answers one) outcome)
-    → Ran from new event outcome
+    → HasEnded from new one outcome → Ran from new event outcome
 ran-parent from new event one outcome is parents plain ran =
     ran-same from new event one outcome is (λ machine state st. ran-follows from new machine state one outcome parents plain st (ran machine state st))
 
 -- and where memory may be lacking
 pub ran-if-ok : {E : Type 0} (from new : KernelParts) (event one : Event) (result : Result Outcome E) → event ≡ one → asker_of one ≡ Parent → is_refuse one ≡ false
-    → IfOk result (λ outcome. (machine : Machine) (state : KernelState) → KernelStands from machine state → EventRan from new machine (λ answers. event_end machine state answers one) outcome)
+    → IfOk result (HasEnded from new one)
     → IfOk result (Ran from new event)
 ran-if-ok from new event one (Ok outcome) is parents plain ran = ran-parent from new event one outcome is parents plain ran
 ran-if-ok from new event one (Err none) is parents plain ran = tt

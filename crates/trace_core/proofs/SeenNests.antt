@@ -1,6 +1,6 @@
 -- The kernel as the nest of its snapshot: a read of the snapshot answers by the memory at its fork and the cells that it has lost.
 use Rattle.std.proofs.Common.{◌≡◌, ℕ, Bool, true, false, cond, eqb, List, [], ◌∷◌, map, Option, Some, None, Result, Ok, Err, refl, sym, ◌∙◌, ap, subst, arith}
-use Rattle.std.specs.Prelude.{◌==◌, if◌then◌else◌, is_some, IsSome, IsTrue}
+use Rattle.std.specs.Prelude.{◌==◌, if◌then◌else◌, is_some, IsSome, IsTrue, ◌<◌}
 use Rattle.std.specs.Ordering.{nat_cmp}
 use Rattle.std.specs.Cmp.{nat_cmp_total}
 use Rattle.std.specs.Coded.{Coded-set, code_by, coded×, coded_ℕ, coded_list, coded_result}
@@ -44,6 +44,7 @@ nest_kept parts notes kept = record {
   found = lost_in kept.number parts.tables.slots.items;
   refused = kept.refused;
   todo = 0;
+  passed = true;
   whole = true;
 }
 
@@ -157,6 +158,7 @@ module _ (parts : KernelParts) (notes : KernelNotes) (number : ℕ) (known : ∥
     found = lost_in (sym its.same i) parts.tables.slots.items;
     refused = 0;
     todo = 0;
+    passed = true;
     whole = true;
   }) addr len
 
@@ -219,7 +221,9 @@ module _ (parts : KernelParts) (notes : KernelNotes) (number : ℕ) (known : ∥
     cells = λ c at e. holds.cells c (∥∥₁_elim known (test-prop (is_some (slot_in parts.tables.snapshot c)) true) (λ it. slot-of-lost parts it.0 it.1.0 it.1.1.stands number c at e));
     counted = omega arith;
     todo = omega arith;
+    passed = λ passed. passed;
     whole = λ whole. whole;
+    unskipped = λ whole. refl;
   }
 
   -- what it has lost it lost behind its fork
@@ -233,6 +237,12 @@ module _ (parts : KernelParts) (notes : KernelNotes) (number : ℕ) (known : ∥
   copy-lost lost is = ∥∥₁_elim known (option-prop _ _) (λ it.
       let sides : Sides = sides_of it.1.0 it.1.1.stands.pages in
       seen-lost parts.tables sides it.1.1.stands.tables number lost.cell ∙ (subst (IsLowestLoss sides.leaves number) is (lowest sides it.1.1.stands.tables)).0)
+
+  -- and no lower one is
+  pub copy-lowest : (lost : LostCell) → result ≡ Some lost → (other : ℕ) → other < lost.cell → get (lost_in number parts.tables.slots.items) other ≡ None
+  copy-lowest lost is other below = ∥∥₁_elim known (option-prop _ _) (λ it.
+      let sides : Sides = sides_of it.1.0 it.1.1.stands.pages in
+      seen-lost parts.tables sides it.1.1.stands.tables number other ∙ (subst (IsLowestLoss sides.leaves number) is (lowest sides it.1.1.stands.tables)).1 other below)
 
   -- where none is told, none is
   pub copy-none : result ≡ None → lost_in number parts.tables.slots.items ≡ empty

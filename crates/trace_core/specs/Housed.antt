@@ -1,12 +1,16 @@
 -- The kernel as the house of its snapshot: what stands beside a snapshot tells all that the kernel tells of itself.
-use Rattle.std.proofs.Common.{◌≡◌, ℕ, Option, Some, None, refl, ap}
-use Rattle.std.specs.Prelude.{Bool, true, false, IsTrue, ◌==◌, ◌||◌, ◌↔◌}
+use Rattle.std.proofs.Common.{◌≡◌, ℕ, Option, Some, None, inl, inr, refl, ap, eqb, arith}
+use Rattle.std.specs.Prelude.{◌⊎◌, Bool, true, false, IsTrue, IsSome, ◌==◌, ◌||◌, ◌↔◌}
+use Rattle.std.proofs.Math.Logic.{∥∥₁_map}
 use Rattle.std.proofs.lemmas.Bool.{false≢true}
-use Rattle.vm_base.specs.MemoryState.{IsListed}
+use Rattle.std.proofs.lemmas.Bool.Decides.{nat_tests}
+use Rattle.vm_base.specs.FlatMemory.{cells_of}
+use Rattle.vm_base.specs.MemoryState.{IsIn, IsListed}
 use Rattle.kernel_meaning.specs.Leaves.{holds_number}
 use Rattle.trace_core.specs.declared.parts.SnapshotAreas.{SnapshotAreas}
-use Rattle.trace_core.specs.KernelStanding.{kept_number}
-use Rattle.trace_core.specs.KernelSeen.{BesideChild, live_numbers}
+use Rattle.trace_core.specs.declared.process.SoloChild.{SoloChild}
+use Rattle.trace_core.specs.KernelStanding.{KernelParts, kept_number}
+use Rattle.trace_core.specs.KernelSeen.{KernelNotes, BesideChild, live_numbers, kernel_memory, kept_in, nest_of, AreSlotsUsed}
 
 -- it tells the kernel's memory
 pub same_memory : {one other : BesideChild} → one ≡ other → one.memory ≡ other.memory
@@ -15,6 +19,29 @@ same_memory same = ap (λ beside. beside.memory) same
 -- and what stands beside that
 pub same_beside : {one other : BesideChild} → one ≡ other → one.beside ≡ other.beside
 same_beside same = ap (λ beside. beside.beside) same
+
+-- and the number of the snapshot, whatever tells its home
+pub same_child : {one other : BesideChild} → one ≡ other → (one.number ≡ other.number) × ◌≡◌ {A = Unit {0}} tt tt
+same_child same = (ap (λ beside. beside.number) same, refl)
+
+-- a slot is used by a cell of the kernel or of a snapshot that lives
+pub used_there : (parts : KernelParts) (notes : KernelNotes) → AreSlotsUsed parts notes → (cell : ℕ) → IsIn cell (kernel_memory parts notes).used
+    → ∥ IsListed cell (cells_of (kernel_memory parts notes).mem)
+    ⊎ ((child : SoloChild) × (IsTrue (holds_number (kept_number parts.snapshot) child.number) × IsListed cell (cells_of (nest_of parts notes child.number).mem))) ∥₁
+used_there parts notes used cell is = ∥∥₁_map (used cell is) side
+  where
+    itself : (n : ℕ) → eqb n n ≡ true
+    itself n = grind (arith, nat_tests)
+
+    number_of : (snapshot : Option SnapshotAreas) → IsSome snapshot → (n : ℕ) × IsTrue (holds_number (kept_number snapshot) n)
+    number_of None lives = absurd (false≢true lives)
+    number_of (Some kept) lives = (kept.number, itself kept.number)
+
+    side : IsListed cell (cells_of (kernel_memory parts notes).mem) ⊎ (IsSome parts.snapshot × IsListed cell (cells_of (kept_in parts.snapshot notes.forked)))
+        → IsListed cell (cells_of (kernel_memory parts notes).mem)
+        ⊎ ((child : SoloChild) × (IsTrue (holds_number (kept_number parts.snapshot) child.number) × IsListed cell (cells_of (nest_of parts notes child.number).mem)))
+    side (inl parent) = inl parent
+    side (inr kept) = let its = number_of parts.snapshot kept.0 in inr (record { number = its.0 }, (its.1, kept.1))
 
 -- a snapshot lives where its number is listed, whatever tells its home
 pub lives_numbered : (snapshot : Option SnapshotAreas) (n : ℕ) → IsTrue (holds_number (kept_number snapshot) n) ↔ (IsListed n (live_numbers snapshot) × ◌≡◌ {A = Unit {0}} tt tt)

@@ -1,24 +1,24 @@
 -- What a kernel is as a memory, as a process, and as the nest of its snapshot.
-use Rattle.std.specs.Prelude.{◌≡◌, ℕ, ◌+◌, ◌/◌, ◌<◌, ◌≤◌, ◌==◌, if◌then◌else◌, max, length, Bool, true, false, List, [], ◌∷◌, Option, Some, None, IsSome, Result, Ok, Err}
+use Rattle.std.specs.Prelude.{◌≡◌, ◌⊎◌, ℕ, ◌+◌, ◌/◌, ◌<◌, ◌≤◌, ◌==◌, if◌then◌else◌, max, length, Bool, true, false, List, [], ◌∷◌, Option, Some, None, IsSome, Result}
 use Rattle.std.specs.Option.{ForSome}
 use Rattle.std.specs.Ordering.{nat_cmp}
 use Rattle.std.specs.FinMap.{FinMap, get, empty}
 use Rattle.std.specs.FinSet as set
 use Rattle.vm_base.specs.Counts.{next_count}
 use Rattle.vm_base.specs.FlatMemory.{PageMap, FlatMemory, IsFlat, empty_memory, cells_of}
-use Rattle.vm_base.specs.MemoryState.{MemoryState, IsListed, own_of}
+use Rattle.vm_base.specs.MemoryState.{MemoryState, IsIn, IsListed, own_of}
 use Rattle.vm_base.specs.ProcessState.{Children, Remains}
 use Rattle.vm_base.specs.SnapshotState.{SnapshotState}
 use Rattle.vm_base.specs.MemoryCalls.{touched}
 use Rattle.trace_events.specs.declared.event.Event.{Event}
 use Rattle.trace_events.specs.declared.event.Event.TheVariants.{Write, Fill, Fork, Refuse}
 use Rattle.trace_events.specs.declared.outcome.Outcome.{Outcome}
-use Rattle.trace_events.specs.declared.outcome.Outcome.TheVariants.{Done, NoFrame, TooMany, NoArea, Overlap, AreasFull}
+use Rattle.trace_events.specs.declared.outcome.Outcome.TheVariants.{Done, NoFrame}
 use Rattle.page_tables.specs.declared.tables.PageTables.{PageTables}
 use Rattle.page_tables.specs.Standing.{slot_count, slot_in}
 use Rattle.vm_base.specs.declared.faults.Fault.{Fault}
 use Rattle.vm_base.specs.declared.faults.ForkFault.{ForkFault}
-use Rattle.vm_base.specs.declared.faults.ForkFault.TheVariants.{NoFrame as LacksFrame, TooMany as TooManyLive, NumbersSpent}
+use Rattle.vm_base.specs.declared.faults.ForkFault.TheVariants.{TooMany as TooManyLive, NumbersSpent}
 use Rattle.trace_core.specs.declared.parts.SnapshotAreas.{SnapshotAreas}
 use Rattle.trace_core.specs.TouchAnswers.{touch_outcome}
 use Rattle.trace_core.specs.KernelState.{Machine, KernelState}
@@ -27,7 +27,6 @@ use Rattle.trace_core.specs.SupplyState.{state_of}
 use Rattle.trace_core.specs.TablesSeen.{pages_in, used_in, ready_in, lost_in}
 use Rattle.trace_core.specs.declared.parts.Parts.{Parts}
 use Rattle.trace_core.specs.declared.notes.Notes.{Notes}
-use Rattle.trace_core.specs.declared.process.SoloChild.{SoloChild}
 
 -- the parent's pages
 abbrev pub pages_of : PageTables → PageMap
@@ -166,6 +165,7 @@ nest_of parts notes number = record {
   found = lost_in number parts.tables.slots.items;
   refused = copies_refused_in parts.snapshot;
   todo = 0;
+  passed = true;
   whole = true;
 }
 
@@ -186,6 +186,11 @@ pub record IsSound (parts : KernelParts) (notes : KernelNotes) (machine : Machin
 -- they do so for some state
 abbrev pub IsKernelNoted : KernelParts → KernelNotes → Type 0
 IsKernelNoted parts notes = (machine : Machine) × ((state : KernelState) × IsSound parts notes machine state)
+
+-- each slot is used by a cell of the parent, or by one of the snapshot that lives
+abbrev pub AreSlotsUsed : KernelParts → KernelNotes → Type 0
+AreSlotsUsed parts notes = (cell : ℕ) → IsIn cell (used_in parts.tables.slots.items)
+    → ∥ IsListed cell (cells_of (parent_of parts)) ⊎ (IsSome parts.snapshot × IsListed cell (cells_of (kept_in parts.snapshot notes.forked))) ∥₁
 
 -- what the notes tell of the snapshot that lives, and of refusals, holds
 pub record NotesHold (parts : KernelParts) (notes : KernelNotes) : Type 0 where
@@ -243,27 +248,6 @@ pub record IsNoted (before : PageTables) (event : Event) (outcome : Outcome) (ta
 -- the most frames behind a touch that was answered so
 abbrev pub most_behind_touch : PageTables → ℕ → ℕ → ℕ → Result (Unit {0}) Fault → ℕ
 most_behind_touch before address n most result = most_answered before address n most (touch_outcome result)
-
--- an answer of the areas, and no other outcome
-abbrev pub IsAreaAnswer : Outcome → Type 0
-IsAreaAnswer Done = Unit {0}
-IsAreaAnswer (NoArea page) = Unit {0}
-IsAreaAnswer (Overlap page) = Unit {0}
-IsAreaAnswer AreasFull = Unit {0}
-IsAreaAnswer other = ⊥
-
--- an answer of a fork, and no other outcome
-abbrev pub IsForkAnswer : Outcome → Type 0
-IsForkAnswer Done = Unit {0}
-IsForkAnswer (NoFrame at) = Unit {0}
-IsForkAnswer TooMany = Unit {0}
-IsForkAnswer other = ⊥
-
--- what a fork of the snapshot of this number answers
-abbrev pub fork_answer : Outcome → ℕ → Result SoloChild ForkFault
-fork_answer Done number = Ok (record { number = number })
-fork_answer (NoFrame at) number = Err (LacksFrame at)
-fork_answer other number = Err TooManyLive
 
 -- why there is no fork where the last number was given out: a snapshot lives, or else no number is left
 abbrev pub spent_fault : Option SnapshotAreas → ForkFault

@@ -11,4 +11,5 @@ pub mod Supplied
 pub mod KernelRun
 pub mod SnapshotAnswers
 pub mod TouchAnswers
+pub mod CallAnswers
 pub mod Housed

@@ -53,10 +53,8 @@ impl Parts {
     pub fn list_areas(&self, alloc: Global) -> Result<Outcome, NoMemory>
         ensures ran { IfOk result (Ran (⟦<Parts as Standing>⟧.parts self.now) (⟦<Parts as Standing>⟧.parts self.now) event.ListAreas) }
     {
-        match AreaRow::new(alloc, self.areas.list()) {
-            Ok(row) => Ok(Outcome::AreaRow(row)),
-            Err(NoMemory) => Err(NoMemory),
-        }
+        let row = AreaRow::new(alloc, self.areas.list())?;
+        Ok(Outcome::AreaRow(row))
     }
 
     /// Names the nth request for a frame from here on, counted from 1, to be refused.

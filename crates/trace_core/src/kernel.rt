@@ -11,7 +11,7 @@ ghost use Rattle.trace_core.specs.SupplyState.{state_of, opening_supply, policy_
 ghost use Rattle.trace_core.specs.KernelState.{Machine, KernelState, opening_state};
 ghost use Rattle.trace_core.specs.KernelRun.{Ran, HasRun};
 ghost use Rattle.trace_core.specs.KernelStanding.{KernelStands};
-ghost use Rattle.trace_core.specs.KernelSeen.{KernelNotes, IsKernelNoted, IsNoted, NotesHold, HasReached, parts_of, notes_of, kernel_memory, opening_memory, enough_of};
+ghost use Rattle.trace_core.specs.KernelSeen.{KernelNotes, IsKernelNoted, IsNoted, NotesHold, AreSlotsUsed, HasReached, parts_of, notes_of, kernel_memory, opening_memory, enough_of};
 
 use crate::notes::Notes;
 use crate::parts::{Parts, Standing};
@@ -30,6 +30,8 @@ pub struct Kernel {
     ghost stood: { ∥ IsKernelNoted (parts_of parts) (notes_of notes) ∥₁ },
     /// What is noted of the snapshot that lives, and of refusals, holds.
     ghost held: { NotesHold (parts_of parts) (notes_of notes) },
+    /// A slot is used by a cell of the parent or of the snapshot that lives.
+    ghost slotted: { AreSlotsUsed (parts_of parts) (notes_of notes) },
     /// Once a request was refused, as many frames were had or asked for as are enough.
     ghost reached: { HasReached (parts_of parts) (notes_of notes) },
     /// Where it is told how many are enough, no policy may refuse a request.

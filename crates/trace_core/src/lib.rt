@@ -28,6 +28,4 @@ pub use kernel::{Kernel, Noting};
 pub use laws::{a_run_is_told_by_its_refused_requests, a_supply_answers_as_it_may};
 pub use parts::Standing;
 pub use process::SoloChild;
-pub use snapshots::SnapshotFault;
 pub use supply::Supply;
-pub use writing::NoArea;

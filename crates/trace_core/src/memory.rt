@@ -1,11 +1,11 @@
 //! The kernel as a memory.
 ghost use Rattle.std.specs.Prelude.{◌≡◌};
 ghost use Rattle.trace_core.specs.TouchAnswers.{touch_outcome};
-ghost use Rattle.trace_core.specs.KernelSeen.{IsAreaAnswer};
+ghost use Rattle.trace_core.specs.CallAnswers.{area_outcome};
 
 use crate::kernel::Kernel;
+use area_list::AreaFault;
 use std::snapshot::Snapshot;
-use trace_events::Outcome;
 use vm_base::{Fault, Memory, Perm};
 
 impl Memory for Kernel {
@@ -54,16 +54,14 @@ impl Memory for Kernel {
     }
 }
 
-// What a change of areas answers.
-fn area_answer(outcome: Outcome) -> Result<(), Fault>
-    requires { IsAreaAnswer outcome }
-    ensures { touch_outcome result ≡ outcome }
+// What a change of areas answers, as a memory tells it.
+fn area_answer(changed: Result<(), AreaFault>) -> Result<(), Fault>
+    ensures { touch_outcome result ≡ area_outcome changed }
 {
-    match outcome {
-        Outcome::Done => Ok(()),
-        Outcome::NoArea(page) => Err(Fault::NoArea(page)),
-        Outcome::Overlap(page) => Err(Fault::Overlap(page)),
-        Outcome::AreasFull => Err(Fault::AreasFull),
-        _ => unreachable!("areas answer no other way"),
+    match changed {
+        Ok(()) => Ok(()),
+        Err(AreaFault::NoArea(page)) => Err(Fault::NoArea(page)),
+        Err(AreaFault::Overlap(page)) => Err(Fault::Overlap(page)),
+        Err(AreaFault::AreasFull) => Err(Fault::AreasFull),
     }
 }

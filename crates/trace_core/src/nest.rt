@@ -56,18 +56,25 @@ impl Nest for Kernel {
 }
 
 impl Housing for Kernel {
-    ghost use Rattle.trace_core.specs.Housed.{same_memory, same_beside, lives_numbered};
+    ghost use Rattle.trace_core.specs.KernelSeen.{parts_of, notes_of};
+    ghost use Rattle.trace_core.specs.Housed.{same_memory, same_beside, same_child, used_there, lives_numbered};
     ghost use Rattle.std.proofs.Common.{refl};
 
     ghost state_beside = { λ p q c d same. same_memory same };
 
     ghost aside_beside = { λ p q c d same. same_beside same };
 
+    ghost child_beside = { λ p q c d same. same_child same };
+
     ghost refused_beside = { λ p c. refl };
 
     ghost born_beside = { λ p c. refl };
 
     ghost kept_nested = { λ p c. refl };
+
+    ghost found_since = { λ p c lives cell at found. p.held.since c.number cell at found };
+
+    ghost used_there = { λ p cell used. used_there (parts_of p.parts) (notes_of p.notes) p.slotted cell used };
 
     ghost lives_numbered = { λ p c. lives_numbered p.parts.snapshot c.number };
 }

@@ -1,7 +1,12 @@
 //! What contracts alone know of a kernel. No code reads it, and it takes no bytes.
-ghost use Rattle.std.specs.Prelude.{◌≡◌, IfOk, OnErr};
+ghost use Rattle.std.specs.Prelude.{◌≡◌, ℕ, IfOk, OnErr};
+ghost use Rattle.vm_base.specs.declared.fork_mode.Mode.TheVariants.{Eager};
+ghost use Rattle.trace_events.specs.declared.event.Event.TheVariants.{Fork};
+ghost use Rattle.page_tables.specs.declared.tables.PageTables.{PageTables};
+ghost use Rattle.trace_core.specs.CallAnswers.{fork_outcome};
 ghost use Rattle.trace_core.specs.KernelSeen.{most_behind_touch, IsNoted, is_new_fork, enough_behind, notes_of};
 
+use crate::snapshots::ForkRefusal;
 use noted_value::{Note, note_down};
 use page_tables::PageTables;
 use std::snapshot::Snapshot;
@@ -108,6 +113,21 @@ impl Notes {
             self.forked(tables, refused);
         }
         self.named(event);
+    }
+
+    /// A fork was answered, and the tables and the refused requests are these behind it.
+    pub(crate) fn fork_answered(
+        &mut self,
+        answer: &Result<(), ForkRefusal>,
+        tables: &PageTables,
+        refused: u64,
+    )
+        ensures { (before : PageTables) (number : ℕ) → IsNoted before (Fork number Eager) (fork_outcome answer.now) tables.now refused
+            (notes_of self.old) (notes_of self.new) }
+    {
+        if let Ok(()) = answer {
+            self.forked(tables, refused);
+        }
     }
 
     /// A touch of a range of bytes was answered.

@@ -1,11 +1,11 @@
 //! The kernel as a process: the snapshot that lives is its one child.
 ghost use Rattle.std.specs.Prelude.{◌≡◌, length};
-ghost use Rattle.trace_core.specs.KernelSeen.{IsForkAnswer, fork_answer, spent_fault, live_numbers};
+ghost use Rattle.trace_core.specs.CallAnswers.{child_answer};
+ghost use Rattle.trace_core.specs.KernelSeen.{spent_fault, live_numbers};
 
 use crate::kernel::Kernel;
 use crate::parts::SnapshotAreas;
-use std::snapshot::Snapshot;
-use trace_events::{Event, Outcome};
+use crate::snapshots::ForkRefusal;
 use vm_base::{ForkFault, Mode, Process};
 
 /// A snapshot of a kernel, by its number. It must be spent: `reap` takes it, and drops the
@@ -53,16 +53,11 @@ impl Process for Kernel {
         let Some(number) = self.parts.last.checked_add(1) else {
             return Err(no_number(&self.parts.snapshot));
         };
-        let before = Snapshot::of(&self.parts.tables);
-        let outcome = self.parts.fork(number);
+        let answer = self.parts.fork(number);
         let refused = self.parts.refused();
-        let event = Event::Fork {
-            number,
-            mode: Mode::Eager,
-        };
         self.notes
-            .ran(&before, &event, &outcome, &self.parts.tables, refused);
-        fork_answer(outcome, number)
+            .fork_answered(&answer, &self.parts.tables, refused);
+        child_answer(answer, number)
     }
 
     fn reap(&mut self, gone: SoloChild) {
@@ -110,15 +105,13 @@ fn live_count(snapshot: &Option<SnapshotAreas>) -> u32
     }
 }
 
-// What a fork of the snapshot of this number answers.
-fn fork_answer(outcome: Outcome, number: u32) -> Result<SoloChild, ForkFault>
-    requires { IsForkAnswer outcome }
-    ensures { result ≡ fork_answer outcome number }
+// What a fork of the child of this number answers.
+fn child_answer(answer: Result<(), ForkRefusal>, number: u32) -> Result<SoloChild, ForkFault>
+    ensures { result ≡ child_answer answer number }
 {
-    match outcome {
-        Outcome::Done => Ok(SoloChild { number }),
-        Outcome::NoFrame(at) => Err(ForkFault::NoFrame { at }),
-        Outcome::TooMany => Err(ForkFault::TooMany),
-        _ => unreachable!("a fork answers no other way"),
+    match answer {
+        Ok(()) => Ok(SoloChild { number }),
+        Err(ForkRefusal::NoFrame(at)) => Err(ForkFault::NoFrame { at }),
+        Err(ForkRefusal::TooMany) => Err(ForkFault::TooMany),
     }
 }

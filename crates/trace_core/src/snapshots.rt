@@ -1,12 +1,12 @@
 //! The calls about the snapshot: forked from the parent, copied, read and dropped.
-ghost use Rattle.std.specs.Prelude.{◌≡◌, ◌+◌, ◌<◌, ◌≤◌, ◌^◌, length};
+ghost use Rattle.std.specs.Prelude.{◌≡◌, ◌+◌, ◌<◌, ◌≤◌, ◌^◌, length, Err};
 ghost use Rattle.vm_base.specs.declared.fork_mode.Mode.TheVariants.{Eager};
 ghost use Rattle.vm_base.specs.TwoSides.{snap_read_of};
 ghost use Rattle.kernel_meaning.specs.Leaves.{holds_number};
-ghost use Rattle.trace_events.specs.declared.outcome.Outcome.TheVariants.{TooMany};
 ghost use Rattle.trace_core.specs.KernelState.{Machine, KernelState};
 ghost use Rattle.trace_core.specs.EventMeaning.{fork_end, copy_end_of, drop_end};
 ghost use Rattle.trace_core.specs.KernelStanding.{IsKernel, KernelStands, EventRan, kept_number};
+ghost use Rattle.trace_core.specs.CallAnswers.{fork_outcome};
 ghost use Rattle.trace_core.specs.SnapshotAnswers.{snap_read_answer, KeepsUnlessLost};
 
 use crate::parts::{Parts, SnapshotAreas, Standing};
@@ -19,14 +19,14 @@ impl Parts {
     /// It asks for the tables of the snapshot's directory, and for a leaf table for each cell in
     /// which the parent has a page. One snapshot may live at a time. After a refusal there is none,
     /// and what was granted has gone back.
-    pub fn fork(&mut self, number: u32) -> Outcome
+    pub fn fork(&mut self, number: u32) -> Result<(), ForkRefusal>
         requires stands { ∥ IsKernel (⟦<Parts as Standing>⟧.parts self.old) ∥₁ }
         ensures ran { (machine : Machine) (state : KernelState) → KernelStands (⟦<Parts as Standing>⟧.parts self.old) machine state
-            → EventRan (⟦<Parts as Standing>⟧.parts self.old) (⟦<Parts as Standing>⟧.parts self.new) machine (λ answers. fork_end machine state answers number Eager) result }
-        ensures full { result ≡ TooMany → ⟦<Parts as Standing>⟧.parts self.new ≡ ⟦<Parts as Standing>⟧.parts self.old }
+            → EventRan (⟦<Parts as Standing>⟧.parts self.old) (⟦<Parts as Standing>⟧.parts self.new) machine (λ answers. fork_end machine state answers number Eager) (fork_outcome result) }
+        ensures full { result ≡ Err ForkRefusal.TooMany → ⟦<Parts as Standing>⟧.parts self.new ≡ ⟦<Parts as Standing>⟧.parts self.old }
     {
         if self.snapshot.is_some() {
-            return Outcome::TooMany;
+            return Err(ForkRefusal::TooMany);
         }
         match self.tables.fork(number, &mut self.supply) {
             Ok(()) => {
@@ -36,9 +36,9 @@ impl Parts {
                     refused: 0,
                 });
                 self.last = number;
-                Outcome::Done
+                Ok(())
             }
-            Err(refused) => Outcome::NoFrame(refused.at),
+            Err(refused) => Err(ForkRefusal::NoFrame(refused.at)),
         }
     }
 
@@ -102,9 +102,18 @@ impl Parts {
     }
 }
 
+/// No snapshot was forked.
+#[derive(Clone, Copy, Debug, PartialEq, Eq)]
+pub(crate) enum ForkRefusal {
+    /// No frame was left for a table of it: the refused requests of the parent, this one counted.
+    NoFrame(u64),
+    /// One lives already.
+    TooMany,
+}
+
 /// A snapshot can't be read there.
 #[derive(Clone, Copy, Debug, PartialEq, Eq)]
-pub enum SnapshotFault {
+pub(crate) enum SnapshotFault {
     /// No snapshot of that number lives.
     NotLive,
     /// The lowest page of the range that lay in no area at the fork.

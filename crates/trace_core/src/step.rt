@@ -7,12 +7,14 @@ ghost use Rattle.trace_events.specs.EventBounds.{IsWithinBounds};
 ghost use Rattle.kernel_meaning.specs.RefusedRequests.{PolicySum};
 ghost use Rattle.trace_core.specs.KernelState.{Machine, KernelState};
 ghost use Rattle.trace_core.specs.EventMeaning.{snap_read_outcome};
+ghost use Rattle.trace_core.specs.CallAnswers.{area_outcome, fork_outcome};
 ghost use Rattle.trace_core.specs.SnapshotAnswers.{snap_refusal};
 ghost use Rattle.trace_core.specs.KernelStanding.{IsKernel, KernelStands};
 ghost use Rattle.trace_core.specs.KernelRun.{Ran, HasRun};
 
 use crate::parts::{Parts, Standing};
-use crate::snapshots::SnapshotFault;
+use crate::snapshots::{ForkRefusal, SnapshotFault};
+use area_list::AreaFault;
 use std::alloc::Global;
 use trace_events::{Event, Outcome};
 use vm_base::{Bytes, NoMemory};
@@ -40,13 +42,15 @@ impl Parts {
         ensures kept { OnErr result (⟦<Parts as Standing>⟧.parts self.new ≡ ⟦<Parts as Standing>⟧.parts self.old) }
     {
         match event {
-            Event::Map { first, pages, perm } => Ok(self.map(*first, *pages, *perm)),
-            Event::Unmap { first, pages } => Ok(self.unmap(*first, *pages)),
-            Event::Protect { first, pages, perm } => Ok(self.protect(*first, *pages, *perm)),
+            Event::Map { first, pages, perm } => Ok(area_outcome(self.map(*first, *pages, *perm))),
+            Event::Unmap { first, pages } => Ok(area_outcome(self.unmap(*first, *pages))),
+            Event::Protect { first, pages, perm } => {
+                Ok(area_outcome(self.protect(*first, *pages, *perm)))
+            }
             Event::Read { addr, len } => self.read_event(alloc, *addr, *len),
             Event::Write { addr, bytes } => Ok(self.write(*addr, bytes.as_slice())),
             Event::Fill { addr, len, byte } => self.fill(alloc, *addr, *len, *byte),
-            Event::Fork { number, .. } => Ok(self.fork(*number)),
+            Event::Fork { number, .. } => Ok(fork_outcome(self.fork(*number))),
             Event::Copy { number, cell } => Ok(self.copy(*number, *cell)),
             Event::Drop { number } => Ok(self.drop_snapshot(*number)),
             Event::SnapRead { number, addr, len } => {
@@ -88,6 +92,29 @@ impl Parts {
             Ok(()) => bytes_outcome(alloc, &buf),
             Err(fault) => Ok(fault_outcome(fault)),
         }
+    }
+}
+
+// The answer of a change of areas.
+fn area_outcome(answer: Result<(), AreaFault>) -> Outcome
+    ensures { result ≡ area_outcome answer }
+{
+    match answer {
+        Ok(()) => Outcome::Done,
+        Err(AreaFault::NoArea(page)) => Outcome::NoArea(page),
+        Err(AreaFault::Overlap(page)) => Outcome::Overlap(page),
+        Err(AreaFault::AreasFull) => Outcome::AreasFull,
+    }
+}
+
+// The answer of a fork.
+fn fork_outcome(answer: Result<(), ForkRefusal>) -> Outcome
+    ensures { result ≡ fork_outcome answer }
+{
+    match answer {
+        Ok(()) => Outcome::Done,
+        Err(ForkRefusal::NoFrame(at)) => Outcome::NoFrame(at),
+        Err(ForkRefusal::TooMany) => Outcome::TooMany,
     }
 }
 

@@ -97,28 +97,29 @@ fn the_kernel_is_a_memory(rt: HostRuntime) -> Result<(), Fail> {
     Ok(())
 }
 
-// What a snapshot tells before it is reaped: a byte of it, and how copying it ends.
+// What a snapshot tells before it is reaped: a byte of it, read twice, and how copying it ends.
 #[derive(Clone, Copy, Debug, PartialEq, Eq)]
 struct Told {
     read: Result<(), SnapFault>,
     bytes: [u8; 1],
+    again: [u8; 1],
     copied: Result<Step, CopyFault>,
 }
 
-// Reads a snapshot and copies it, and reaps it.
+// Reads a snapshot twice and copies it, and reaps it.
 fn told_and_reaped(kernel: &mut Kernel, mut child: SoloChild) -> Told
     requires lives { IsTrue (holds_number (kept_number kernel.old.parts.snapshot) child.number) }
 {
-    let number = child.number;
     let copied = kernel.child_copy(&mut child);
     let mut bytes = [7; 1];
     let read = read_child(kernel, &mut child, 0x10_0000, &mut bytes);
-    // No clause of the reader says that the number is as it was.
-    let SoloChild { number: _ } = child;
-    reap_one(kernel, SoloChild { number });
+    let mut again = [8; 1];
+    let _ = read_child(kernel, &mut child, 0x10_0000, &mut again);
+    reap_one(kernel, child);
     Told {
         read,
         bytes,
+        again,
         copied,
     }
 }
@@ -139,6 +140,7 @@ fn the_kernel_is_a_process_and_a_nest(rt: HostRuntime) -> Result<(), Fail> {
     let whole = Told {
         read: Ok(()),
         bytes: [97],
+        again: [97],
         copied: Ok(Step::AllDone),
     };
     assert_eq!(rt; told_by_a_child(&mut kernel), Some(whole));
@@ -172,6 +174,7 @@ fn a_lost_cell_is_told_by_a_read_and_by_a_copy(rt: HostRuntime) -> Result<(), Fa
     let lost = Told {
         read: Err(SnapFault::Lost { at: 1 }),
         bytes: [7],
+        again: [8],
         copied: Err(CopyFault::Lost { at: 1 }),
     };
     assert_eq!(rt; told_by_a_child(&mut kernel), Some(lost));

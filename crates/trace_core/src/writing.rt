@@ -1,12 +1,11 @@
 //! The calls of the parent: an area mapped, and bytes read, touched, stored and written.
-ghost use Rattle.std.specs.Prelude.{◌≡◌, ◌≢◌, ◌+◌, ◌<◌, ◌≤◌, ◌^◌, not, length, IfErr, replicate, IfOk, OnErr};
+ghost use Rattle.std.specs.Prelude.{◌≡◌, ◌+◌, ◌<◌, ◌≤◌, ◌^◌, not, length, IfErr, replicate, IfOk, OnErr};
 ghost use Rattle.vm_base.specs.Places.{page_of, page_count};
 ghost use Rattle.vm_base.specs.FlatStep.{is_writable, outside, unwritable, read_of, touch_of};
-ghost use Rattle.area_list.specs.Answers.{refusal_of};
-ghost use Rattle.trace_events.specs.declared.outcome.Outcome.TheVariants.{Done};
 ghost use Rattle.trace_core.specs.KernelState.{Machine, KernelState};
-ghost use Rattle.trace_core.specs.EventMeaning.{refusal_outcome, mapped, touch_judged, written};
+ghost use Rattle.trace_core.specs.EventMeaning.{mapped, touch_judged, written};
 ghost use Rattle.trace_core.specs.KernelStanding.{IsKernel, KernelStands, EventRan, read_answer};
+ghost use Rattle.trace_core.specs.CallAnswers.{area_outcome};
 ghost use Rattle.trace_core.specs.TouchAnswers.{fault_outcome, touch_outcome, IsReadyKernel, LeavesReady, LacksPage, with_stored};
 
 use crate::parts::{Parts, Standing};
@@ -21,18 +20,15 @@ pub(crate) const PAGE_BYTES: u64 = 4096;
 impl Parts {
     /// Maps pages as an area, or says why not. No frame is asked for: a page takes its frames when
     /// it is written first.
-    pub fn map(&mut self, first: u64, pages: u64, perm: Perm) -> Outcome
+    pub fn map(&mut self, first: u64, pages: u64, perm: Perm) -> Result<(), AreaFault>
         requires some { 0 < pages }
         requires within { first + pages ≤ 2 ^ 36 }
         ensures ran { (machine : Machine) (state : KernelState) → KernelStands (⟦<Parts as Standing>⟧.parts self.old) machine state
-            → EventRan (⟦<Parts as Standing>⟧.parts self.old) (⟦<Parts as Standing>⟧.parts self.new) machine (λ answers. mapped state answers first pages perm) result }
-        ensures refused { result ≢ Done → ⟦<Parts as Standing>⟧.parts self.new ≡ ⟦<Parts as Standing>⟧.parts self.old }
+            → EventRan (⟦<Parts as Standing>⟧.parts self.old) (⟦<Parts as Standing>⟧.parts self.new) machine (λ answers. mapped state answers first pages perm) (area_outcome result) }
+        ensures refused { OnErr result (⟦<Parts as Standing>⟧.parts self.new ≡ ⟦<Parts as Standing>⟧.parts self.old) }
         ensures others { ⟦<Parts as Standing>⟧.parts self.new ≡ record (⟦<Parts as Standing>⟧.parts self.old) { areas = (⟦<Parts as Standing>⟧.parts self.new).areas } }
     {
-        match self.areas.map(first, pages, perm) {
-            Ok(()) => Outcome::Done,
-            Err(fault) => outcome_of(fault),
-        }
+        self.areas.map(first, pages, perm)
     }
 
     /// Reads a range, in which an absent page reads as zeros. Where pages of it lie in no area it
@@ -155,20 +151,9 @@ impl Parts {
 
 /// Pages of a range lie in no area.
 #[derive(Clone, Copy, Debug, PartialEq, Eq)]
-pub struct NoArea {
+pub(crate) struct NoArea {
     /// The lowest of them.
-    pub page: u64,
-}
-
-// What an event answers when the areas refuse it.
-pub(crate) fn outcome_of(fault: AreaFault) -> Outcome
-    ensures { result ≡ refusal_outcome (refusal_of fault) }
-{
-    match fault {
-        AreaFault::NoArea(page) => Outcome::NoArea(page),
-        AreaFault::Overlap(page) => Outcome::Overlap(page),
-        AreaFault::AreasFull => Outcome::AreasFull,
-    }
+    pub(crate) page: u64,
 }
 
 // What an event answers when a touch is refused.

@@ -25,6 +25,8 @@ pub record SnapshotState : Type 0 where
   pub refused : ℕ
   -- how many steps of copying may still come, at most
   pub todo : ℕ
+  -- each cell that waits to be copied was skipped
+  pub passed : Bool
   -- no cell of it waits to be copied any more
   pub whole : Bool
 
@@ -52,7 +54,10 @@ pub record KeepsSnapshot (old new : SnapshotState) : Type 0 where
   pub cells : (cell at : ℕ) → get new.found cell ≡ Some at → IsListed cell (cells_of new.mem)
   pub counted : old.refused ≤ new.refused
   pub todo : new.todo ≤ old.todo
+  pub passed : IsTrue old.passed → IsTrue new.passed
   pub whole : IsTrue old.whole → IsTrue new.whole
+  -- where none waits, none waits that was not skipped
+  pub unskipped : IsTrue new.whole → IsTrue new.passed
 
 -- no copy was refused and no cell was found lost
 pub record Quiet (old new : SnapshotState) : Type 0 where
@@ -66,11 +71,11 @@ pub record Advances (old new : SnapshotState) (cell : ℕ) : Type 0 where
   pub held : IsListed cell (cells_of old.mem)
   pub todo : new.todo < old.todo
 
--- a step that leaves a cell whose turn another has
+-- a step that leaves a cell whose turn another has: it answers that all is done where each cell that waits was skipped, and nowhere else
 abbrev pub StepsNext : SnapshotState → SnapshotState → Step → Type 0
-StepsNext old new (Copied cell) = Advances old new cell
-StepsNext old new (Skipped cell holder) = Advances old new cell
-StepsNext old new AllDone = Quiet old new
+StepsNext old new (Copied cell) = Advances old new cell × IsFalse old.passed
+StepsNext old new (Skipped cell holder) = Advances old new cell × IsFalse old.passed
+StepsNext old new AllDone = Quiet old new × IsTrue new.passed
 
 -- a step that waits for a cell's turn: where it answers that all is done, none waits to be copied
 abbrev pub StepsLeft : SnapshotState → SnapshotState → Step → Type 0
@@ -91,6 +96,17 @@ IsFoundSince born refused snap =
 
 -- a step on a child that lies in a nest: none is skipped; at most one for each cell comes; and where all is done, no cell is lost
 abbrev pub StepsNest : SnapshotState → SnapshotState → Step → Type 0
-StepsNest old new (Copied cell) = Advances old new cell × (old.todo ≤ length (distinct (cells_of old.mem)))
+StepsNest old new (Copied cell) = StepsNext old new (Copied cell) × (old.todo ≤ length (distinct (cells_of old.mem)))
 StepsNest old new (Skipped cell holder) = ⊥
 StepsNest old new AllDone = Quiet old new × IsTrue new.whole × (new.found ≡ empty)
+
+-- the lowest of the cells that were found lost has this count
+pub record IsLowestFound (found : Found) (at : ℕ) : Type 0 where
+  pub cell : ℕ
+  pub lost : get found cell ≡ Some at
+  pub lowest : (other : ℕ) → other < cell → get found other ≡ None
+
+-- why a cell of a child that lies in a nest was not copied: a refused frame; or, where none waits to be copied, the lowest one that is lost
+abbrev pub FailsNest : SnapshotState → SnapshotState → CopyFault → Type 0
+FailsNest old new (Refused at) = CopyFails old new (Refused at)
+FailsNest old new (CopyLost at) = Quiet old new × IsTrue new.whole × IsLowestFound new.found at

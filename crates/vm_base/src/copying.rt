@@ -9,7 +9,8 @@ use crate::gate::Gate;
 /// A snapshot whose cells may still have to be copied.
 pub trait Copying: Frozen {
     /// Copies the lowest cell that is neither done nor skipped, and waits for no cell's turn. A
-    /// cell that was skipped stays so. The cell can be copied later where a frame was refused.
+    /// cell that was skipped stays so. The cell can be copied later where a frame was refused. All
+    /// is done where each cell that waits was skipped.
     fn copy_next<G: Gate>(&mut self, gate: &G) -> Result<Step, CopyFault>
         ensures step { IfOk result (λ step. StepsNext (Self.snapshot self.old) (Self.snapshot self.new) step) }
         ensures fault { IfErr result (λ fault. CopyFails (Self.snapshot self.old) (Self.snapshot self.new) fault) }
@@ -43,8 +44,9 @@ pub fn copy_through<Z: Copying, G: Gate>(z: &mut Z, gate: &G) -> Result<(), Copy
     }
 }
 
-// One pass of the cells whose turn is free.
+// One pass of the cells whose turn is free. At `Ok` each cell that still waits was skipped.
 fn copy_free<Z: Copying, G: Gate>(z: &mut Z, gate: &G) -> Result<(), CopyFault>
+    ensures passed { OnOk result (IsTrue (Z.snapshot z.new).passed) }
     ensures quiet { OnOk result (Quiet (Z.snapshot z.old) (Z.snapshot z.new)) }
     ensures fault { IfErr result (λ fault. CopyFails (Z.snapshot z.old) (Z.snapshot z.new) fault) }
     ensures keeps { KeepsSnapshot (Z.snapshot z.old) (Z.snapshot z.new) }

@@ -1,6 +1,7 @@
 //! A process whose children lie in the same value.
-ghost use Rattle.std.specs.Prelude.{◌≡◌, ◌+◌, ◌≤◌, ◌^◌, ◌↔◌, IsTrue, length, OnOk, IfErr, Ok, Err, Some};
-ghost use Rattle.vm_base.specs.MemoryState.{IsListed};
+ghost use Rattle.std.specs.Prelude.{◌≡◌, ℕ, ◌+◌, ◌≤◌, ◌^◌, ◌↔◌, ◌⊎◌, IsTrue, length, OnOk, IfErr, Ok, Err, Some};
+ghost use Rattle.vm_base.specs.FlatMemory.{cells_of};
+ghost use Rattle.vm_base.specs.MemoryState.{IsIn, IsListed};
 ghost use Rattle.vm_base.specs.SnapshotState.{KeepsSnapshot, IsFoundSince, snapshot_answer};
 
 use crate::faults::SnapFault;
@@ -17,6 +18,10 @@ pub trait Housing: Process + Nest<Child = <Self as Process>::Child> {
     ghost aside_beside: { (p q : Self) (c d : Self.Child) → Self.Nest.beside p c ≡ Self.Nest.beside q d
         → Self.Memory.aside p ≡ Self.Memory.aside q };
 
+    /// It has the child's number and home too.
+    ghost child_beside: { (p q : Self) (c d : Self.Child) → Self.Nest.beside p c ≡ Self.Nest.beside q d
+        → (Self.Process.child_number c ≡ Self.Process.child_number d) × (Self.Process.child_home c ≡ Self.Process.child_home d) };
+
     /// The count that bounds those of lost cells is that of the process.
     ghost refused_beside: { (p : Self) (c : Self.Child)
         → Self.Nest.refused (Self.Nest.beside p c) ≡ (Self.Memory.state p).refused };
@@ -27,6 +32,15 @@ pub trait Housing: Process + Nest<Child = <Self as Process>::Child> {
     /// A child reads as the memory that was kept for it.
     ghost kept_nested: { (p : Self) (c : Self.Child)
         → (Self.Nest.nested p c).mem ≡ Self.Process.kept (Self.Process.beside p) c };
+
+    /// At each moment a cell that a child has lost was lost behind its fork.
+    ghost found_since: { (p : Self) (c : Self.Child) → IsTrue (Self.Nest.lives (Self.Nest.beside p c))
+        → IsFoundSince (Self.Nest.born (Self.Nest.beside p c)) (Self.Nest.refused (Self.Nest.beside p c)) (Self.Nest.nested p c) };
+
+    /// A slot is used by a cell of the process or of a child that lives, and by no other.
+    ghost used_there: { (p : Self) (cell : ℕ) → IsIn cell (Self.Memory.state p).used
+        → ∥ IsListed cell (cells_of (Self.Memory.state p).mem)
+        ⊎ ((c : Self.Child) × (IsTrue (Self.Nest.lives (Self.Nest.beside p c)) × IsListed cell (cells_of (Self.Nest.nested p c).mem))) ∥₁ };
 
     /// A child lives where its number does, in the process of its home.
     ghost lives_numbered: { (p : Self) (c : Self.Child)
@@ -48,11 +62,15 @@ pub fn read_child<P: Housing>(
     ensures fault { IfErr result
         (λ fault. snapshot_answer (P.nested process.new child.new) addr (length buf.old) ≡ Err fault) }
     ensures keeps { KeepsSnapshot (P.nested process.old child.old) (P.nested process.new child.new) }
-    ensures uncounted { (P.nested process.new child.new).refused ≡ (P.nested process.old child.old).refused }
+    ensures same { P.nested process.new child.new ≡ P.nested process.old child.old }
     ensures since { IsFoundSince (P.Nest.born (P.Nest.beside process.old child.old))
         (P.Nest.refused (P.Nest.beside process.old child.old)) (P.nested process.new child.new) }
     ensures state { P.state process.new ≡ P.state process.old }
     ensures aside { P.aside process.new ≡ P.aside process.old }
+
+    // So the child lives as before, and may be read again, copied and reaped.
+    ensures beside { P.Nest.beside process.new child.new ≡ P.Nest.beside process.old child.old }
+    ensures child { (P.child_number child.new ≡ P.child_number child.old) × (P.child_home child.new ≡ P.child_home child.old) }
 {
     process.child_read(child, addr, buf)
 }

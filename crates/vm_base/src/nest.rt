@@ -1,6 +1,6 @@
 //! A value in which its children lie, and a child there as a snapshot.
 ghost use Rattle.std.specs.Prelude.{◌≡◌, ℕ, Bool, IsTrue, ◌+◌, ◌≤◌, ◌^◌, length, OnOk, IfOk, IfErr, Ok, Err};
-ghost use Rattle.vm_base.specs.SnapshotState.{SnapshotState, KeepsSnapshot, StepsNest, CopyFails, IsFoundSince, snapshot_answer};
+ghost use Rattle.vm_base.specs.SnapshotState.{SnapshotState, KeepsSnapshot, StepsNest, FailsNest, IsFoundSince, snapshot_answer};
 
 use crate::copying::Copying;
 use crate::faults::{CopyFault, SnapFault, Step};
@@ -29,7 +29,8 @@ pub trait Nest {
     /// The child as a snapshot: what it holds is the memory that was kept for it.
     ghost nested: { Self → Self.Child → SnapshotState };
 
-    /// Reads the bytes of a range of a child, as a snapshot reads them.
+    /// Reads the bytes of a range of a child, as a snapshot reads them. The child is as it was:
+    /// only an act of its parent loses a cell.
     fn child_read(
         &mut self,
         child: &mut Self::Child,
@@ -42,15 +43,16 @@ pub trait Nest {
         ensures fault { IfErr result
             (λ fault. snapshot_answer (nested self.new child.new) addr (length buf.old) ≡ Err fault) }
         ensures keeps { KeepsSnapshot (nested self.old child.old) (nested self.new child.new) }
-        ensures uncounted { (nested self.new child.new).refused ≡ (nested self.old child.old).refused }
+        ensures same { nested self.new child.new ≡ nested self.old child.old }
         ensures since { IsFoundSince (born (beside self.old child.old)) (refused (beside self.old child.old)) (nested self.new child.new) }
         ensures beside { beside self.new child.new ≡ beside self.old child.old };
 
-    /// Copies the lowest cell of a child that waits to be copied. It skips none.
+    /// Copies the lowest cell of a child that waits to be copied. It skips none. Where none waits,
+    /// it tells the lowest one that is lost.
     fn child_copy(&mut self, child: &mut Self::Child) -> Result<Step, CopyFault>
         requires lives { IsTrue (lives (beside self.old child.old)) }
         ensures step { IfOk result (λ step. StepsNest (nested self.old child.old) (nested self.new child.new) step) }
-        ensures fault { IfErr result (λ fault. CopyFails (nested self.old child.old) (nested self.new child.new) fault) }
+        ensures fault { IfErr result (λ fault. FailsNest (nested self.old child.old) (nested self.new child.new) fault) }
         ensures keeps { KeepsSnapshot (nested self.old child.old) (nested self.new child.new) }
         ensures since { IsFoundSince (born (beside self.old child.old)) (refused (beside self.old child.old)) (nested self.new child.new) }
         ensures beside { beside self.new child.new ≡ beside self.old child.old };

@@ -118,8 +118,10 @@ pub fn fork_and_write<P: Process>(
     requires within { addr + length bytes.now ≤ 2 ^ 48 }
     requires few { length bytes.now ≤ 4194304 }
     ensures copy { IfOk result (λ child. P.kept (P.beside process.new) child ≡ (P.state process.old).mem) }
-    ensures number { IfOk result
-        (λ child. P.child_number child ≡ (P.children (P.beside process.old)).last + 1) }
+    ensures child { IfOk result (λ child.
+        (P.child_number child ≡ (P.children (P.beside process.old)).last + 1) × (P.child_home child ≡ P.home (P.beside process.old))) }
+    ensures born { IfOk result (λ child.
+        IfSome (P.born (P.beside process.new) child) (λ count. count ≡ (P.state process.old).refused)) }
     ensures forked { OnOk result (MayFork (P.children (P.beside process.old))
         × (P.children (P.beside process.new) ≡ after_fork (P.children (P.beside process.old)))) }
     ensures written { OnOk result (WritesAfterFork (P.state process.old) (P.state process.new) addr bytes.now) }
@@ -131,6 +133,12 @@ pub fn fork_and_write<P: Process>(
     ensures memory { OnErr result ((P.state process.new).mem ≡ (P.state process.old).mem) }
 
     ensures keeps { IsKept (P.state process.old) (P.state process.new) (cells_of_range addr (length bytes.now)) }
+
+    // The other children are as they were.
+    ensures others { (child : P.Child) → IsListed (P.child_number child) (P.children (P.beside process.old)).numbers
+        → P.child_home child ≡ P.home (P.beside process.old) → (P.kept (P.beside process.new) child ≡ P.kept (P.beside process.old) child)
+        × (P.born (P.beside process.new) child ≡ P.born (P.beside process.old) child) }
+    ensures home { P.home (P.beside process.new) ≡ P.home (P.beside process.old) }
 {
     let child = process.fork(Mode::OnDemand)?;
     let _written = write_at(process, addr, bytes);
@@ -145,6 +153,14 @@ pub fn reap_one<P: Process>(process: &mut P, gone: P::Gone)
     ensures keeps { LeavesAtReap (P.state process.old) (P.state process.new) × IsKept (P.state process.old) (P.state process.new) [] }
     ensures live { (P.children (P.beside process.new)).live + 1 ≡ (P.children (P.beside process.old)).live }
     ensures reaped { Reaps (P.children (P.beside process.old)) (P.children (P.beside process.new)) (P.remains gone).number }
+    ensures enough { HadRefusal (P.remains gone)
+        → IfSome (P.state process.new).enough (λ enough. enough ≤ (P.state process.new).most) }
+
+    // The other children are as they were.
+    ensures others { (child : P.Child) → IsListed (P.child_number child) (P.children (P.beside process.new)).numbers
+        → P.child_home child ≡ P.home (P.beside process.old) → (P.kept (P.beside process.new) child ≡ P.kept (P.beside process.old) child)
+        × (P.born (P.beside process.new) child ≡ P.born (P.beside process.old) child) }
+    ensures home { P.home (P.beside process.new) ≡ P.home (P.beside process.old) }
 {
     process.reap(gone);
 }

@@ -8,6 +8,7 @@ invariant-loop g l = record {
   quiet : Quiet (g.Z.Frozen.snapshot l.fn.z) (g.Z.Frozen.snapshot l.z);
   memory : (g.Z.Frozen.snapshot l.z).mem ≡ (g.Z.Frozen.snapshot l.fn.z).mem;
   todo : (g.Z.Frozen.snapshot l.z).todo ≤ (g.Z.Frozen.snapshot l.fn.z).todo;
+  passed : IsTrue (g.Z.Frozen.snapshot l.fn.z).passed → IsTrue (g.Z.Frozen.snapshot l.z).passed;
   whole : IsTrue (g.Z.Frozen.snapshot l.fn.z).whole → IsTrue (g.Z.Frozen.snapshot l.z).whole;
   aside : g.Z.Frozen.aside l.z ≡ g.Z.Frozen.aside l.fn.z;
 }

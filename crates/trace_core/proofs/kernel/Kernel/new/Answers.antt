@@ -6,6 +6,7 @@ use Rattle.trace_core.proofs.Stood.{stands-under}
 use Rattle.trace_core.proofs.SoundEvents.{opening-sound}
 use Rattle.trace_core.proofs.HeldNotes.{opening-holds, enough-of, holds-under}
 use Rattle.trace_core.proofs.NewKernels.{opening-seen, none-stand, plain-when-told}
+use Rattle.trace_core.proofs.UsedCells.{used-there}
 use Rattle.trace_core.proofs.kernel.Kernel.new.Goals as goal
 
 pub invariant_of-result-clause-stood : goal.invariant_of-result-clause-stood
@@ -34,3 +35,6 @@ returns-clause-memory g c =
     opening-seen (parts_of c.in_ok-parts.parts) (notes_of c.new-notes.result) (record { frames = c.args.frames; slots = c.args.cells; limit = 1 }) c.args.last
     (opening-sound _ _ _ c.args.last (stands-under _ _ _ _ c.in_ok-parts.ensures.stands)) c.new-notes.ensures.most
     ∙ ap (opening_memory c.args.frames c.args.cells) (c.new-notes.ensures.enough ∙ c.enough_of-enough.ensures ∙ ap (enough_of c.args.frames) (c.len.ensures ∙ c.args.policies.ok.0))
+
+pub invariant_of-result-clause-slotted : goal.invariant_of-result-clause-slotted
+invariant_of-result-clause-slotted g c = used-there _ _ (invariant_of-result-clause-stood g c) (invariant_of-result-clause-held g c)

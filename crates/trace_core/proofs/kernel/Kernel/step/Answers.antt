@@ -7,6 +7,7 @@ use Rattle.trace_core.proofs.HeldEvents.{holds-step}
 use Rattle.trace_core.proofs.FilledCells.{cells-filled, filled-step}
 use Rattle.trace_core.proofs.PlainPools.{step-empty, step-told, plain-still, plain-empty}
 use Rattle.trace_core.proofs.ReachedEvents.{reached-step}
+use Rattle.trace_core.proofs.UsedCells.{used-there}
 use Rattle.trace_core.proofs.kernel.Kernel.step.Goals as goal
 
 pub step-answer-requires-clause-stands : goal.step-answer-requires-clause-stands
@@ -38,3 +39,6 @@ invariant_of-self-2-clause-reached g c =
     c.of-before.ensures c.refused-refused.ensures.count c.requires.within c.step-answer.ensures.ran c.step-answer.ensures.kept c.answered.ensures.ok
     (err-seen c.step-answer.result (λ notes. notes_of notes) _ _ c.answered.ensures.err) (plain-empty _ _ _ c.args.self.now.plain)
     (noted-under _ _ _ c.args.self.now.stood) (under-holds _ _ _ c.args.self.now.held) c.args.self.now.reached
+
+pub invariant_of-self-2-clause-slotted : goal.invariant_of-self-2-clause-slotted
+invariant_of-self-2-clause-slotted g c = used-there _ _ (invariant_of-self-2-clause-stood g c) (invariant_of-self-2-clause-held g c)

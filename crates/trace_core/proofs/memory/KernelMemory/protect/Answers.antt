@@ -1,44 +1,46 @@
 use Rattle.std.proofs.Common.{arith}
 use Rattle.trace_core.proofs.Stood.{known-under}
 use Rattle.trace_core.proofs.SoundSteps.{known-noted, noted-under}
+use Rattle.trace_core.specs.CallAnswers.{area_outcome}
 use Rattle.trace_core.specs.KernelSeen.{notes_of}
 use Rattle.trace_core.proofs.HeldNotes.{protect-holds, holds-under, under-holds}
 use Rattle.trace_core.proofs.ReachedEvents.{protect-reached}
 use Rattle.trace_core.proofs.PlainPools.{ran-empty, plain-still, plain-empty}
-use Rattle.trace_core.proofs.AreaCalls.{protect-answers, protect-known, protect-granted, protect-refused, protect-keeps}
+use Rattle.trace_core.proofs.AreaCalls.{unless-done, protect-known, protect-granted, protect-refused, protect-keeps}
+use Rattle.trace_core.proofs.UsedCells.{used-there}
 use Rattle.trace_core.proofs.memory.KernelMemory.protect.Goals as goal
 
 pub protect-requires-clause-stands : goal.protect-requires-clause-stands
 protect-requires-clause-stands g c = known-under _ _ (known-noted _ _ c.args.self.now.stood)
 
 pub invariant_of-self-clause-stood : goal.invariant_of-self-clause-stood
-invariant_of-self-clause-stood g c = noted-under _ _ _ (protect-known _ _ _ c.args.first c.args.pages c.args.perm (noted-under _ _ _ c.args.self.now.stood) c.protect.result c.requires.some c.requires.within c.protect.ensures.ran)
+invariant_of-self-clause-stood g c = noted-under _ _ _ (protect-known _ _ _ c.args.first c.args.pages c.args.perm (noted-under _ _ _ c.args.self.now.stood) (area_outcome c.protect.result) c.requires.some c.requires.within c.protect.ensures.ran)
 
 pub invariant_of-self-clause-held : goal.invariant_of-self-clause-held
 invariant_of-self-clause-held g c =
-    holds-under _ _ _ (protect-holds _ _ (notes_of c.args.self.now.notes) (noted-under _ _ _ c.args.self.now.stood) c.protect.ensures.beside.0 c.args.self.now.parts.supply.counted (under-holds _ _ _ c.args.self.now.held) c.args.first c.args.pages c.args.perm c.protect.result c.protect.ensures.ran)
+    holds-under _ _ _ (protect-holds _ _ (notes_of c.args.self.now.notes) (noted-under _ _ _ c.args.self.now.stood) c.protect.ensures.beside.0 c.args.self.now.parts.supply.counted (under-holds _ _ _ c.args.self.now.held) c.args.first c.args.pages c.args.perm (area_outcome c.protect.result) c.protect.ensures.ran)
 
 pub invariant_of-self-clause-reached : goal.invariant_of-self-clause-reached
 invariant_of-self-clause-reached g c =
     protect-reached _ _ (notes_of c.args.self.now.notes) (noted-under _ _ _ c.args.self.now.stood) (under-holds _ _ _ c.args.self.now.held) (plain-empty _ _ _ c.args.self.now.plain) c.args.self.now.reached
-    c.args.first c.args.pages c.args.perm c.protect.result c.protect.ensures.ran
+    c.args.first c.args.pages c.args.perm (area_outcome c.protect.result) c.protect.ensures.ran
 
 pub invariant_of-self-clause-plain : goal.invariant_of-self-clause-plain
 invariant_of-self-clause-plain g c =
-    plain-still _ _ _ _ _ (ran-empty _ _ c.protect.result _ c.protect.ensures.ran (known-under _ _ (known-noted _ _ c.args.self.now.stood))) (λ value told. told) c.args.self.now.plain
-
-pub area_answer-requires : goal.area_answer-requires
-area_answer-requires g c = protect-answers _ _ _ c.args.first c.args.pages c.args.perm (noted-under _ _ _ c.args.self.now.stood) c.protect.result c.protect.ensures.ran
+    plain-still _ _ _ _ _ (ran-empty _ _ (area_outcome c.protect.result) _ c.protect.ensures.ran (known-under _ _ (known-noted _ _ c.args.self.now.stood))) (λ value told. told) c.args.self.now.plain
 
 pub returns-clause-protected : goal.returns-clause-protected
 returns-clause-protected g c =
-    protect-granted _ _ _ c.args.first c.args.pages c.args.perm (noted-under _ _ _ c.args.self.now.stood) c.area_answer.result c.protect.result c.area_answer.ensures c.protect.ensures.ran
+    protect-granted _ _ _ c.args.first c.args.pages c.args.perm (noted-under _ _ _ c.args.self.now.stood) c.area_answer.result (area_outcome c.protect.result) c.area_answer.ensures c.protect.ensures.ran
 
 pub returns-clause-fault : goal.returns-clause-fault
 returns-clause-fault g c =
-    protect-refused _ _ _ c.args.first c.args.pages c.args.perm (noted-under _ _ _ c.args.self.now.stood) c.area_answer.result c.protect.result c.area_answer.ensures c.protect.ensures.ran c.protect.ensures.refused
+    protect-refused _ _ _ c.args.first c.args.pages c.args.perm (noted-under _ _ _ c.args.self.now.stood) c.area_answer.result (area_outcome c.protect.result) c.area_answer.ensures c.protect.ensures.ran (unless-done c.protect.result c.protect.ensures.refused)
 
 pub returns-clause-keeps : goal.returns-clause-keeps
 returns-clause-keeps g c =
-    protect-keeps _ _ _ c.args.first c.args.pages c.args.perm (noted-under _ _ _ c.args.self.now.stood) c.protect.result c.protect.ensures.ran (omega arith) c.args.self.now.parts.supply.refused c.args.self.now.parts.supply.counted (λ machine state st. st.supply.refused) c.requires.some c.requires.within (protect-reached _ _ (notes_of c.args.self.now.notes) (noted-under _ _ _ c.args.self.now.stood) (under-holds _ _ _ c.args.self.now.held) (plain-empty _ _ _ c.args.self.now.plain) c.args.self.now.reached
-    c.args.first c.args.pages c.args.perm c.protect.result c.protect.ensures.ran)
+    protect-keeps _ _ _ c.args.first c.args.pages c.args.perm (noted-under _ _ _ c.args.self.now.stood) (area_outcome c.protect.result) c.protect.ensures.ran (omega arith) c.args.self.now.parts.supply.refused c.args.self.now.parts.supply.counted (λ machine state st. st.supply.refused) c.requires.some c.requires.within (protect-reached _ _ (notes_of c.args.self.now.notes) (noted-under _ _ _ c.args.self.now.stood) (under-holds _ _ _ c.args.self.now.held) (plain-empty _ _ _ c.args.self.now.plain) c.args.self.now.reached
+    c.args.first c.args.pages c.args.perm (area_outcome c.protect.result) c.protect.ensures.ran)
+
+pub invariant_of-self-clause-slotted : goal.invariant_of-self-clause-slotted
+invariant_of-self-clause-slotted g c = used-there _ _ (invariant_of-self-clause-stood g c) (invariant_of-self-clause-held g c)

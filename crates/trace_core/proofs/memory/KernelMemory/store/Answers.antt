@@ -5,6 +5,7 @@ use Rattle.trace_core.specs.KernelSeen.{notes_of}
 use Rattle.trace_core.proofs.HeldNotes.{store-holds, holds-under, under-holds}
 use Rattle.trace_core.proofs.PlainPools.{plain-still}
 use Rattle.trace_core.proofs.KernelTouches.{bytes-fit, known-ready, known-stored, store-stores, store-kept}
+use Rattle.trace_core.proofs.UsedCells.{used-there}
 use Rattle.trace_core.proofs.memory.KernelMemory.store.Goals as goal
 
 -- src/memory.rt:65:9
@@ -40,3 +41,6 @@ pub returns-clause-keeps : goal.returns-clause-keeps
 returns-clause-keeps g c =
     store-kept _ _ c.args.addr c.args.bytes.now (noted-under _ _ _ c.args.self.now.stood) c.requires.ready _ c.store.ensures.stored c.store.ensures.others
     (bytes-fit c.args.bytes.now c.type_inv.bytes) (omega arith) (omega arith) (λ rose. c.args.self.now.reached (subst (λ count. 0 < count) (ap (λ parts. parts.supply.refused) c.store.ensures.others) rose))
+
+pub invariant_of-self-clause-slotted : goal.invariant_of-self-clause-slotted
+invariant_of-self-clause-slotted g c = used-there _ _ (invariant_of-self-clause-stood g c) (invariant_of-self-clause-held g c)

@@ -9,6 +9,7 @@ use Rattle.trace_core.proofs.ReachedEvents.{touch-reached}
 use Rattle.trace_core.proofs.PlainPools.{ran-empty, plain-still, plain-empty}
 use Rattle.trace_core.proofs.ToldMemories.{told-memory, told-kept}
 use Rattle.trace_core.proofs.KernelTouches.{touches-none, kept-same, known-touched, touch-touches, touch-fails, touch-kept}
+use Rattle.trace_core.proofs.UsedCells.{used-there}
 use Rattle.trace_core.proofs.memory.KernelMemory.touch.Goals as goal
 
 -- src/memory.rt:56:13
@@ -67,3 +68,6 @@ returns-clause-keeps g c =
     (omega arith) (omega arith) c.args.self.now.parts.supply.refused c.args.self.now.parts.supply.counted (λ machine state st. st.supply.refused) c.touched.ensures.enough (touch-reached _ _ (notes_of c.args.self.now.notes) (noted-under _ _ _ c.args.self.now.stood) (under-holds _ _ _ c.args.self.now.held) (plain-empty _ _ _ c.args.self.now.plain) c.args.self.now.reached
     (notes_of c.touched.new.self) c.args.addr c.args.len (touch_outcome c.touch-answer.result) c.touch-answer.ensures.ran
     (c.touched.ensures.most ∙ ap (λ tables. most_behind_touch tables c.args.addr c.args.len c.args.self.now.notes.most.value c.touch-answer.result) c.of-before.ensures) c.touched.ensures.enough)
+
+pub invariant_of-self-clause-slotted : goal.invariant_of-self-clause-slotted
+invariant_of-self-clause-slotted g c = used-there _ _ (invariant_of-self-clause-stood g c) (invariant_of-self-clause-held g c)

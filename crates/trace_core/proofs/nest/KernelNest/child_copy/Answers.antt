@@ -1,16 +1,18 @@
 use Rattle.std.proofs.Common.{refl}
 use Rattle.trace_core.specs.KernelSeen.{parts_of, notes_of}
-use Rattle.trace_core.proofs.SeenNests.{copy-lost, copy-none, nest-keeps}
+use Rattle.trace_core.proofs.SeenNests.{copy-lost, copy-lowest, copy-none, nest-keeps}
 use Rattle.trace_core.proofs.nest.KernelNest.child_copy.Goals as goal
 
 -- src/nest.rt:50:5
 pub returns-in-Some-clause-fault : goal.returns-in-Some-clause-fault
 returns-in-Some-clause-fault g c = (
+  record { found = refl; refused = refl },
   refl,
-  (
-    c.in-Some.lost.cell,
-    copy-lost (parts_of c.args.self.now.parts) (notes_of c.args.self.now.notes) c.args.child.now.number c.args.self.now.stood c.lowest_loss.result c.lowest_loss.ensures.loss c.in-Some.lost c.in-Some.is,
-  ),
+  record {
+    cell = c.in-Some.lost.cell;
+    lost = copy-lost (parts_of c.args.self.now.parts) (notes_of c.args.self.now.notes) c.args.child.now.number c.args.self.now.stood c.lowest_loss.result c.lowest_loss.ensures.loss c.in-Some.lost c.in-Some.is;
+    lowest = copy-lowest (parts_of c.args.self.now.parts) (notes_of c.args.self.now.notes) c.args.child.now.number c.args.self.now.stood c.lowest_loss.result c.lowest_loss.ensures.loss c.in-Some.lost c.in-Some.is;
+  },
 )
 
 -- src/nest.rt:50:5

@@ -2,6 +2,7 @@ use Rattle.std.proofs.Common.{refl, sym, ◌∙◌, ap}
 use Rattle.std.proofs.lemmas.Bool.{false≢true}
 use Rattle.kernel_meaning.specs.EventRequests.{FrameRefusal}
 use Rattle.std.specs.Prelude.{None}
+use Rattle.trace_core.specs.CallAnswers.{fork_outcome}
 use Rattle.trace_core.specs.KernelStanding.{kept_number, sides_of}
 use Rattle.trace_core.proofs.Forks.{ran-too-many, ran-unforked, ran-forked}
 use Rattle.trace_core.proofs.OneSnapshot.{nothing-there}
@@ -39,7 +40,7 @@ returns-in-Ok g c = record {
       (moved-alike _ _ _ _ c.fork.ensures.held st.out)
       (c.fork.ensures.slots ∙ st.slots)
       c.in-Ok.ensures.lives c.copy.result c.copy.ensures;
-  full = λ e. absurd (false≢true (ap is_too_many e));
+  full = λ e. absurd (false≢true (ap (λ answer. is_too_many (fork_outcome answer)) e));
 }
 
 -- src/snapshots.rt:21:5
@@ -54,5 +55,5 @@ returns-in-Err g c = record {
       (moved-alike _ _ _ _ c.fork.ensures.held st.out)
       (c.fork.ensures.slots ∙ st.slots)
       c.in-Err.ensures.kept;
-  full = λ e. absurd (false≢true (ap is_too_many e));
+  full = λ e. absurd (false≢true (ap (λ answer. is_too_many (fork_outcome answer)) e));
 }

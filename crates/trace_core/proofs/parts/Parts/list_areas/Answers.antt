@@ -5,8 +5,8 @@ use Rattle.trace_core.specs.EventMeaning.{only_answers}
 use Rattle.trace_core.proofs.RunSteps.{told-follows}
 use Rattle.trace_core.proofs.parts.Parts.list_areas.Goals as goal
 
-pub returns-in-Ok : goal.returns-in-Ok
-returns-in-Ok g c = record {
+pub returns : goal.returns
+returns g c = record {
   ran = λ machine state st. told-follows _ machine state ListAreas _ refl refl st
-      (λ answers. ap (λ areas. only_answers state (AreaRow areas)) (st.areas ∙ sym (c.in-Ok.ensures ∙ c.list.ensures.areas)));
+      (λ answers. ap (λ areas. only_answers state (AreaRow areas)) (st.areas ∙ sym (c.in_ok-row.ensures ∙ c.list.ensures.areas)));
 }

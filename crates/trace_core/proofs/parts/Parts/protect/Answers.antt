@@ -1,32 +1,22 @@
-use Rattle.std.proofs.Common.{refl, sym, ◌∙◌, ap}
-use Rattle.std.proofs.lemmas.Bool.{false≢true}
+use Rattle.std.proofs.Common.{◌∙◌, ap, Err}
+use Rattle.std.proofs.lemmas.Result.{err_from_is_err_and}
 use Rattle.area_list.specs.Answers.{refusal_of}
-use Rattle.trace_core.proofs.AreaChanges.{with_areas-same, ran-protect_refused, ran-protected_entries}
-use Rattle.trace_core.proofs.SeenChanges.{is_done, refusal-undone}
+use Rattle.trace_core.specs.CallAnswers.{area_outcome}
+use Rattle.trace_core.proofs.AreaChanges.{ran-protect_refused, ran-protected_entries}
 use Rattle.trace_core.proofs.Known.{known-tables}
 use Rattle.trace_core.proofs.parts.Parts.protect.Goals as goal
 
-pub protect-requires-in-Ok-clause-stands : goal.protect-requires-in-Ok-clause-stands
-protect-requires-in-Ok-clause-stands g c = known-tables _ c.requires.stands
+pub protect-requires-2-clause-stands : goal.protect-requires-2-clause-stands
+protect-requires-2-clause-stands g c = known-tables _ c.requires.stands
 
-pub returns-in-Ok-clause-ran : goal.returns-in-Ok-clause-ran
-returns-in-Ok-clause-ran g c = λ machine state st.
-    ran-protected_entries _ machine state st c.args.first c.args.pages c.args.perm c.protect.new.self c.in-Ok.ensures.answer
-    c.protect-in-Ok.new.self _ c.protect-in-Ok.ensures.tables c.protect-in-Ok.ensures.unasked
-
-pub returns-in-Err-clause-ran : goal.returns-in-Err-clause-ran
-returns-in-Err-clause-ran g c = λ machine state st.
+pub returns-in_err-protect-clause-ran : goal.returns-in_err-protect-clause-ran
+returns-in_err-protect-clause-ran g c = λ machine state st.
+    let exit = err_from_is_err_and c.from_residual.result c.from_residual.ensures.1 in
     ran-protect_refused _ machine state st c.args.first c.args.pages c.args.perm
-    (refusal_of c.in-Err.fault) c.protect.new.self c.outcome_of.result c.in-Err.ensures.answer.0 c.in-Err.ensures.answer.1 c.outcome_of.ensures
+    (refusal_of c.in_err-protect.field-0.0) c.protect.new.self (area_outcome c.from_residual.result) c.in_err-protect.ensures.answer.0 c.in_err-protect.ensures.answer.1
+    (ap area_outcome (exit.1 ∙ ap Err exit.2))
 
-pub returns-in-Ok-clause-refused : goal.returns-in-Ok-clause-refused
-returns-in-Ok-clause-refused g c = λ undone. absurd (undone refl)
-
-pub returns-in-Err-clause-refused : goal.returns-in-Err-clause-refused
-returns-in-Err-clause-refused g c = λ undone. with_areas-same _ c.protect.new.self c.in-Err.ensures.answer.1
-
-pub returns-in-Ok-clause-writable : goal.returns-in-Ok-clause-writable
-returns-in-Ok-clause-writable g c = λ done. c.protect-in-Ok.ensures.writable
-
-pub returns-in-Err-clause-writable : goal.returns-in-Err-clause-writable
-returns-in-Err-clause-writable g c = λ done. absurd (false≢true (sym (refusal-undone (refusal_of c.in-Err.fault)) ∙ ap is_done (sym c.outcome_of.ensures ∙ done)))
+pub returns-clause-ran : goal.returns-clause-ran
+returns-clause-ran g c = λ machine state st.
+    ran-protected_entries _ machine state st c.args.first c.args.pages c.args.perm c.protect.new.self c.in_ok-protect.ensures.answer
+    c.protect-2.new.self _ c.protect-2.ensures.tables c.protect-2.ensures.unasked

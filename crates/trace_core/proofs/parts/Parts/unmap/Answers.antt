@@ -1,37 +1,35 @@
-use Rattle.std.proofs.Common.{refl, ◌∙◌, ap}
+use Rattle.std.proofs.Common.{◌∙◌, ap, Err}
+use Rattle.std.proofs.lemmas.Result.{err_from_is_err_and}
 use Rattle.area_list.specs.Answers.{refusal_of}
 use Rattle.page_tables.specs.Standing.{number_of}
 use Rattle.trace_core.specs.KernelStanding.{sides_of}
 use Rattle.trace_core.proofs.Writes.{moved-alike, moved-even}
-use Rattle.trace_core.proofs.AreaChanges.{with_areas-same, ran-unmap_refused, ran-unmapped}
+use Rattle.trace_core.specs.CallAnswers.{area_outcome}
+use Rattle.trace_core.proofs.AreaChanges.{ran-unmap_refused, ran-unmapped}
 use Rattle.trace_core.proofs.Known.{known-tables, known-lent}
 use Rattle.trace_core.proofs.parts.Parts.unmap.Goals as goal
 
-pub unmap-requires-in-Ok-clause-stands : goal.unmap-requires-in-Ok-clause-stands
-unmap-requires-in-Ok-clause-stands g c = known-tables _ c.requires.stands
+pub unmap-requires-2-clause-stands : goal.unmap-requires-2-clause-stands
+unmap-requires-2-clause-stands g c = known-tables _ c.requires.stands
 
-pub unmap-requires-in-Ok-clause-lent : goal.unmap-requires-in-Ok-clause-lent
-unmap-requires-in-Ok-clause-lent g c = known-lent _ c.requires.stands
+pub unmap-requires-2-clause-lent : goal.unmap-requires-2-clause-lent
+unmap-requires-2-clause-lent g c = known-lent _ c.requires.stands
 
--- src/mappings.rt:19:5
-pub returns-in-Ok-clause-ran : goal.returns-in-Ok-clause-ran
-returns-in-Ok-clause-ran g c = λ machine state st.
-    let made = c.unmap-in-Ok.ensures.made in
-    ran-unmapped _ machine state st c.args.first c.args.pages c.unmap.new.self c.in-Ok.ensures.answer _ c.unmap-in-Ok.new.self made.deals made.led
-    (made.follows (sides_of state st.pages) st.tables)
-    (moved-even _ _ _ _ c.unmap-in-Ok.ensures.even st.even)
-    (moved-alike _ _ _ _ c.unmap-in-Ok.ensures.held st.out)
-    (ap number_of c.unmap-in-Ok.ensures.snapshot ∙ st.number)
-    (c.unmap-in-Ok.ensures.slots ∙ st.slots)
-
--- src/mappings.rt:19:5
-pub returns-in-Err-clause-ran : goal.returns-in-Err-clause-ran
-returns-in-Err-clause-ran g c = λ machine state st.
+-- src/mappings.rt:30:9
+pub returns-in_err-unmap-clause-ran : goal.returns-in_err-unmap-clause-ran
+returns-in_err-unmap-clause-ran g c = λ machine state st.
+    let exit = err_from_is_err_and c.from_residual.result c.from_residual.ensures.1 in
     ran-unmap_refused _ machine state st c.args.first c.args.pages
-    (refusal_of c.in-Err.fault) c.unmap.new.self c.outcome_of.result c.in-Err.ensures.answer.0 c.in-Err.ensures.answer.1 c.outcome_of.ensures
+    (refusal_of c.in_err-unmap.field-0.0) c.unmap.new.self (area_outcome c.from_residual.result) c.in_err-unmap.ensures.answer.0 c.in_err-unmap.ensures.answer.1
+    (ap area_outcome (exit.1 ∙ ap Err exit.2))
 
-pub returns-in-Ok-clause-refused : goal.returns-in-Ok-clause-refused
-returns-in-Ok-clause-refused g c = λ undone. absurd (undone refl)
-
-pub returns-in-Err-clause-refused : goal.returns-in-Err-clause-refused
-returns-in-Err-clause-refused g c = λ undone. with_areas-same _ c.unmap.new.self c.in-Err.ensures.answer.1
+-- src/mappings.rt:20:5
+pub returns-clause-ran : goal.returns-clause-ran
+returns-clause-ran g c = λ machine state st.
+    let made = c.unmap-2.ensures.made in
+    ran-unmapped _ machine state st c.args.first c.args.pages c.unmap.new.self c.in_ok-unmap.ensures.answer _ c.unmap-2.new.self made.deals made.led
+    (made.follows (sides_of state st.pages) st.tables)
+    (moved-even _ _ _ _ c.unmap-2.ensures.even st.even)
+    (moved-alike _ _ _ _ c.unmap-2.ensures.held st.out)
+    (ap number_of c.unmap-2.ensures.snapshot ∙ st.number)
+    (c.unmap-2.ensures.slots ∙ st.slots)

@@ -1,6 +1,7 @@
 use Rattle.std.proofs.Common.{refl, sym, ◌∙◌, arith}
 use Rattle.vm_base.specs.declared.fork_mode.Mode.TheVariants.{Eager}
 use Rattle.trace_core.specs.EventMeaning.{fork_end}
+use Rattle.trace_core.specs.CallAnswers.{fork_outcome}
 use Rattle.trace_core.specs.KernelSeen.{notes_of}
 use Rattle.trace_core.proofs.Stood.{known-under}
 use Rattle.trace_core.proofs.SoundSteps.{known-noted, noted-under}
@@ -9,7 +10,8 @@ use Rattle.trace_core.proofs.HeldNotes.{holds-under, under-holds}
 use Rattle.trace_core.proofs.PlainPools.{ran-empty, plain-still, plain-empty}
 use Rattle.trace_core.proofs.ToldMemories.{told-kept}
 use Rattle.trace_core.proofs.KernelTouches.{kept-same}
-use Rattle.trace_core.proofs.KernelProcesses.{known-children, forked-noted, fork-answers, fork-copy, fork-forked, fork-fails, fork-failed, fork-leaves, fork-kept, fork-others, fork-known, fork-holds, fork-reached}
+use Rattle.trace_core.proofs.KernelProcesses.{known-children, forked-noted, fork-copy, fork-born, fork-forked, fork-fails, fork-failed, fork-leaves, fork-kept, fork-others, fork-known, fork-holds, fork-reached}
+use Rattle.trace_core.proofs.UsedCells.{used-there}
 use Rattle.trace_core.proofs.process.KernelProcess.fork.Goals as goal
 
 -- src/process.rt:52:13
@@ -22,96 +24,101 @@ pub returns-in_default-clause-home : goal.returns-in_default-clause-home
 returns-in_default-clause-home g c = (refl, known-children _ _ c.args.self.now.stood c.args.self.now.parts.numbered)
 
 -- src/process.rt:55:23
-pub fork-outcome-requires : goal.fork-outcome-requires
-fork-outcome-requires g c = record { stands = known-under _ _ (known-noted _ _ c.args.self.now.stood) }
+pub fork-answer-requires : goal.fork-answer-requires
+fork-answer-requires g c = record { stands = known-under _ _ (known-noted _ _ c.args.self.now.stood) }
 
 -- src/process.rt:61:9
 pub invariant_of-self-2-clause-stood : goal.invariant_of-self-2-clause-stood
 invariant_of-self-2-clause-stood g c =
-    noted-under _ _ _ (fork-known _ _ (notes_of c.args.self.now.notes) (notes_of c.ran.new.self) c.in-Some.number
-    (noted-under _ _ _ c.args.self.now.stood) c.fork-outcome.result
-    (forked-noted _ _ _ _ _ _ _ _ c.of-before.ensures c.refused-refused.ensures.count c.ran.ensures c.fork-outcome.ensures.ran c.fork-outcome.ensures.full)
+    noted-under _ _ _ (fork-known _ _ (notes_of c.args.self.now.notes) (notes_of c.fork_answered.new.self) c.in-Some.number
+    (noted-under _ _ _ c.args.self.now.stood) c.fork-answer.result
+    (forked-noted _ _ _ _ _ _ _ c.refused-refused.ensures.count c.fork_answered.ensures c.fork-answer.ensures.ran c.fork-answer.ensures.full)
     c.in-Some.ensures)
 
 pub invariant_of-self-2-clause-held : goal.invariant_of-self-2-clause-held
 invariant_of-self-2-clause-held g c =
-    holds-under _ _ _ (fork-holds _ _ (notes_of c.args.self.now.notes) (notes_of c.ran.new.self) c.in-Some.number
-    (noted-under _ _ _ c.args.self.now.stood) c.fork-outcome.result
-    (forked-noted _ _ _ _ _ _ _ _ c.of-before.ensures c.refused-refused.ensures.count c.ran.ensures c.fork-outcome.ensures.ran c.fork-outcome.ensures.full)
+    holds-under _ _ _ (fork-holds _ _ (notes_of c.args.self.now.notes) (notes_of c.fork_answered.new.self) c.in-Some.number
+    (noted-under _ _ _ c.args.self.now.stood) c.fork-answer.result
+    (forked-noted _ _ _ _ _ _ _ c.refused-refused.ensures.count c.fork_answered.ensures c.fork-answer.ensures.ran c.fork-answer.ensures.full)
     c.in-Some.ensures c.args.self.now.parts.supply.counted (under-holds _ _ _ c.args.self.now.held))
 
 pub invariant_of-self-2-clause-plain : goal.invariant_of-self-2-clause-plain
 invariant_of-self-2-clause-plain g c =
-    plain-still _ _ _ _ _ (ran-empty _ _ c.fork-outcome.result (λ machine state answers. fork_end machine state answers c.in-Some.number Eager) c.fork-outcome.ensures.ran
-    (known-under _ _ (known-noted _ _ c.args.self.now.stood))) (λ value told. sym c.ran.ensures.enough ∙ told) c.args.self.now.plain
+    plain-still _ _ _ _ _ (ran-empty _ _ (fork_outcome c.fork-answer.result) (λ machine state answers. fork_end machine state answers c.in-Some.number Eager) c.fork-answer.ensures.ran
+    (known-under _ _ (known-noted _ _ c.args.self.now.stood))) (λ value told. sym (c.fork_answered.ensures c.args.self.now.parts.tables c.in-Some.number).enough ∙ told) c.args.self.now.plain
 
 pub invariant_of-self-2-clause-reached : goal.invariant_of-self-2-clause-reached
 invariant_of-self-2-clause-reached g c =
-    fork-reached _ _ (notes_of c.args.self.now.notes) (notes_of c.ran.new.self) c.in-Some.number
-    (noted-under _ _ _ c.args.self.now.stood) c.fork-outcome.result
-    (forked-noted _ _ _ _ _ _ _ _ c.of-before.ensures c.refused-refused.ensures.count c.ran.ensures c.fork-outcome.ensures.ran c.fork-outcome.ensures.full)
+    fork-reached _ _ (notes_of c.args.self.now.notes) (notes_of c.fork_answered.new.self) c.in-Some.number
+    (noted-under _ _ _ c.args.self.now.stood) c.fork-answer.result
+    (forked-noted _ _ _ _ _ _ _ c.refused-refused.ensures.count c.fork_answered.ensures c.fork-answer.ensures.ran c.fork-answer.ensures.full)
     c.in-Some.ensures (plain-empty _ _ _ c.args.self.now.plain) (under-holds _ _ _ c.args.self.now.held) c.args.self.now.reached
-
--- src/process.rt:63:9
-pub fork_answer-requires : goal.fork_answer-requires
-fork_answer-requires g c =
-    fork-answers _ _ (notes_of c.args.self.now.notes) (notes_of c.ran.new.self) c.in-Some.number
-    (noted-under _ _ _ c.args.self.now.stood) c.fork-outcome.result c.fork-outcome.ensures.ran
 
 -- src/process.rt:50:5
 pub returns-clause-copy : goal.returns-clause-copy
 returns-clause-copy g c =
-    fork-copy _ _ (notes_of c.args.self.now.notes) (notes_of c.ran.new.self) c.in-Some.number
-    (noted-under _ _ _ c.args.self.now.stood) c.fork-outcome.result
-    (forked-noted _ _ _ _ _ _ _ _ c.of-before.ensures c.refused-refused.ensures.count c.ran.ensures c.fork-outcome.ensures.ran c.fork-outcome.ensures.full)
-    c.fork_answer.result c.fork_answer.ensures
+    fork-copy _ _ (notes_of c.args.self.now.notes) (notes_of c.fork_answered.new.self) c.in-Some.number
+    (noted-under _ _ _ c.args.self.now.stood) c.fork-answer.result
+    (forked-noted _ _ _ _ _ _ _ c.refused-refused.ensures.count c.fork_answered.ensures c.fork-answer.ensures.ran c.fork-answer.ensures.full)
+    c.child_answer.result c.child_answer.ensures
+
+-- src/process.rt:52:5
+pub returns-clause-born : goal.returns-clause-born
+returns-clause-born g c =
+    fork-born _ _ (notes_of c.args.self.now.notes) (notes_of c.fork_answered.new.self) c.in-Some.number
+    (noted-under _ _ _ c.args.self.now.stood) c.fork-answer.result
+    (forked-noted _ _ _ _ _ _ _ c.refused-refused.ensures.count c.fork_answered.ensures c.fork-answer.ensures.ran c.fork-answer.ensures.full)
+    c.child_answer.result c.child_answer.ensures
 
 -- src/process.rt:50:5
 pub returns-clause-forked : goal.returns-clause-forked
 returns-clause-forked g c =
-    fork-forked _ _ (notes_of c.args.self.now.notes) (notes_of c.ran.new.self) c.in-Some.number
-    (noted-under _ _ _ c.args.self.now.stood) c.fork-outcome.result
-    (forked-noted _ _ _ _ _ _ _ _ c.of-before.ensures c.refused-refused.ensures.count c.ran.ensures c.fork-outcome.ensures.ran c.fork-outcome.ensures.full)
-    c.in-Some.ensures c.fork_answer.result c.fork_answer.ensures
+    fork-forked _ _ (notes_of c.args.self.now.notes) (notes_of c.fork_answered.new.self) c.in-Some.number
+    (noted-under _ _ _ c.args.self.now.stood) c.fork-answer.result
+    (forked-noted _ _ _ _ _ _ _ c.refused-refused.ensures.count c.fork_answered.ensures c.fork-answer.ensures.ran c.fork-answer.ensures.full)
+    c.in-Some.ensures c.child_answer.result c.child_answer.ensures
 
 -- src/process.rt:50:5
 pub returns-clause-fault : goal.returns-clause-fault
 returns-clause-fault g c =
-    fork-fails _ _ (notes_of c.args.self.now.notes) (notes_of c.ran.new.self) c.in-Some.number
-    (noted-under _ _ _ c.args.self.now.stood) c.fork-outcome.result
-    (forked-noted _ _ _ _ _ _ _ _ c.of-before.ensures c.refused-refused.ensures.count c.ran.ensures c.fork-outcome.ensures.ran c.fork-outcome.ensures.full)
-    c.in-Some.ensures c.fork_answer.result c.fork_answer.ensures
+    fork-fails _ _ (notes_of c.args.self.now.notes) (notes_of c.fork_answered.new.self) c.in-Some.number
+    (noted-under _ _ _ c.args.self.now.stood) c.fork-answer.result
+    (forked-noted _ _ _ _ _ _ _ c.refused-refused.ensures.count c.fork_answered.ensures c.fork-answer.ensures.ran c.fork-answer.ensures.full)
+    c.in-Some.ensures c.child_answer.result c.child_answer.ensures
 
 -- src/process.rt:50:5
 pub returns-clause-failed : goal.returns-clause-failed
 returns-clause-failed g c =
-    fork-failed _ _ (notes_of c.args.self.now.notes) (notes_of c.ran.new.self) c.in-Some.number
-    (noted-under _ _ _ c.args.self.now.stood) c.fork-outcome.result
-    (forked-noted _ _ _ _ _ _ _ _ c.of-before.ensures c.refused-refused.ensures.count c.ran.ensures c.fork-outcome.ensures.ran c.fork-outcome.ensures.full)
-    c.fork_answer.result c.fork_answer.ensures
+    fork-failed _ _ (notes_of c.args.self.now.notes) (notes_of c.fork_answered.new.self) c.in-Some.number
+    (noted-under _ _ _ c.args.self.now.stood) c.fork-answer.result
+    (forked-noted _ _ _ _ _ _ _ c.refused-refused.ensures.count c.fork_answered.ensures c.fork-answer.ensures.ran c.fork-answer.ensures.full)
+    c.child_answer.result c.child_answer.ensures
 
 -- src/process.rt:50:5
 pub returns-clause-memory : goal.returns-clause-memory
 returns-clause-memory g c = (
-  fork-leaves _ _ (notes_of c.args.self.now.notes) (notes_of c.ran.new.self) c.in-Some.number (noted-under _ _ _ c.args.self.now.stood) c.fork-outcome.result
-      (forked-noted _ _ _ _ _ _ _ _ c.of-before.ensures c.refused-refused.ensures.count c.ran.ensures c.fork-outcome.ensures.ran c.fork-outcome.ensures.full),
-  fork-kept _ _ (notes_of c.args.self.now.notes) (notes_of c.ran.new.self) c.in-Some.number (noted-under _ _ _ c.args.self.now.stood) c.fork-outcome.result
-      (forked-noted _ _ _ _ _ _ _ _ c.of-before.ensures c.refused-refused.ensures.count c.ran.ensures c.fork-outcome.ensures.ran c.fork-outcome.ensures.full)
+  fork-leaves _ _ (notes_of c.args.self.now.notes) (notes_of c.fork_answered.new.self) c.in-Some.number (noted-under _ _ _ c.args.self.now.stood) c.fork-answer.result
+      (forked-noted _ _ _ _ _ _ _ c.refused-refused.ensures.count c.fork_answered.ensures c.fork-answer.ensures.ran c.fork-answer.ensures.full),
+  fork-kept _ _ (notes_of c.args.self.now.notes) (notes_of c.fork_answered.new.self) c.in-Some.number (noted-under _ _ _ c.args.self.now.stood) c.fork-answer.result
+      (forked-noted _ _ _ _ _ _ _ c.refused-refused.ensures.count c.fork_answered.ensures c.fork-answer.ensures.ran c.fork-answer.ensures.full)
       c.in-Some.ensures (omega arith, c.args.self.now.parts.supply.counted)
-      (fork-reached _ _ (notes_of c.args.self.now.notes) (notes_of c.ran.new.self) c.in-Some.number
-      (noted-under _ _ _ c.args.self.now.stood) c.fork-outcome.result
-      (forked-noted _ _ _ _ _ _ _ _ c.of-before.ensures c.refused-refused.ensures.count c.ran.ensures c.fork-outcome.ensures.ran c.fork-outcome.ensures.full)
+      (fork-reached _ _ (notes_of c.args.self.now.notes) (notes_of c.fork_answered.new.self) c.in-Some.number
+      (noted-under _ _ _ c.args.self.now.stood) c.fork-answer.result
+      (forked-noted _ _ _ _ _ _ _ c.refused-refused.ensures.count c.fork_answered.ensures c.fork-answer.ensures.ran c.fork-answer.ensures.full)
       c.in-Some.ensures (plain-empty _ _ _ c.args.self.now.plain) (under-holds _ _ _ c.args.self.now.held) c.args.self.now.reached),
 )
 
 -- src/process.rt:50:5
 pub returns-clause-others : goal.returns-clause-others
 returns-clause-others g c =
-    λ child listed home. fork-others _ _ (notes_of c.args.self.now.notes) (notes_of c.ran.new.self) c.in-Some.number
-    (noted-under _ _ _ c.args.self.now.stood) c.fork-outcome.result
-    (forked-noted _ _ _ _ _ _ _ _ c.of-before.ensures c.refused-refused.ensures.count c.ran.ensures c.fork-outcome.ensures.ran c.fork-outcome.ensures.full)
+    λ child listed home. fork-others _ _ (notes_of c.args.self.now.notes) (notes_of c.fork_answered.new.self) c.in-Some.number
+    (noted-under _ _ _ c.args.self.now.stood) c.fork-answer.result
+    (forked-noted _ _ _ _ _ _ _ c.refused-refused.ensures.count c.fork_answered.ensures c.fork-answer.ensures.ran c.fork-answer.ensures.full)
     c.in-Some.ensures child.number listed
 
 -- src/process.rt:50:5
 pub returns-clause-home : goal.returns-clause-home
 returns-clause-home g c = (refl, known-children _ _ c.args.self.now.stood c.args.self.now.parts.numbered)
+
+pub invariant_of-self-2-clause-slotted : goal.invariant_of-self-2-clause-slotted
+invariant_of-self-2-clause-slotted g c = used-there _ _ (invariant_of-self-2-clause-stood g c) (invariant_of-self-2-clause-held g c)

@@ -6,6 +6,7 @@ use Rattle.trace_core.proofs.SoundSteps.{known-noted, noted-under}
 use Rattle.trace_core.proofs.HeldNotes.{holds-under, under-holds}
 use Rattle.trace_core.proofs.PlainPools.{ran-empty, plain-still}
 use Rattle.trace_core.proofs.KernelProcesses.{known-children, no-refusal, drop-known, drop-leaves, drop-kept, drop-reaps, drop-unlisted, drop-holds}
+use Rattle.trace_core.proofs.UsedCells.{used-there}
 use Rattle.trace_core.proofs.process.KernelProcess.reap.Goals as goal
 
 -- src/process.rt:68:17
@@ -61,3 +62,6 @@ returns-clause-others g c = λ child listed home.
 -- src/process.rt:66:5
 pub returns-clause-home : goal.returns-clause-home
 returns-clause-home g c = (refl, known-children _ _ c.args.self.now.stood c.args.self.now.parts.numbered)
+
+pub invariant_of-self-clause-slotted : goal.invariant_of-self-clause-slotted
+invariant_of-self-clause-slotted g c = used-there _ _ (invariant_of-self-clause-stood g c) (invariant_of-self-clause-held g c)
