@@ -23,7 +23,7 @@ use crate::status::Status;
 use io_face::{Folder, ReadAllError, Sink, Source, read_all};
 use resp_text::{FeedFault, Requests};
 use std::alloc::Global;
-use vm_base::{Bytes, NoMemory};
+use vm_base::Bytes;
 
 /// The most bytes of a stream of requests.
 const REPLAY_LIMIT: usize = 1 << 28;
@@ -191,8 +191,6 @@ fn report_save<O: Sink, F: Folder>(
     ensures folder_faults { F.faults files.old ≤ F.faults files.new }
 {
     let saved = save(alloc, snapshot, files);
-    match report_line(alloc, snapshot.number, saved) {
-        Ok(line) => write_text(output, line.as_bytes()),
-        Err(NoMemory) => Err(RunError::NoMemory),
-    }
+    let line = report_line(alloc, snapshot.number, saved)?;
+    write_text(output, line.as_bytes())
 }

@@ -12,6 +12,7 @@ ghost use Rattle.trace_text.specs.SoFar.{parts_of};
 ghost use Rattle.trace_core.specs.KernelState.{Machine};
 ghost use Rattle.trace_core.specs.KernelRun.{HasRun};
 ghost use Rattle.trace_core.specs.SupplyState.{policy_sum};
+ghost use Rattle.server_top.specs.declared.run.RunError.TheVariants.{NoMemory as no_memory_left, WriteFault as write_failed};
 ghost use Rattle.server_top.specs.RunPromise.{WroteLines, WroteSomeLines, machine_of};
 
 use frame_pool::FramePolicy;
@@ -22,14 +23,30 @@ use trace_events::Event;
 use trace_text::{Script, outcome_text};
 use vm_base::{Bytes, NoMemory};
 
-/// So many bytes of lines are written at once.
-const PIECE: usize = 65536;
+/// So many bytes of lines or of replies are written at once.
+pub(crate) const PIECE: usize = 65536;
 
 /// Why not all lines of a script were written.
 #[derive(Clone, Copy, Debug)]
 pub(crate) enum RunError {
     WriteFault,
     NoMemory,
+}
+
+impl From<NoMemory> for RunError {
+    ghost from_gives = { λ _ error. error ≡ no_memory_left };
+
+    fn from(_refused: NoMemory) -> RunError {
+        RunError::NoMemory
+    }
+}
+
+impl From<Failed> for RunError {
+    ghost from_gives = { λ _ error. error ≡ write_failed };
+
+    fn from(_failed: Failed) -> RunError {
+        RunError::WriteFault
+    }
 }
 
 /// Runs the events of a script on a kernel over the frames of its machine, and writes the line of
@@ -51,11 +68,7 @@ pub(crate) fn run_script<O: Sink>(
     ensures faults { O.faults output.old ≤ O.faults output.new }
     ensures cause { IsErrOf result RunError.WriteFault → Rose (O.faults output.old) (O.faults output.new) }
 {
-    let new = Kernel::new(alloc, script.frames(), script.cells(), 0, policies);
-    let mut kernel = match new {
-        Ok(kernel) => kernel,
-        Err(NoMemory) => return Err(RunError::NoMemory),
-    };
+    let mut kernel = Kernel::new(alloc, script.frames(), script.cells(), 0, policies)?;
     run_events(alloc, &mut kernel, script, output)
 }
 
@@ -80,11 +93,11 @@ fn run_events<O: Sink>(
     for place in 0..script.len() {
         push_line(alloc, kernel, script.event(place), &mut lines)?;
         if lines.as_slice().len() >= PIECE {
-            write_lines(output, &lines)?;
+            write_text(output, lines.as_slice())?;
             lines.clear();
         }
     }
-    write_lines(output, &lines)
+    write_text(output, lines.as_slice())
 }
 
 /// Runs one event, and appends the line of its outcome.
@@ -103,23 +116,9 @@ fn push_line(
         → HasRun (⟦<Kernel as Standing>⟧.parts kernel.new) machine last policies (events ++ event.now ∷ []) (outcomes ++ outcome ∷ [])))) }
     ensures no_memory { IfErr result (λ error. error ≡ RunError.NoMemory) }
 {
-    match kernel.step(alloc, event) {
-        Ok(outcome) => match outcome_text(alloc, &outcome, lines) {
-            Ok(()) => Ok(()),
-            Err(NoMemory) => Err(RunError::NoMemory),
-        },
-        Err(NoMemory) => Err(RunError::NoMemory),
-    }
-}
-
-/// Writes all lines that are there.
-pub(crate) fn write_lines<O: Sink>(output: &mut O, lines: &Bytes) -> Result<(), RunError>
-    ensures ok { OnOk result (Adds (O.written output.old) (O.written output.new) lines.now) }
-    ensures err { OnErr result (AddsPrefix (O.written output.old) (O.written output.new) lines.now) }
-    ensures faults { O.faults output.old ≤ O.faults output.new }
-    ensures cause { OnErr result (Rose (O.faults output.old) (O.faults output.new)) }
-{
-    write_text(output, lines.as_slice())
+    let outcome = kernel.step(alloc, event)?;
+    outcome_text(alloc, &outcome, lines)?;
+    Ok(())
 }
 
 /// Writes a text.
@@ -129,8 +128,6 @@ pub(crate) fn write_text<O: Sink>(output: &mut O, text: &[u8]) -> Result<(), Run
     ensures faults { O.faults output.old ≤ O.faults output.new }
     ensures cause { OnErr result (Rose (O.faults output.old) (O.faults output.new)) }
 {
-    match write_all(output, text) {
-        Ok(()) => Ok(()),
-        Err(Failed) => Err(RunError::WriteFault),
-    }
+    write_all(output, text)?;
+    Ok(())
 }

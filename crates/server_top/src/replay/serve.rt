@@ -8,14 +8,11 @@ ghost use Rattle.server_top.specs.ReplayRun.{kept_after, kept_behind, kept_in, r
 ghost use Rattle.std.specs.FinMap.{len};
 
 use crate::replay::book::Book;
-use crate::run::{RunError, write_lines};
+use crate::run::{PIECE, RunError, write_text};
 use io_face::Sink;
 use resp_text::{Request, Requests, reply_text};
 use std::alloc::Global;
-use vm_base::{Bytes, NoMemory};
-
-/// So many bytes of replies are written at once.
-const PIECE: usize = 65536;
+use vm_base::Bytes;
 
 /// Answers all requests that wait, in their order, and writes the replies. After an error a
 /// prefix of the replies was written.
@@ -42,11 +39,11 @@ pub(crate) fn serve<O: Sink>(
     while let Some(request) = requests.next() {
         push_reply(alloc, book, &request, &mut replies)?;
         if replies.as_slice().len() >= PIECE {
-            write_lines(output, &replies)?;
+            write_text(output, replies.as_slice())?;
             replies.clear();
         }
     }
-    write_lines(output, &replies)
+    write_text(output, replies.as_slice())
 }
 
 /// Answers one request, and appends the text of its reply.
@@ -63,11 +60,7 @@ fn push_reply(
         (replies.new ≡ replies.old ++ text_of (reply_to (kept_in book.old) request.now)) }
     ensures no_memory { IfErr result (λ error. error ≡ RunError.NoMemory) }
 {
-    match book.execute(alloc, request) {
-        Ok(reply) => match reply_text(&reply, replies) {
-            Ok(()) => Ok(()),
-            Err(NoMemory) => Err(RunError::NoMemory),
-        },
-        Err(NoMemory) => Err(RunError::NoMemory),
-    }
+    let reply = book.execute(alloc, request)?;
+    reply_text(&reply, replies)?;
+    Ok(())
 }
