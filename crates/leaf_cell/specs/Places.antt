@@ -1,5 +1,5 @@
 -- A leaf table in a frame: 512 entries of 64 bits, least significant byte first, each 0 or with the place of a page's frame.
-use Rattle.std.specs.Prelude.{◌≡◌, ◌⊎◌, ◌<◌, ℕ, ◌*◌, ◌==◌, cond, length, bit_and, bit_or, if◌then◌else◌, Bool, List, drop, replicate, map, slice_set, Option, Some, None}
+use Rattle.std.specs.Prelude.{◌≡◌, ◌⊎◌, ◌<◌, ◌^◌, ℕ, ◌*◌, ◌==◌, cond, length, bit_and, bit_or, if◌then◌else◌, Bool, List, drop, replicate, map, slice_set, Option, Some, None}
 use Rattle.std.specs.List.{range_with_len}
 use Rattle.byteorder.specs.Endian.{little_number, little_bytes}
 use Rattle.vm_base.specs.FlatMemory.{spliced}
@@ -19,9 +19,9 @@ with_word bytes i word = spliced bytes (8 * i) (little_bytes 8 word)
 abbrev pub without_words : List ℕ → ℕ → ℕ → List ℕ
 without_words bytes first n = spliced bytes (8 * first) (replicate (8 * n) 0)
 
--- an entry of a leaf table is 0, or has the place of a present page's frame, the bit for presence, and that for writing or not
+-- an entry of a leaf table is 0, or has the place of a present page's frame, of 32 bits, the bit for presence, and that for writing or not
 abbrev pub IsLeafEntry : ℕ → Type 0
-IsLeafEntry word = (word ≡ 0) ⊎ ((place : ℕ) × (may : Bool) × (word ≡ entry_of place (cond may 3 1)))
+IsLeafEntry word = (word ≡ 0) ⊎ ((place : ℕ) × (place < 2 ^ 32) × (may : Bool) × (word ≡ entry_of place (cond may 3 1)))
 
 -- the bytes of a table: each of its entries is one of a leaf table
 pub record IsLeafTable (bytes : List ℕ) : Type 0 where

@@ -131,9 +131,8 @@ impl Cell {
         self.parent.is_some()
     }
 
-    /// How many frames the cell holds. It counts them, for a caller that wants the number of one
-    /// cell itself. The crates above keep the sum of all cells instead, and there a proof takes
-    /// `tell_share`.
+    /// How many frames the cell holds. It counts them. No crate above asks: an allot counts the
+    /// frames of all cells, and a proof there takes `tell_share`.
     pub fn held(&self) -> u32
         ensures held { result ≡ held_of self.now }
         ensures share { (account : CellAccount) → StandsFor self.now account → result ≡ account_share account }

@@ -131,7 +131,7 @@ impl LeafTable {
         false
     }
 
-    /// Whether a page is present. It reads no entry after the first of one.
+    /// Whether a page is present. It reads no entry after that of the first one.
     pub(crate) fn has_pages(&self) -> bool
         ensures { result ≡ has_pages self.now.places }
     {

@@ -1,4 +1,4 @@
-use Rattle.std.proofs.Common.{◌≡◌, ◌∙◌, ap, sym, subst, inr}
+use Rattle.std.proofs.Common.{rules, ◌≡◌, ◌<◌, ◌^◌, ◌∙◌, ap, sym, subst, inr}
 use Rattle.std.specs.Prelude.{slice_set}
 use Rattle.vm_base.specs.Entries.{entry_of}
 use Rattle.leaf_cell.specs.Places.{IsLeafTable, places_of, writable_of, with_entry}
@@ -24,6 +24,7 @@ invariant_of-self c =
     let old = c.self.inside.frame.bytes in
     let word = c.entry_word-word.result in
     let is = c.entry_word-word.ensures.word ∙ ap (entry_of c.args.place) c.page_bits.ensures in
-    let entries = entries-with_word old c.args.page word c.self.invariant.size c.requires c.entry_word-word.type_inv (inr (c.args.place, c.args.is_writable, is)) c.self.invariant.entries in
+    let small : c.args.place < 2 ^ 32 = search rules in
+    let entries = entries-with_word old c.args.page word c.self.invariant.size c.requires c.entry_word-word.type_inv (inr (c.args.place, small, c.args.is_writable, is)) c.self.invariant.entries in
     subst IsLeafTable (sym (ap (λ frame. frame.bytes) c.put_word.ensures))
     (record { size = length-with_word old c.args.page word c.self.invariant.size c.requires; entries = entries })
