@@ -1,10 +1,9 @@
 -- What is known of a memory under a process: what it holds, and the numbers and sets that its calls keep.
-use Rattle.std.specs.Prelude.{◌≡◌, ℕ, ◌+◌, ◌≤◌, IsTrue, IsFalse, IsSome, IfSome, Option, length, ◌⊎◌, List, ◌==◌}
+use Rattle.std.specs.Prelude.{◌≡◌, ℕ, ◌+◌, ◌≤◌, ◌<◌, IsTrue, IsFalse, IsSome, IfSome, Option, length, ◌⊎◌, List, ◌==◌}
 use Rattle.std.specs.Ordering.{nat_cmp}
 use Rattle.std.specs.FinMap.{get, len}
 use Rattle.std.specs.FinSet as set
 use Rattle.std.specs.List.{list_any}
-use Rattle.vm_base.specs.Counts.{Rose}
 use Rattle.vm_base.specs.Places.{cell_of, directory_frames, distinct}
 use Rattle.vm_base.specs.FlatMemory.{FlatMemory, IsFlat, area_of, cells_of}
 use Rattle.vm_base.specs.FlatStep.{is_read_only}
@@ -55,6 +54,8 @@ pub record IsMemory (state : MemoryState) : Type 0 where
   -- a page that may be stored to is present, and its area may be written
   pub present : (page : ℕ) → IsIn page state.ready → IsSome (get state.mem.present page)
   pub writable : (page : ℕ) → IsIn page state.ready → IsFalse (is_read_only (area_of state.mem.areas page))
+  -- where enough is told, a request was refused only once that many frames were its own or asked for
+  pub reached : 0 < state.refused → IfSome state.enough (λ enough. enough ≤ state.most)
 
 -- what each call on a memory keeps; these are the cells to which it may give slots
 pub record IsKept (old new : MemoryState) (cells : List ℕ) : Type 0 where
@@ -65,8 +66,7 @@ pub record IsKept (old new : MemoryState) (cells : List ℕ) : Type 0 where
   pub used : (cell : ℕ) → IsIn cell new.used → IsIn cell old.used ⊎ IsListed cell cells
   pub enough : new.enough ≡ old.enough
   pub counted : old.refused ≤ new.refused
-  -- where enough is told, a request is refused only once that many frames were its own or asked for
-  pub reached : Rose old.refused new.refused → IfSome old.enough (λ enough. enough ≤ new.most)
+  pub grown : old.most ≤ new.most
 
 -- no page has left those that may be stored to
 abbrev pub KeepsReady : MemoryState → MemoryState → Type 0

@@ -46,16 +46,21 @@ snapshot_answer snap address n =
     unless_fault NoArea (outside snap.mem.areas (page_of address) (page_count address n))
     (unless_fault Lost (first_found snap.found (cells_of_range address n)) (Ok (bytes_at snap.mem.present address n)))
 
--- what each call on a snapshot keeps
-pub record KeepsSnapshot (old new : SnapshotState) : Type 0 where
+-- what is told of a snapshot goes on, whoever made a call
+pub record GoesOn (old new : SnapshotState) : Type 0 where
   pub mem : new.mem ≡ old.mem
-  -- what was found lost stays so, and only cells with a page are
+  -- what was found lost stays so
   pub found : (cell at : ℕ) → get old.found cell ≡ Some at → get new.found cell ≡ Some at
-  pub cells : (cell at : ℕ) → get new.found cell ≡ Some at → IsListed cell (cells_of new.mem)
   pub counted : old.refused ≤ new.refused
   pub todo : new.todo ≤ old.todo
   pub passed : IsTrue old.passed → IsTrue new.passed
   pub whole : IsTrue old.whole → IsTrue new.whole
+
+-- what each call on a snapshot keeps
+pub record KeepsSnapshot (old new : SnapshotState) : Type 0 where
+  pub goes_on : GoesOn old new
+  -- only cells with a page are found lost
+  pub cells : (cell at : ℕ) → get new.found cell ≡ Some at → IsListed cell (cells_of new.mem)
   -- where none waits, none waits that was not skipped
   pub unskipped : IsTrue new.whole → IsTrue new.passed
 
@@ -89,7 +94,12 @@ CopyFails old new (Refused at) =
     (new.found ≡ old.found) × IsFalse old.whole × Rose old.refused new.refused × (at ≡ new.refused)
 CopyFails old new (CopyLost at) = (new.refused ≡ old.refused) × ((cell : ℕ) × (get new.found cell ≡ Some at))
 
--- where no cell is lost, each count of a lost one lies above that of the fork and within that of the process
+-- why the step that waits for no turn copied no cell: the same, and a frame is refused only where a cell waits that was not skipped
+abbrev pub NextFails : SnapshotState → SnapshotState → CopyFault → Type 0
+NextFails old new (Refused at) = CopyFails old new (Refused at) × IsFalse old.passed
+NextFails old new (CopyLost at) = CopyFails old new (CopyLost at)
+
+-- each count at which a cell was lost lies above that of the fork, or stands at the last value of a count, and within that of the process
 abbrev pub IsFoundSince : ℕ → ℕ → SnapshotState → Type 0
 IsFoundSince born refused snap =
     (cell at : ℕ) → get snap.found cell ≡ Some at → (next_count born ≤ at) × (at ≤ refused)
@@ -108,5 +118,5 @@ pub record IsLowestFound (found : Found) (at : ℕ) : Type 0 where
 
 -- why a cell of a child that lies in a nest was not copied: a refused frame; or, where none waits to be copied, the lowest one that is lost
 abbrev pub FailsNest : SnapshotState → SnapshotState → CopyFault → Type 0
-FailsNest old new (Refused at) = CopyFails old new (Refused at)
+FailsNest old new (Refused at) = NextFails old new (Refused at)
 FailsNest old new (CopyLost at) = Quiet old new × IsTrue new.whole × IsLowestFound new.found at

@@ -1,6 +1,6 @@
 //! A snapshot that is copied cell by cell.
 ghost use Rattle.std.specs.Prelude.{◌≡◌, IfOk, IfErr, IsTrue, OnOk, OnErr};
-ghost use Rattle.vm_base.specs.SnapshotState.{KeepsSnapshot, Quiet, StepsNext, StepsLeft, CopyFails};
+ghost use Rattle.vm_base.specs.SnapshotState.{KeepsSnapshot, Quiet, StepsNext, StepsLeft, CopyFails, NextFails};
 
 use crate::faults::{CopyFault, Step};
 use crate::frozen::Frozen;
@@ -13,9 +13,10 @@ pub trait Copying: Frozen {
     /// is done where each cell that waits was skipped.
     fn copy_next<G: Gate>(&mut self, gate: &G) -> Result<Step, CopyFault>
         ensures step { IfOk result (λ step. StepsNext (Self.snapshot self.old) (Self.snapshot self.new) step) }
-        ensures fault { IfErr result (λ fault. CopyFails (Self.snapshot self.old) (Self.snapshot self.new) fault) }
+        ensures fault { IfErr result (λ fault. NextFails (Self.snapshot self.old) (Self.snapshot self.new) fault) }
         ensures keeps { KeepsSnapshot (Self.snapshot self.old) (Self.snapshot self.new) }
-        ensures aside { Self.aside self.new ≡ Self.aside self.old };
+        ensures aside { Self.aside self.new ≡ Self.aside self.old }
+        ensures went { Self.went self.old self.new };
 
     /// Copies the lowest cell that is not done, one that was skipped too. It may wait for a turn,
     /// and never answers `Skipped`.
@@ -23,7 +24,8 @@ pub trait Copying: Frozen {
         ensures step { IfOk result (λ step. StepsLeft (Self.snapshot self.old) (Self.snapshot self.new) step) }
         ensures fault { IfErr result (λ fault. CopyFails (Self.snapshot self.old) (Self.snapshot self.new) fault) }
         ensures keeps { KeepsSnapshot (Self.snapshot self.old) (Self.snapshot self.new) }
-        ensures aside { Self.aside self.new ≡ Self.aside self.old };
+        ensures aside { Self.aside self.new ≡ Self.aside self.old }
+        ensures went { Self.went self.old self.new };
 }
 
 /// Copies what is left of a snapshot: each cell that is free at once, and then those that were
@@ -35,6 +37,7 @@ pub fn copy_through<Z: Copying, G: Gate>(z: &mut Z, gate: &G) -> Result<(), Copy
     ensures memory { (Z.snapshot z.new).mem ≡ (Z.snapshot z.old).mem }
     ensures keeps { KeepsSnapshot (Z.snapshot z.old) (Z.snapshot z.new) }
     ensures aside { Z.aside z.new ≡ Z.aside z.old }
+    ensures went { Z.went z.old z.new }
 {
     copy_free(z, gate)?;
     loop {
@@ -51,6 +54,7 @@ fn copy_free<Z: Copying, G: Gate>(z: &mut Z, gate: &G) -> Result<(), CopyFault>
     ensures fault { IfErr result (λ fault. CopyFails (Z.snapshot z.old) (Z.snapshot z.new) fault) }
     ensures keeps { KeepsSnapshot (Z.snapshot z.old) (Z.snapshot z.new) }
     ensures aside { Z.aside z.new ≡ Z.aside z.old }
+    ensures went { Z.went z.old z.new }
 {
     loop {
         if let Step::AllDone = z.copy_next(gate)? {

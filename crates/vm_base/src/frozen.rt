@@ -14,6 +14,9 @@ pub trait Frozen {
 
     ghost snapshot: { Self → SnapshotState };
 
+    /// What calls on it may make of the value in which it lies, one after another.
+    ghost went: { Self → Self → Type 0 };
+
     /// Reads the bytes of a range. It looks at each cell of the range once, lowest first, and
     /// answers `Lost` where one is lost then. After a refusal the buffer is left open.
     fn read(&mut self, addr: u64, buf: &mut [u8]) -> Result<(), SnapFault>
@@ -23,7 +26,12 @@ pub trait Frozen {
             (λ fault. snapshot_answer (snapshot self.new) addr (length buf.old) ≡ Err fault) }
         ensures keeps { KeepsSnapshot (snapshot self.old) (snapshot self.new) }
         ensures uncounted { (snapshot self.new).refused ≡ (snapshot self.old).refused }
-        ensures aside { aside self.new ≡ aside self.old };
+        ensures aside { aside self.new ≡ aside self.old }
+        ensures went { went self.old self.new };
+
+    ghost went_none: { (p : Self) → went p p };
+
+    ghost went_on: { (p q r : Self) → went p q → went q r → went p r };
 }
 
 /// Reads a range twice. What is read is the same both times. It is refused where a read is.
@@ -43,6 +51,7 @@ pub fn read_twice<Z: Frozen>(
     ensures keeps { KeepsSnapshot (Z.snapshot z.old) (Z.snapshot z.new) }
     ensures uncounted { (Z.snapshot z.new).refused ≡ (Z.snapshot z.old).refused }
     ensures aside { Z.aside z.new ≡ Z.aside z.old }
+    ensures went { Z.went z.old z.new }
 {
     z.read(addr, first)?;
     z.read(addr, again)

@@ -1,10 +1,11 @@
 //! A process whose children lie in the same value.
-ghost use Rattle.std.specs.Prelude.{◌≡◌, ℕ, ◌+◌, ◌≤◌, ◌^◌, ◌↔◌, ◌⊎◌, IsTrue, length, OnOk, IfErr, Ok, Err, Some};
+ghost use Rattle.std.specs.Prelude.{◌≡◌, ℕ, ◌+◌, ◌<◌, ◌≤◌, ◌^◌, ◌↔◌, ◌⊎◌, IsTrue, length, OnOk, IfErr, IfSome, Ok, Err, Some};
 ghost use Rattle.vm_base.specs.FlatMemory.{cells_of};
 ghost use Rattle.vm_base.specs.MemoryState.{IsIn, IsListed};
-ghost use Rattle.vm_base.specs.SnapshotState.{KeepsSnapshot, IsFoundSince, snapshot_answer};
+ghost use Rattle.vm_base.specs.SnapshotState.{KeepsSnapshot, GoesOn, IsFoundSince, snapshot_answer};
 
-use crate::faults::SnapFault;
+use crate::faults::{CopyFault, SnapFault, Step};
+use crate::memory::{Memory, write_at};
 use crate::nest::Nest;
 use crate::process::Process;
 
@@ -42,6 +43,19 @@ pub trait Housing: Process + Nest<Child = <Self as Process>::Child> {
         → ∥ IsListed cell (cells_of (Self.Memory.state p).mem)
         ⊎ ((c : Self.Child) × (IsTrue (Self.Nest.lives (Self.Nest.beside p c)) × IsListed cell (cells_of (Self.Nest.nested p c).mem))) ∥₁ };
 
+    /// What calls on a child make of the process is what calls on the process make of it.
+    ghost went_nest: { (p q : Self) → Self.Nest.went p q → Self.Memory.went p q };
+
+    /// Whatever calls are made on the process and on its children, what is told of a child that
+    /// lives goes on.
+    ghost went_child: { (p q : Self) (c : Self.Child) → Self.Memory.went p q
+        → IsTrue (Self.Nest.lives (Self.Nest.beside p c)) → IsTrue (Self.Nest.lives (Self.Nest.beside q c))
+        → GoesOn (Self.Nest.nested p c) (Self.Nest.nested q c) };
+
+    /// Where it is told how many frames are enough, a copy is refused only once the process had as many.
+    ghost copies_reached: { (p : Self) (c : Self.Child) → IsTrue (Self.Nest.lives (Self.Nest.beside p c))
+        → 0 < (Self.Nest.nested p c).refused → IfSome (Self.Memory.state p).enough (λ enough. enough ≤ (Self.Memory.state p).most) };
+
     /// A child lives where its number does, in the process of its home.
     ghost lives_numbered: { (p : Self) (c : Self.Child)
         → (IsTrue (Self.Nest.lives (Self.Nest.beside p c)))
@@ -67,10 +81,31 @@ pub fn read_child<P: Housing>(
         (P.Nest.refused (P.Nest.beside process.old child.old)) (P.nested process.new child.new) }
     ensures state { P.state process.new ≡ P.state process.old }
     ensures aside { P.aside process.new ≡ P.aside process.old }
+    ensures went { P.Memory.went process.old process.new }
 
     // So the child lives as before, and may be read again, copied and reaped.
     ensures beside { P.Nest.beside process.new child.new ≡ P.Nest.beside process.old child.old }
     ensures child { (P.child_number child.new ≡ P.child_number child.old) × (P.child_home child.new ≡ P.child_home child.old) }
 {
     process.child_read(child, addr, buf)
+}
+
+/// Writes to a process whose child lives, and then copies a cell of the child. The child lives as
+/// before, with the memory at its fork, and no more is left to be copied than before.
+pub fn write_and_copy<P: Housing>(
+    process: &mut P,
+    child: &mut <P as Process>::Child,
+    addr: u64,
+    bytes: &[u8],
+) -> Result<Step, CopyFault>
+    requires lives { IsTrue (P.lives (P.Nest.beside process.old child.old)) }
+    requires within { addr + length bytes.now ≤ 2 ^ 48 }
+    requires few { length bytes.now ≤ 4194304 }
+    ensures todo { (P.nested process.new child.new).todo ≤ (P.nested process.old child.old).todo }
+    ensures memory { (P.nested process.new child.new).mem ≡ (P.nested process.old child.old).mem }
+    ensures lives { IsTrue (P.lives (P.Nest.beside process.new child.new)) }
+    ensures went { P.Memory.went process.old process.new }
+{
+    let _written = write_at(process, addr, bytes);
+    process.child_copy(child)
 }

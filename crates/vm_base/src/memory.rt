@@ -1,8 +1,8 @@
 //! A memory as its owner sees it, whatever keeps its pages.
-ghost use Rattle.std.specs.Prelude.{◌≡◌, ℕ, ◌+◌, ◌<◌, ◌≤◌, ◌^◌, [], length, OnOk, OnErr, IfErr};
+ghost use Rattle.std.specs.Prelude.{List, ◌≡◌, ℕ, ◌+◌, ◌<◌, ◌≤◌, ◌^◌, [], length, OnOk, OnErr, IfErr};
 ghost use Rattle.vm_base.specs.Places.{cells_of_range};
 ghost use Rattle.vm_base.specs.FlatStep.{write_of};
-ghost use Rattle.vm_base.specs.MemoryState.{MemoryState, IsMemory, IsKept};
+ghost use Rattle.vm_base.specs.MemoryState.{MemoryState, IsMemory, IsKept, IsListed};
 ghost use Rattle.vm_base.specs.MemoryCalls.{read_answer, map_answer, unmap_answer, protect_answer, after_store, IsReady, Touches, TouchFails, Writes, Maps, Changes, Refuses};
 
 use crate::faults::Fault;
@@ -19,6 +19,10 @@ pub trait Memory {
     /// What it holds, and what its calls keep.
     ghost state: { Self → MemoryState };
 
+    /// What calls on it, on the process that it may be and on its children may make of it, one
+    /// after another: a relation that an implementation picks, and each call keeps.
+    ghost went: { Self → Self → Type 0 };
+
     /// Reads the bytes of a range. An absent page of an area reads as zeros and takes no frame.
     /// After a refusal the buffer is left open.
     fn read(&mut self, addr: u64, buf: &mut [u8]) -> Result<(), Fault>
@@ -28,7 +32,8 @@ pub trait Memory {
             (λ fault. read_answer (state self.old).mem addr (length buf.old) ≡ Err fault) }
         ensures same { state self.new ≡ state self.old }
         ensures sound { IsMemory (state self.old) }
-        ensures aside { aside self.new ≡ aside self.old };
+        ensures aside { aside self.new ≡ aside self.old }
+        ensures went { went self.old self.new };
 
     /// Makes each page of a range (in bytes) present and ready to be stored to. Pages that were
     /// absent are of zeros.
@@ -39,7 +44,8 @@ pub trait Memory {
         ensures fault { IfErr result
             (λ fault. TouchFails (state self.old) (state self.new) addr len fault) }
         ensures keeps { IsKept (state self.old) (state self.new) (cells_of_range addr len) }
-        ensures aside { aside self.new ≡ aside self.old };
+        ensures aside { aside self.new ≡ aside self.old }
+        ensures went { went self.old self.new };
 
     /// Stores bytes. Each page of their range has been touched.
     fn store(&mut self, addr: u64, bytes: &[u8])
@@ -47,7 +53,8 @@ pub trait Memory {
         requires ready { IsReady (state self.old) addr (length bytes.now) }
         ensures stored { state self.new ≡ after_store (state self.old) addr bytes.now }
         ensures keeps { IsKept (state self.old) (state self.new) [] }
-        ensures aside { aside self.new ≡ aside self.old };
+        ensures aside { aside self.new ≡ aside self.old }
+        ensures went { went self.old self.new };
 
     /// Makes an area of pages that no area has.
     fn map(&mut self, first: u64, pages: u64, perm: Perm) -> Result<(), Fault>
@@ -58,7 +65,8 @@ pub trait Memory {
         ensures fault { IfErr result
             (Refuses (state self.old) (state self.new) (map_answer (state self.old) first pages perm)) }
         ensures keeps { IsKept (state self.old) (state self.new) [] }
-        ensures aside { aside self.new ≡ aside self.old };
+        ensures aside { aside self.new ≡ aside self.old }
+        ensures went { went self.old self.new };
 
     /// Takes pages out of the areas. Those that no area has are passed over.
     fn unmap(&mut self, first: u64, pages: u64) -> Result<(), Fault>
@@ -69,7 +77,8 @@ pub trait Memory {
         ensures fault { IfErr result
             (Refuses (state self.old) (state self.new) (unmap_answer (state self.old) first pages)) }
         ensures keeps { IsKept (state self.old) (state self.new) [] }
-        ensures aside { aside self.new ≡ aside self.old };
+        ensures aside { aside self.new ≡ aside self.old }
+        ensures went { went self.old self.new };
 
     /// Gives pages of areas another permission. They keep their bytes.
     fn protect(&mut self, first: u64, pages: u64, perm: Perm) -> Result<(), Fault>
@@ -80,7 +89,12 @@ pub trait Memory {
         ensures fault { IfErr result
             (Refuses (state self.old) (state self.new) (protect_answer (state self.old) first pages perm)) }
         ensures keeps { IsKept (state self.old) (state self.new) [] }
-        ensures aside { aside self.new ≡ aside self.old };
+        ensures aside { aside self.new ≡ aside self.old }
+        ensures went { went self.old self.new };
+
+    ghost went_none: { (p : Self) → went p p };
+
+    ghost went_on: { (p q r : Self) → went p q → went q r → went p r };
 }
 
 /// Touches a range and stores bytes there. It is refused where the touch is.
@@ -98,8 +112,33 @@ pub fn write_at<M: Memory>(memory: &mut M, addr: u64, bytes: &[u8]) -> Result<()
 
     ensures keeps { IsKept (M.state memory.old) (M.state memory.new) (cells_of_range addr (length bytes.now)) }
     ensures aside { M.aside memory.new ≡ M.aside memory.old }
+    ensures went { M.went memory.old memory.new }
 {
     memory.touch(addr, bytes.len() as u64)?;
     memory.store(addr, bytes);
+    Ok(())
+}
+
+/// Touches two ranges, and then stores bytes in both.
+pub fn write_both<M: Memory>(
+    memory: &mut M,
+    addr: u64,
+    one: &[u8],
+    second: u64,
+    two: &[u8],
+) -> Result<(), Fault>
+    requires within { addr + length one.now ≤ 2 ^ 48 }
+    requires few { length one.now ≤ 4194304 }
+    requires within_second { second + length two.now ≤ 2 ^ 48 }
+    requires few_second { length two.now ≤ 4194304 }
+    ensures keeps { (cells : List ℕ) → ((cell : ℕ) → IsListed cell (cells_of_range addr (length one.now)) → IsListed cell cells)
+        → ((cell : ℕ) → IsListed cell (cells_of_range second (length two.now)) → IsListed cell cells) → IsKept (M.state memory.old) (M.state memory.new) cells }
+    ensures aside { M.aside memory.new ≡ M.aside memory.old }
+    ensures went { M.went memory.old memory.new }
+{
+    memory.touch(addr, one.len() as u64)?;
+    memory.touch(second, two.len() as u64)?;
+    memory.store(addr, one);
+    memory.store(second, two);
     Ok(())
 }

@@ -2,9 +2,9 @@
 ghost use Rattle.std.specs.Prelude.{◌≡◌, ℕ, Bool, IsTrue, ◌+◌, ◌≤◌, ◌^◌, length, OnOk, IfOk, IfErr, Ok, Err};
 ghost use Rattle.vm_base.specs.SnapshotState.{SnapshotState, KeepsSnapshot, StepsNest, FailsNest, IsFoundSince, snapshot_answer};
 
-use crate::copying::Copying;
+use crate::copying::{Copying, copy_through};
 use crate::faults::{CopyFault, SnapFault, Step};
-use crate::frozen::Frozen;
+use crate::frozen::{Frozen, read_twice};
 use crate::gate::Gate;
 
 /// A value that reads and copies its children itself.
@@ -29,6 +29,9 @@ pub trait Nest {
     /// The child as a snapshot: what it holds is the memory that was kept for it.
     ghost nested: { Self → Self.Child → SnapshotState };
 
+    /// What calls on it may make of it, one after another.
+    ghost went: { Self → Self → Type 0 };
+
     /// Reads the bytes of a range of a child, as a snapshot reads them. The child is as it was:
     /// only an act of its parent loses a cell.
     fn child_read(
@@ -45,7 +48,8 @@ pub trait Nest {
         ensures keeps { KeepsSnapshot (nested self.old child.old) (nested self.new child.new) }
         ensures same { nested self.new child.new ≡ nested self.old child.old }
         ensures since { IsFoundSince (born (beside self.old child.old)) (refused (beside self.old child.old)) (nested self.new child.new) }
-        ensures beside { beside self.new child.new ≡ beside self.old child.old };
+        ensures beside { beside self.new child.new ≡ beside self.old child.old }
+        ensures went { went self.old self.new };
 
     /// Copies the lowest cell of a child that waits to be copied. It skips none. Where none waits,
     /// it tells the lowest one that is lost.
@@ -55,29 +59,43 @@ pub trait Nest {
         ensures fault { IfErr result (λ fault. FailsNest (nested self.old child.old) (nested self.new child.new) fault) }
         ensures keeps { KeepsSnapshot (nested self.old child.old) (nested self.new child.new) }
         ensures since { IsFoundSince (born (beside self.old child.old)) (refused (beside self.old child.old)) (nested self.new child.new) }
-        ensures beside { beside self.new child.new ≡ beside self.old child.old };
+        ensures beside { beside self.new child.new ≡ beside self.old child.old }
+        ensures went { went self.old self.new };
+
+    ghost went_none: { (p : Self) → went p p };
+
+    ghost went_on: { (p q r : Self) → went p q → went q r → went p r };
 }
 
 /// A child of a nest, as a snapshot that is read and copied.
-pub struct Nested<'a, N: Nest> {
-    pub nest: &'a mut N,
-    pub child: &'a mut N::Child,
+#[derive(Drop)]
+pub struct Nested<'n, 'c, N: Nest> {
+    pub nest: &'n mut N,
+    pub child: &'c mut N::Child,
     ghost lives: { IsTrue (N.lives (N.beside nest.now child.now)) },
 }
 
-impl<N: Nest> Frozen for Nested<'_, N> {
-    ghost Aside = { N.Beside };
+impl<N: Nest> Frozen for Nested<'_, '_, N> {
+    ghost use Rattle.std.specs.Borrow.{GName};
 
-    ghost aside = { λ it. N.beside it.nest.now it.child.now };
+    ghost Aside = { N.Beside × (GName × GName) };
+
+    ghost aside = { λ it. (N.beside it.nest.now it.child.now, (it.nest.ghost_name, it.child.ghost_name)) };
 
     ghost snapshot = { λ it. N.nested it.nest.now it.child.now };
+
+    ghost went = { λ p q. N.went p.nest.now q.nest.now };
+
+    ghost went_none = { λ p. N.went_none p.nest.now };
+
+    ghost went_on = { λ p q r one two. N.went_on p.nest.now q.nest.now r.nest.now one two };
 
     fn read(&mut self, addr: u64, buf: &mut [u8]) -> Result<(), SnapFault> {
         self.nest.child_read(self.child, addr, buf)
     }
 }
 
-impl<N: Nest> Copying for Nested<'_, N> {
+impl<N: Nest> Copying for Nested<'_, '_, N> {
     fn copy_next<G: Gate>(&mut self, _gate: &G) -> Result<Step, CopyFault> {
         self.nest.child_copy(self.child)
     }
@@ -85,4 +103,40 @@ impl<N: Nest> Copying for Nested<'_, N> {
     fn copy_left<G: Gate>(&mut self, _gate: &G) -> Result<Step, CopyFault> {
         self.nest.child_copy(self.child)
     }
+}
+
+/// Reads a range of a child twice, as a snapshot.
+pub fn read_nested_twice<N: Nest>(
+    nest: &mut N,
+    child: &mut N::Child,
+    addr: u64,
+    first: &mut [u8],
+    again: &mut [u8],
+) -> Result<(), SnapFault>
+    requires lives { IsTrue (N.lives (N.beside nest.old child.old)) }
+    requires within { addr + length first.old ≤ 2 ^ 48 }
+    requires length { length again.old ≡ length first.old }
+    ensures same { OnOk result (first.new ≡ again.new) }
+    ensures bytes { OnOk result (snapshot_answer (N.nested nest.new child.new) addr (length first.old) ≡ Ok first.new) }
+    ensures beside { N.beside nest.new child.new ≡ N.beside nest.old child.old }
+    ensures keeps { KeepsSnapshot (N.nested nest.old child.old) (N.nested nest.new child.new) }
+    ensures went { N.went nest.old nest.new }
+{
+    let mut z = Nested { nest, child };
+    read_twice(&mut z, addr, first, again)
+}
+
+/// Copies what is left of a child, as a snapshot.
+pub fn copy_nested<N: Nest, G: Gate>(
+    nest: &mut N,
+    child: &mut N::Child,
+    gate: &G,
+) -> Result<(), CopyFault>
+    requires lives { IsTrue (N.lives (N.beside nest.old child.old)) }
+    ensures whole { OnOk result (IsTrue (N.nested nest.new child.new).whole) }
+    ensures beside { N.beside nest.new child.new ≡ N.beside nest.old child.old }
+    ensures went { N.went nest.old nest.new }
+{
+    let mut z = Nested { nest, child };
+    copy_through(&mut z, gate)
 }

@@ -70,7 +70,8 @@ pub trait Process: Memory {
         ensures others { (child : Self.Child) → IsListed (child_number child) (children (beside self.old)).numbers
             → child_home child ≡ home (beside self.old) → (kept (beside self.new) child ≡ kept (beside self.old) child)
             × (born (beside self.new) child ≡ born (beside self.old) child) }
-        ensures home { (home (beside self.new) ≡ home (beside self.old)) × AreChildren (children (beside self.old)) };
+        ensures home { (home (beside self.new) ≡ home (beside self.old)) × AreChildren (children (beside self.old)) }
+        ensures went { Self.went self.old self.new };
 
     /// Gives back what was kept for a child that has ended.
     fn reap(&mut self, gone: Self::Gone)
@@ -83,7 +84,8 @@ pub trait Process: Memory {
         ensures others { (child : Self.Child) → IsListed (child_number child) (children (beside self.new)).numbers
             → child_home child ≡ home (beside self.old) → (kept (beside self.new) child ≡ kept (beside self.old) child)
             × (born (beside self.new) child ≡ born (beside self.old) child) }
-        ensures home { (home (beside self.new) ≡ home (beside self.old)) × AreChildren (children (beside self.old)) };
+        ensures home { (home (beside self.new) ≡ home (beside self.old)) × AreChildren (children (beside self.old)) }
+        ensures went { Self.went self.old self.new };
 
     /// The number of a child.
     fn number(child: &Self::Child) -> u32
@@ -139,6 +141,7 @@ pub fn fork_and_write<P: Process>(
         → P.child_home child ≡ P.home (P.beside process.old) → (P.kept (P.beside process.new) child ≡ P.kept (P.beside process.old) child)
         × (P.born (P.beside process.new) child ≡ P.born (P.beside process.old) child) }
     ensures home { P.home (P.beside process.new) ≡ P.home (P.beside process.old) }
+    ensures went { P.went process.old process.new }
 {
     let child = process.fork(Mode::OnDemand)?;
     let _written = write_at(process, addr, bytes);
@@ -161,6 +164,7 @@ pub fn reap_one<P: Process>(process: &mut P, gone: P::Gone)
         → P.child_home child ≡ P.home (P.beside process.old) → (P.kept (P.beside process.new) child ≡ P.kept (P.beside process.old) child)
         × (P.born (P.beside process.new) child ≡ P.born (P.beside process.old) child) }
     ensures home { P.home (P.beside process.new) ≡ P.home (P.beside process.old) }
+    ensures went { P.went process.old process.new }
 {
     process.reap(gone);
 }

@@ -11,6 +11,7 @@ invariant-loop g l = record {
   passed : IsTrue (g.Z.Frozen.snapshot l.fn.z).passed → IsTrue (g.Z.Frozen.snapshot l.z).passed;
   whole : IsTrue (g.Z.Frozen.snapshot l.fn.z).whole → IsTrue (g.Z.Frozen.snapshot l.z).whole;
   aside : g.Z.Frozen.aside l.z ≡ g.Z.Frozen.aside l.fn.z;
+  went : g.Z.Frozen.went l.fn.z l.z;
 }
 
 abbrev pub decreases-loop : goal.decreases-loop
