@@ -1,3 +1,4 @@
 pub mod Worked
 pub mod Shares
 pub mod NeverRefused
+pub mod DealingLemmas

@@ -6,3 +6,4 @@ pub mod EventRequests
 pub mod RefusedRequests
 pub mod CellAccount
 pub mod PoolAccount
+pub mod Stretches
