@@ -72,8 +72,8 @@ module _ (old new : KernelParts) (notes : KernelNotes) (first n : ℕ) (perm : P
       map-refuses old new it.0 it.1.0 it.1.1.stands notes.most first n perm fault
       (subst (λ o. HasMapped old new first n perm o) (sym told) ran it.0 it.1.0 it.1.1.stands) (kept (λ done. undone fault (told ∙ done)))))
 
-  pub map-keeps : (outcome : Outcome) → HasMapped old new first n perm outcome → old.supply.out ≤ old.supply.made → (count : ℕ) → count ≤ 2 ^ 64 - 1 → Counts old count → 0 < n → first + n ≤ 2 ^ 36 → HasReached new notes → IsKept (kernel_memory old notes) (kernel_memory new notes) []
-  map-keeps outcome ran lent count fits counts some within reached = told-kept (memory_of old notes.most) (memory_of new notes.most) notes.enough notes.enough refl [] reached (
+  pub map-keeps : (outcome : Outcome) → HasMapped old new first n perm outcome → old.supply.out ≤ old.supply.made → (count : ℕ) → count ≤ 2 ^ 64 - 1 → Counts old count → 0 < n → first + n ≤ 2 ^ 36 → HasReached old notes → HasReached new notes → IsKept (kernel_memory old notes) (kernel_memory new notes) []
+  map-keeps outcome ran lent count fits counts some within stood reached = told-kept (memory_of old notes.most) (memory_of new notes.most) notes.enough notes.enough refl [] stood reached (
       known-kept (memory_of old notes.most) (memory_of new notes.most) [] known (λ it.
       map-kept old new notes it.0 it.1.0 it.1.1 (bounds old it.0 it.1.0 it.1.1.stands lent count fits counts) first n perm outcome some within (ran it.0 it.1.0 it.1.1.stands)))
 
@@ -106,8 +106,8 @@ module _ (old new : KernelParts) (notes : KernelNotes) (first n : ℕ) (known : 
       unmap-refuses old new it.0 it.1.0 it.1.1.stands notes.most first n fault
       (subst (λ o. HasUnmapped old new first n o) (sym told) ran it.0 it.1.0 it.1.1.stands) (kept (λ done. undone fault (told ∙ done)))))
 
-  pub unmap-keeps : (outcome : Outcome) → HasUnmapped old new first n outcome → old.supply.out ≤ old.supply.made → (count : ℕ) → count ≤ 2 ^ 64 - 1 → Counts old count → 0 < n → first + n ≤ 2 ^ 36 → HasReached new notes → IsKept (kernel_memory old notes) (kernel_memory new notes) []
-  unmap-keeps outcome ran lent count fits counts some within reached = told-kept (memory_of old notes.most) (memory_of new notes.most) notes.enough notes.enough refl [] reached (
+  pub unmap-keeps : (outcome : Outcome) → HasUnmapped old new first n outcome → old.supply.out ≤ old.supply.made → (count : ℕ) → count ≤ 2 ^ 64 - 1 → Counts old count → 0 < n → first + n ≤ 2 ^ 36 → HasReached old notes → HasReached new notes → IsKept (kernel_memory old notes) (kernel_memory new notes) []
+  unmap-keeps outcome ran lent count fits counts some within stood reached = told-kept (memory_of old notes.most) (memory_of new notes.most) notes.enough notes.enough refl [] stood reached (
       known-kept (memory_of old notes.most) (memory_of new notes.most) [] known (λ it.
       unmap-kept old new notes it.0 it.1.0 it.1.1 (bounds old it.0 it.1.0 it.1.1.stands lent count fits counts) first n outcome some within (ran it.0 it.1.0 it.1.1.stands)))
 
@@ -140,7 +140,7 @@ module _ (old new : KernelParts) (notes : KernelNotes) (first n : ℕ) (perm : P
       protect-refuses old new it.0 it.1.0 it.1.1.stands notes.most first n perm fault
       (subst (λ o. HasProtected old new first n perm o) (sym told) ran it.0 it.1.0 it.1.1.stands) (kept (λ done. undone fault (told ∙ done)))))
 
-  pub protect-keeps : (outcome : Outcome) → HasProtected old new first n perm outcome → old.supply.out ≤ old.supply.made → (count : ℕ) → count ≤ 2 ^ 64 - 1 → Counts old count → 0 < n → first + n ≤ 2 ^ 36 → HasReached new notes → IsKept (kernel_memory old notes) (kernel_memory new notes) []
-  protect-keeps outcome ran lent count fits counts some within reached = told-kept (memory_of old notes.most) (memory_of new notes.most) notes.enough notes.enough refl [] reached (
+  pub protect-keeps : (outcome : Outcome) → HasProtected old new first n perm outcome → old.supply.out ≤ old.supply.made → (count : ℕ) → count ≤ 2 ^ 64 - 1 → Counts old count → 0 < n → first + n ≤ 2 ^ 36 → HasReached old notes → HasReached new notes → IsKept (kernel_memory old notes) (kernel_memory new notes) []
+  protect-keeps outcome ran lent count fits counts some within stood reached = told-kept (memory_of old notes.most) (memory_of new notes.most) notes.enough notes.enough refl [] stood reached (
       known-kept (memory_of old notes.most) (memory_of new notes.most) [] known (λ it.
       protect-kept old new notes it.0 it.1.0 it.1.1 (bounds old it.0 it.1.0 it.1.1.stands lent count fits counts) first n perm outcome some within (ran it.0 it.1.0 it.1.1.stands)))

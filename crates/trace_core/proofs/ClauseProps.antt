@@ -18,7 +18,7 @@ use Rattle.vm_base.specs.MemoryCalls.{Touches, LacksFrame, TouchFails, Refuses, 
 use Rattle.vm_base.specs.declared.faults.ForkFault.{ForkFault}
 use Rattle.vm_base.specs.declared.faults.ForkFault.TheVariants.{NoFrame as FrameLacking, TooMany, NumbersSpent}
 use Rattle.vm_base.specs.ProcessState.{Children, AreChildren, MayFork, ForkFails, LeavesMemory, Reaps, LeavesAtReap}
-use Rattle.trace_core.proofs.KernelMemories.{IsMemory-prop}
+use Rattle.trace_core.proofs.KernelMemories.{if-some-prop, IsMemory-prop}
 
 -- ---- memories and faults told apart
 
@@ -98,10 +98,6 @@ state-prop a b = Coded-set memory_state_code a b
 pub answer-prop : (a b : Result FlatMemory Fault) → IsProp (a ≡ b)
 answer-prop a b = Coded-set answer_code a b
 
-pub if-some-prop : {X : Type 0} (P : X → Type 0) (o : Option X) → ((x : X) → IsProp (P x)) → IsProp (IfSome o P)
-if-some-prop P None each = Unit-prop
-if-some-prop P (Some x) each = each x
-
 -- ---- the calls on a memory
 
 pub KeepsReady-prop : (old new : MemoryState) → IsProp (KeepsReady old new)
@@ -155,7 +151,7 @@ pub record IsPlainlyKept (old new : MemoryState) (cells : List ℕ) : Type 0 whe
   pub used : (cell : ℕ) → IsIn cell new.used → set.contains old.used cell ≡ false → IsListed cell cells
   pub enough : new.enough ≡ old.enough
   pub counted : old.refused ≤ new.refused
-  pub reached : Rose old.refused new.refused → IfSome old.enough (λ enough. enough ≤ new.most)
+  pub grown : old.most ≤ new.most
 
 pub IsPlainlyKept-prop : (old new : MemoryState) (cells : List ℕ) → IsProp (IsPlainlyKept old new cells)
 IsPlainlyKept-prop old new cells a b = λ i. record {
@@ -166,7 +162,7 @@ IsPlainlyKept-prop old new cells a b = λ i. record {
   used = λ cell now unused. test-prop (list_any (λ other. other == cell) cells) true (a.used cell now unused) (b.used cell now unused) i;
   enough = option-prop _ _ a.enough b.enough i;
   counted = le_prop a.counted b.counted i;
-  reached = λ rose. if-some-prop (λ enough. enough ≤ new.most) old.enough (λ enough. le_prop) (a.reached rose) (b.reached rose) i;
+  grown = le_prop a.grown b.grown i;
 }
 
 -- a cell that uses a slot did so before, or is one of these: which of the two is told by whether it did before
@@ -186,7 +182,7 @@ kept-from old new cells it = record {
   used = used-from old.used new.used cells it.used;
   enough = it.enough;
   counted = it.counted;
-  reached = it.reached;
+  grown = it.grown;
 }
 
 -- the other side of a sum whose first does not hold
@@ -203,7 +199,7 @@ plainly-kept old new cells it = record {
   used = λ cell now unused. other-side (set.contains old.used cell) unused (it.used cell now);
   enough = it.enough;
   counted = it.counted;
-  reached = it.reached;
+  grown = it.grown;
 }
 
 -- what is kept is given by a fact whose proof is not told
@@ -221,7 +217,7 @@ IsKept-prop old new a b = λ i. record {
   used = λ cell now. one-side (set.contains old.used cell) (a.used cell now) (b.used cell now) i;
   enough = option-prop _ _ a.enough b.enough i;
   counted = le_prop a.counted b.counted i;
-  reached = λ rose. if-some-prop (λ enough. enough ≤ new.most) old.enough (λ enough. le_prop) (a.reached rose) (b.reached rose) i;
+  grown = le_prop a.grown b.grown i;
 }
   where
     one-side : (it : Bool) → IsProp (IsTrue it ⊎ IsTrue false)

@@ -34,7 +34,8 @@ use Rattle.trace_core.specs.KernelRun.{Ran, EventFollows}
 use Rattle.trace_core.specs.KernelSeen.{KernelNotes, IsSound, IsKernelNoted, NotesHold, IsNoted, pages_of, parent_of, kept_in, is_new_fork, most_behind}
 use Rattle.trace_core.proofs.Copies.{no-deals, same-leaves}
 use Rattle.trace_core.proofs.EventCounts.{HasCounted, HasCopied, is_refuse, parent_counts, copy_counts}
-use Rattle.trace_core.proofs.HeldNotes.{EnoughHolds, NotesHold-prop, AreAmong, none-kept, none-hold, pending-stays, enough-then, among-hold, answered-grows}
+use Rattle.trace_core.proofs.HeldNotes.{EnoughHolds, NotesHold-prop, AreAmong, none-kept, none-hold, pending-stays, enough-then, among-hold}
+use Rattle.trace_core.proofs.KernelTouches.{answered-grows}
 use Rattle.trace_core.proofs.KeptEvents.{EndKeeps, map-keeps-leaves, unmap-keeps-leaves, protect-keeps-leaves, touch-keeps-leaves, forked-leaves, unforked-leaves, forked-only, forked-lost}
 use Rattle.trace_core.proofs.KeptLeaves.{KeepsLeaves, same-keeps, loss_of}
 use Rattle.trace_core.proofs.OneSnapshot.{lives-len, none-left}

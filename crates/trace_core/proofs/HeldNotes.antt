@@ -35,7 +35,7 @@ use Rattle.trace_core.specs.TouchAnswers.{touch_outcome, with_stored}
 use Rattle.trace_core.proofs.AnswerLemmas.{deals_lead_on, no_request_has_led}
 use Rattle.trace_core.proofs.AreaCalls.{HasMapped, HasUnmapped, HasProtected}
 use Rattle.trace_core.proofs.ClauseProps.{test-prop, option-prop}
-use Rattle.trace_core.proofs.KernelTouches.{TouchRan}
+use Rattle.trace_core.proofs.KernelTouches.{TouchRan, answered-grows}
 use Rattle.trace_core.proofs.KeptEvents.{EndKeeps, map-keeps-leaves, unmap-keeps-leaves, protect-keeps-leaves, touch-keeps-leaves, slots-keep, lost-keep}
 use Rattle.trace_core.proofs.KeptLeaves.{KeepsLeaves, told-between, same-keeps}
 use Rattle.trace_core.proofs.Known.{none-numbered}
@@ -207,25 +207,6 @@ module _ (old new : KernelParts) (notes later : KernelNotes) (machine : Machine)
             (λ there. ap is_some was.1.0)
 
 -- ---- behind the calls of the parent
-
--- the most frames never fall
-pub answered-grows : (before : PageTables) (address n most : ℕ) (outcome : Outcome) → most ≤ most_answered before address n most outcome
-answered-grows before address n most Done = omega arith
-answered-grows before address n most (Bytes bytes) = omega arith
-answered-grows before address n most (Held held free) = omega arith
-answered-grows before address n most (AreaRow row) = omega arith
-answered-grows before address n most Copied = omega arith
-answered-grows before address n most Nothing = omega arith
-answered-grows before address n most (Refused at) = omega arith
-answered-grows before address n most (Lost at) = omega arith
-answered-grows before address n most (NoArea page) = omega arith
-answered-grows before address n most (NoWrite page) = omega arith
-answered-grows before address n most (Overlap page) = omega arith
-answered-grows before address n most AreasFull = omega arith
-answered-grows before address n most CellsFull = omega arith
-answered-grows before address n most (NoFrame at) = omega arith
-answered-grows before address n most TooMany = omega arith
-answered-grows before address n most NoSnap = omega arith
 
 module _ (old new : KernelParts) (notes later : KernelNotes) (snapshot : new.snapshot ≡ old.snapshot) (forked : later.forked ≡ notes.forked) (born : later.born ≡ notes.born)
     (most : notes.most ≤ later.most) (enough : later.enough ≡ notes.enough) (fits : old.supply.refused ≤ 2 ^ 64 - 1) (holds : NotesHold old notes) where

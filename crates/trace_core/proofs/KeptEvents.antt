@@ -1,6 +1,7 @@
 -- What the events of a run leave of the leaves of snapshots, and what page tables show of it.
-use Rattle.std.proofs.Common.{◌≡◌, ◌≢◌, ◌⊎◌, ℕ, Bool, true, false, cond, List, [], ◌∷◌, map, Option, Some, None, Result, Ok, Err, inl, inr, refl, sym, ◌∙◌, ap}
-use Rattle.std.specs.Prelude.{◌==◌, not, is_some, filter, T}
+use Rattle.std.proofs.Common.{◌≡◌, ◌≢◌, ◌⊎◌, ℕ, Bool, true, false, cond, List, [], ◌∷◌, map, length, Option, Some, None, Result, Ok, Err, inl, inr, refl, sym, ◌∙◌, ap, arith}
+use Rattle.std.proofs.lemmas.List.{length-map}
+use Rattle.std.specs.Prelude.{◌==◌, ◌≤◌, not, is_some, filter, T}
 use Rattle.std.specs.Ordering.{nat_cmp}
 use Rattle.std.specs.FinMap.{get, is_sorted}
 use Rattle.std.proofs.lemmas.Bool.{cases_eq, cases_Bool, eq-eqb, ne_eqb, false≢true}
@@ -27,7 +28,7 @@ use Rattle.trace_core.specs.EventMeaning.{EventEnd, begun, only_answers, areas_c
 use Rattle.trace_core.specs.TablesSeen.{lost_in}
 use Rattle.trace_core.proofs.SlotsSeen.{lost_there}
 use Rattle.trace_core.proofs.SeenTables.{seen-lost}
-use Rattle.trace_core.proofs.KeptLeaves.{loss_of, IsToldBy, KeepsLeaves, same-keeps, touched-keeps, unmapped-keeps, protected-keeps}
+use Rattle.trace_core.proofs.KeptLeaves.{AreFew, loss_of, IsToldBy, KeepsLeaves, same-keeps, touched-keeps, unmapped-keeps, protected-keeps}
 
 -- ---- the events of the parent
 
@@ -86,6 +87,16 @@ slot-number : (snapshot : Option SnapshotTables) (c : ℕ) → is_some (slot_in 
 slot-number None c = refl
 slot-number (Some tables) c = elim (is_some (get tables.directory c)) as (λ b. b ≡ some-number (cond b (tables.number ∷ []) [])) [ true ↦ refl | false ↦ refl ]
 
+-- each cell has one snapshot at most
+few-numbers : (snapshot : Option SnapshotTables) (c : ℕ) → length (numbers_at snapshot c) ≤ 1
+few-numbers None c = omega arith
+few-numbers (Some tables) c = elim (is_some (get tables.directory c)) as (λ b. length (cond b (tables.number ∷ []) []) ≤ 1) [ true ↦ omega arith | false ↦ omega arith ]
+
+few-kept : (tables : PageTables) (sides : Sides) → TablesStandFor tables sides → AreFew sides.leaves
+few-kept tables sides stands c =
+    let same : length (map (λ (it : Kept). it.number) (cell_at sides.leaves c).kept) ≡ length (numbers_at tables.snapshot c) = ap length (stands.snapshot_of.numbers c) in
+    omega (arith, same, few-numbers tables.snapshot c, length-map (cell_at sides.leaves c).kept (λ (it : Kept). it.number))
+
 module _ (old new : PageTables) (before after : Sides) (stood : TablesStandFor old before) (stands : TablesStandFor new after)
     (deals : List Deal) (keeps : KeepsLeaves before.leaves after.leaves deals) where
   -- the snapshot has the cells that it had
@@ -99,6 +110,10 @@ module _ (old new : PageTables) (before after : Sides) (stood : TablesStandFor o
     | inl there ↦ inl (seen-lost old before stood n c ∙ there)
     | inr told ↦ inr told
   ]
+
+  -- what it had lost it still has lost
+  pub lost-stay : (n c at : ℕ) → get (lost_in n old.slots.items) c ≡ Some at → get (lost_in n new.slots.items) c ≡ Some at
+  lost-stay n c at lost = seen-lost new after stands n c ∙ keeps.stays (few-kept old before stood) n c at (sym (seen-lost old before stood n c) ∙ lost)
 
 -- ---- a fork
 

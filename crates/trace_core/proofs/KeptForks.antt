@@ -399,7 +399,7 @@ module _ (old new : KernelParts) (notes : KernelNotes) (machine : Machine) (stat
           used = λ cell there. inl (used cell there);
           enough = refl;
           counted = then.1;
-          reached = λ rose. tt;
+          grown = omega arith;
         }
 
     -- a fork that was granted

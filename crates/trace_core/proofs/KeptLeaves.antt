@@ -1,6 +1,7 @@
 -- What the events of the parent leave of the leaves of snapshots: each cell has the snapshots that it had, and what they lose there is lost by a request that was refused.
 use Rattle.std.proofs.Common.{◌≡◌, ◌⊎◌, ℕ, zero, suc, ◌+◌, ◌≤◌, ◌^◌, Bool, true, false, cond, List, [], ◌∷◌, ◌++◌, map, length, replicate, Option, Some, None, inl, inr, refl, sym, ◌∙◌, ap, subst, arith}
-use Rattle.std.specs.Prelude.{◌-◌, ◌==◌, ◌||◌, not, is_some, unwrap_or}
+use Rattle.std.specs.Prelude.{◌-◌, ◌==◌, ◌||◌, ◌&&◌, not, is_some, unwrap_or, filter}
+use Rattle.std.proofs.lemmas.List.{length-map}
 use Rattle.std.specs.Option.{option_and_then}
 use Rattle.std.proofs.lemmas.Bool.{cases_eq, cases_Bool, ne_eqb, false≢true}
 use Rattle.vm_base.specs.declared.frame_request.Want.{Want}
@@ -9,7 +10,7 @@ use Rattle.vm_base.specs.Counts.{next_count}
 use Rattle.vm_base.specs.Deals.{Deal, Granted, Denied, Returned}
 use Rattle.vm_base.specs.Places.{cell_of}
 use Rattle.kernel_meaning.specs.Requests.{Answer, Yes, No, Requests, deal_of, next_answer, asked, row_end, asked_in_row}
-use Rattle.kernel_meaning.specs.Leaves.{Kept, Leaf, Own, Lost, CellLeaves, loss_at, kept_by, version_at, without_versions, has_pages, has_present, is_shared, is_marked, is_named, names_version, with_leaf}
+use Rattle.kernel_meaning.specs.Leaves.{Kept, Leaf, Own, Joined, Lost, CellLeaves, loss_at, kept_by, version_at, holds_number, is_own, is_joined, is_async, without_versions, has_pages, has_present, is_shared, is_marked, is_named, names_version, with_leaf}
 use Rattle.kernel_meaning.specs.CellActs.{Course, asking, coming_answer, is_number, numbers_where, leaf_copied, leaf_copy_answered, leaves_copied, before_change, page_copy_answered, new_page_answered, new_page_asked, parent_leaf_answered, touched_as, touched, pages_cleared, cleared, protected}
 use Rattle.kernel_meaning.specs.FrameLaw.{Leaves, cell_at, with_cell, is_used, parent_cells}
 use Rattle.kernel_meaning.specs.RefusedRequests.{count_after}
@@ -34,9 +35,15 @@ IsToldBy (Granted want ∷ deals) at = IsToldBy deals at
 IsToldBy (Denied want told ∷ deals) at = (told ≡ at) ⊎ IsToldBy deals at
 IsToldBy (Returned ∷ deals) at = IsToldBy deals at
 
+-- each cell has one snapshot at most
+abbrev pub AreFew : Leaves → Type 0
+AreFew leaves = (c : ℕ) → length (cell_at leaves c).kept ≤ 1
+
 -- each cell has the snapshots that it had, and what they have lost since was lost by a refusal among these deals
 pub record KeepsLeaves (before after : Leaves) (deals : List Deal) : Type 0 where
   pub numbers : (c : ℕ) → map (λ it. it.number) (cell_at after c).kept ≡ map (λ it. it.number) (cell_at before c).kept
+  -- what was lost stays so, where each cell has one snapshot at most
+  pub stays : AreFew before → (n c at : ℕ) → loss_of before n c ≡ Some at → loss_of after n c ≡ Some at
   pub losses : (n c at : ℕ) → loss_of after n c ≡ Some at → (loss_of before n c ≡ Some at) ⊎ IsToldBy deals at
 
 -- what deals tell, they tell with more of them behind
@@ -70,13 +77,13 @@ told-between count (Returned ∷ deals) at counted fits told = told-between coun
 -- ---- at one cell
 
 -- the cell has the snapshots that it had, what they have lost since was told, and what was told still is
-record Acts (from to : Course) : Type 0 where
+record Changes (from to : Course) : Type 0 where
   numbers : map (λ it. it.number) to.cell.kept ≡ map (λ it. it.number) from.cell.kept
   losses : (n at : ℕ) → lost_there (kept_by to.cell.kept n) ≡ Some at → (lost_there (kept_by from.cell.kept n) ≡ Some at) ⊎ IsToldBy to.requests.deals at
   told : (at : ℕ) → IsToldBy from.requests.deals at → IsToldBy to.requests.deals at
 
-acts-on : (from mid to : Course) → Acts from mid → Acts mid to → Acts from to
-acts-on from mid to one two = record {
+changes-on : (from mid to : Course) → Changes from mid → Changes mid to → Changes from to
+changes-on from mid to one two = record {
   numbers = two.numbers ∙ one.numbers;
   losses = λ n at lost. elim (two.losses n at lost) [
     | inl before ↦ elim (one.losses n at before) [ inl first ↦ inl first | inr told ↦ inr (two.told at told) ]
@@ -85,12 +92,31 @@ acts-on from mid to one two = record {
   told = λ at there. two.told at (one.told at there);
 }
 
+-- and what was lost stays so, where the cell has one snapshot at most
+record Acts (from to : Course) : Type 0 where
+  changes : Changes from to
+  stays : length from.cell.kept ≤ 1 → (n at : ℕ) → lost_there (kept_by from.cell.kept n) ≡ Some at → lost_there (kept_by to.cell.kept n) ≡ Some at
+
+acts-on : (from mid to : Course) → Acts from mid → Acts mid to → Acts from to
+acts-on from mid to one two = record {
+  changes = changes-on from mid to one.changes two.changes;
+  stays = λ few n at lost. two.stays (fewer few) n at (one.stays few n at lost);
+}
+  where
+    fewer : length from.cell.kept ≤ 1 → length mid.cell.kept ≤ 1
+    fewer few =
+        let same : length (map (λ (it : Kept). it.number) mid.cell.kept) ≡ length (map (λ (it : Kept). it.number) from.cell.kept) = ap length one.changes.numbers in
+        omega (arith, few, same, length-map mid.cell.kept (λ (it : Kept). it.number), length-map from.cell.kept (λ (it : Kept). it.number))
+
 -- an act that leaves the snapshots alone
 acts-alone : (from to : Course) → to.cell.kept ≡ from.cell.kept → ((at : ℕ) → IsToldBy from.requests.deals at → IsToldBy to.requests.deals at) → Acts from to
 acts-alone from to same told = record {
-  numbers = ap (map (λ it. it.number)) same;
-  losses = λ n at lost. inl (sym (ap (λ kept. lost_there (kept_by kept n)) same) ∙ lost);
-  told = told;
+  changes = record {
+    numbers = ap (map (λ it. it.number)) same;
+    losses = λ n at lost. inl (sym (ap (λ kept. lost_there (kept_by kept n)) same) ∙ lost);
+    told = told;
+  };
+  stays = λ few n at lost. ap (λ kept. lost_there (kept_by kept n)) same ∙ lost;
 }
 
 module _ (test : Kept → Bool) (leaf : Leaf) where
@@ -115,9 +141,9 @@ module _ (test : Kept → Bool) (leaf : Leaf) where
           → (lost_there (cond own (Some it) (kept_by others n)) ≡ Some at) ⊎ (loss_at leaf ≡ Some at)) [ true ↦ inl | false ↦ rest ]
 
   -- an act that gives some of them another leaf
-  acts-leaf : (from to : Course) → to.cell.kept ≡ with_leaf test leaf from.cell.kept → ((at : ℕ) → loss_at leaf ≡ Some at → IsToldBy to.requests.deals at)
-      → ((at : ℕ) → IsToldBy from.requests.deals at → IsToldBy to.requests.deals at) → Acts from to
-  acts-leaf from to same lost told = record {
+  changes-leaf : (from to : Course) → to.cell.kept ≡ with_leaf test leaf from.cell.kept → ((at : ℕ) → loss_at leaf ≡ Some at → IsToldBy to.requests.deals at)
+      → ((at : ℕ) → IsToldBy from.requests.deals at → IsToldBy to.requests.deals at) → Changes from to
+  changes-leaf from to same lost told = record {
     numbers = ap (map (λ it. it.number)) same ∙ numbers-leaf from.cell.kept;
     losses = λ n at there. elim (loss-leaf from.cell.kept n at (sym (ap (λ kept. lost_there (kept_by kept n)) same) ∙ there)) [
       | inl before ↦ inl before
@@ -125,6 +151,21 @@ module _ (test : Kept → Bool) (leaf : Leaf) where
     ];
     told = told;
   }
+
+  -- where none of them has lost the cell, those that have keep their leaf
+  stays-leaf : ((it : Kept) (at : ℕ) → loss_at it.leaf ≡ Some at → test it ≡ false) → (kept : List Kept) (n at : ℕ)
+      → lost_there (kept_by kept n) ≡ Some at → lost_there (kept_by (with_leaf test leaf kept) n) ≡ Some at
+  stays-leaf spares [] n at lost = lost
+  stays-leaf spares (it ∷ others) n at lost = by (test it) refl (stays-leaf spares others n at) lost
+    where
+      by : (b : Bool) → test it ≡ b → (lost_there (kept_by others n) ≡ Some at → lost_there (kept_by (with_leaf test leaf others) n) ≡ Some at)
+          → lost_there (kept_by (it ∷ others) n) ≡ Some at
+          → lost_there (kept_by (cond b (record it { leaf = leaf }) it ∷ with_leaf test leaf others) n) ≡ Some at
+      by true is rest = elim (it.number == n) as (λ own. lost_there (cond own (Some it) (kept_by others n)) ≡ Some at
+          → lost_there (cond own (Some (record it { leaf = leaf })) (kept_by (with_leaf test leaf others) n)) ≡ Some at)
+          [ true ↦ (λ lost. absurd (false≢true (sym (spares it at lost) ∙ is))) | false ↦ rest ]
+      by false is rest = elim (it.number == n) as (λ own. lost_there (cond own (Some it) (kept_by others n)) ≡ Some at
+          → lost_there (cond own (Some it) (kept_by (with_leaf test leaf others) n)) ≡ Some at) [ true ↦ (λ lost. lost) | false ↦ rest ]
 
 -- behind the answer to a request
 abbrev behind_answer : Want → Answer → Course → Course
@@ -146,27 +187,70 @@ lost-told deals want here n at same =
     subst (λ at. IsToldBy ((deals ++ Denied want here ∷ []) ++ replicate n Returned) at) (some-count here at same)
     (told-more (deals ++ Denied want here ∷ []) (replicate n Returned) here (told-last deals want here))
 
-acts-answered : (n : ℕ) (answer : Answer) (course : Course) → Acts course (leaf_copy_answered n answer (behind_answer want.Leaf answer course))
-acts-answered n Yes course =
-    acts-leaf (is_number n) Own course _ refl (λ at none. absurd (false≢true (ap is_some none))) (told-more course.requests.deals _)
-acts-answered n (No here) course =
-    acts-leaf (is_number n) (Lost here) course _ refl (lost-told course.requests.deals want.Leaf here _)
+changes-answered : (n : ℕ) (answer : Answer) (course : Course) → Changes course (leaf_copy_answered n answer (behind_answer want.Leaf answer course))
+changes-answered n Yes course =
+    changes-leaf (is_number n) Own course _ refl (λ at none. absurd (false≢true (ap is_some none))) (told-more course.requests.deals _)
+changes-answered n (No here) course =
+    changes-leaf (is_number n) (Lost here) course _ refl (lost-told course.requests.deals want.Leaf here _)
     (λ at told. told-more (course.requests.deals ++ Denied want.Leaf here ∷ []) _ at (told-more course.requests.deals _ at told))
 
-acts-copied : (ns : List ℕ) (course : Course) → Acts course (leaves_copied ns course)
-acts-copied [] course = acts-alone course course refl (λ at told. told)
-acts-copied (n ∷ ns) course = acts-on course (leaf_copied n course) _ (acts-answered n (coming_answer course) course) (acts-copied ns (leaf_copied n course))
+changes-copied : (ns : List ℕ) (course : Course) → Changes course (leaves_copied ns course)
+changes-copied [] course = (acts-alone course course refl (λ at told. told)).changes
+changes-copied (n ∷ ns) course = changes-on course (leaf_copied n course) _ (changes-answered n (coming_answer course) course) (changes-copied ns (leaf_copied n course))
+
+-- a leaf that is lost is not copied
+abbrev lost-alone : Kept → (Kept → Bool) → Type 0
+lost-alone it test = map (λ (it : Kept). it.number) (filter test (it ∷ [])) ≡ []
+
+none-copied : (kept : List Kept) → length kept ≤ 1 → (n at : ℕ) → lost_there (kept_by kept n) ≡ Some at
+    → (map (λ (it : Kept). it.number) (filter is_shared kept) ≡ []) × (map (λ (it : Kept). it.number) (filter is_marked kept) ≡ [])
+none-copied [] few n at lost = absurd (false≢true (ap is_some lost))
+none-copied (it ∷ []) few n at lost = by it.leaf refl
+  where
+    -- what is found there is its leaf
+    found : loss_at it.leaf ≡ None → lost_there (kept_by (it ∷ []) n) ≡ None
+    found none = elim (it.number == n) as (λ own. lost_there (cond own (Some it) None) ≡ None) [ true ↦ none | false ↦ refl ]
+
+    by : (leaf : Leaf) → it.leaf ≡ leaf → lost-alone it is_shared × lost-alone it is_marked
+    by Own is = absurd (false≢true (ap is_some (sym (found (ap loss_at is)) ∙ lost)))
+    by Joined is = absurd (false≢true (ap is_some (sym (found (ap loss_at is)) ∙ lost)))
+    by (Lost here) is = (
+      ap (λ leaf. map (λ (it : Kept). it.number) (cond (is_joined leaf && not (is_async it.mode)) (it ∷ []) [])) is,
+      ap (λ leaf. map (λ (it : Kept). it.number) (cond (is_joined leaf && is_async it.mode) (it ∷ []) [])) is,
+    )
+none-copied (it ∷ other ∷ others) few n at lost = absurd (many few)
+  where
+    many : length (it ∷ other ∷ others) ≤ 1 → ⊥
+    many few = omega (arith, few)
 
 acts-before : (course : Course) → Acts course (before_change course)
-acts-before course =
-    let first : Course = leaves_copied (numbers_where is_shared course.cell) course in
-    acts-on course first _ (acts-copied (numbers_where is_shared course.cell) course) (acts-copied (numbers_where is_marked first.cell) first)
+acts-before course = record {
+  changes =
+      let first : Course = leaves_copied (numbers_where is_shared course.cell) course in
+      changes-on course first _ (changes-copied (numbers_where is_shared course.cell) course) (changes-copied (numbers_where is_marked first.cell) first);
+  stays = λ few n at lost.
+      let none = none-copied course.cell.kept few n at lost in
+      let same : leaves_copied (numbers_where is_shared course.cell) course ≡ course = ap (λ ns. leaves_copied ns course) none.0 in
+      ap (λ (it : Course). lost_there (kept_by it.cell.kept n))
+      (ap (λ (it : Course). leaves_copied (numbers_where is_marked it.cell) it) same ∙ ap (λ ns. leaves_copied ns course) none.1) ∙ lost;
+}
+
+-- an own leaf is not lost
+own-spares : (page version : ℕ) (it : Kept) (at : ℕ) → loss_at it.leaf ≡ Some at → names_version page version it ≡ false
+own-spares page version it at lost = by it.leaf refl
+  where
+    by : (leaf : Leaf) → it.leaf ≡ leaf → names_version page version it ≡ false
+    by Own is = absurd (false≢true (ap is_some (sym (ap loss_at is) ∙ lost)))
+    by Joined is = ap (λ leaf. is_own leaf && holds_number (version_at it.versions page) version) is
+    by (Lost here) is = ap (λ leaf. is_own leaf && holds_number (version_at it.versions page) version) is
 
 acts-copy : (page version : ℕ) (answer : Answer) (course : Course) → Acts course (page_copy_answered page version answer (behind_answer want.Page answer course))
 acts-copy page version Yes course = acts-alone course _ refl (told-more course.requests.deals _)
-acts-copy page version (No here) course =
-    acts-leaf (names_version page version) (Lost here) course _ refl (lost-told course.requests.deals want.Page here _)
-    (λ at told. told-more (course.requests.deals ++ Denied want.Page here ∷ []) _ at (told-more course.requests.deals _ at told))
+acts-copy page version (No here) course = record {
+  changes = changes-leaf (names_version page version) (Lost here) course _ refl (lost-told course.requests.deals want.Page here _)
+      (λ at told. told-more (course.requests.deals ++ Denied want.Page here ∷ []) _ at (told-more course.requests.deals _ at told));
+  stays = λ few n at lost. stays-leaf (names_version page version) (Lost here) (own-spares page version) course.cell.kept n at lost;
+}
 
 acts-present : (page version : ℕ) (named : Bool) (course : Course)
     → Acts course (cond named (page_copy_answered page version (coming_answer course) (asking want.Page course)) course)
@@ -241,15 +325,22 @@ goes-on from mid to one two = record {
       | inl before ↦ elim (one.keeps.losses n c at before) [ inl first ↦ inl first | inr told ↦ inr (two.told at told) ]
       | inr told ↦ inr told
     ];
+    stays = λ few n c at lost. two.keeps.stays (fewer few) n c at (one.keeps.stays few n c at lost);
   };
   told = λ at there. two.told at (one.told at there);
 }
+  where
+    fewer : AreFew from.leaves → AreFew mid.leaves
+    fewer few c =
+        let same : length (map (λ (it : Kept). it.number) (cell_at mid.leaves c).kept) ≡ length (map (λ (it : Kept). it.number) (cell_at from.leaves c).kept) = ap length (one.keeps.numbers c) in
+        omega (arith, few c, same, length-map (cell_at mid.leaves c).kept (λ (it : Kept). it.number), length-map (cell_at from.leaves c).kept (λ (it : Kept). it.number))
 
 -- leaves where each cell has the snapshots that it had, as they were
 keeps-same : (before after : Leaves) (deals : List Deal) → ((c : ℕ) → (cell_at after c).kept ≡ (cell_at before c).kept) → KeepsLeaves before after deals
 keeps-same before after deals same = record {
   numbers = λ c. ap (map (λ it. it.number)) (same c);
   losses = λ n c at lost. inl (sym (ap (λ kept. lost_there (kept_by kept n)) (same c)) ∙ lost);
+  stays = λ few n c at lost. ap (λ kept. lost_there (kept_by kept n)) (same c) ∙ lost;
 }
 
 goes-same : (from to : Progress) → ((c : ℕ) → (cell_at to.leaves c).kept ≡ (cell_at from.leaves c).kept)
@@ -261,19 +352,24 @@ goes-course : (c : ℕ) (course : Course) (progress : Progress) → Acts (course
 goes-course c course progress acts = record {
   keeps = record {
     numbers = λ q. elim (cases_eq q c) [
-      | inl here ↦ ap (map (λ it. it.number)) (kept-here progress.leaves c course.cell q here) ∙ acts.numbers
+      | inl here ↦ ap (map (λ it. it.number)) (kept-here progress.leaves c course.cell q here) ∙ acts.changes.numbers
           ∙ ap (λ q. map (λ it. it.number) (cell_at progress.leaves q).kept) (sym here)
       | inr apart ↦ ap (λ cell. map (λ it. it.number) cell.kept) (left-apart progress.leaves c course.cell q apart)
     ];
     losses = λ n q at lost. elim (cases_eq q c) [
-      | inl here ↦ elim (acts.losses n at (sym (ap (λ kept. lost_there (kept_by kept n)) (kept-here progress.leaves c course.cell q here)) ∙ lost)) [
+      | inl here ↦ elim (acts.changes.losses n at (sym (ap (λ kept. lost_there (kept_by kept n)) (kept-here progress.leaves c course.cell q here)) ∙ lost)) [
         | inl before ↦ inl (ap (λ q. lost_there (kept_by (cell_at progress.leaves q).kept n)) here ∙ before)
         | inr told ↦ inr told
       ]
       | inr apart ↦ inl (sym (ap (λ cell. lost_there (kept_by cell.kept n)) (left-apart progress.leaves c course.cell q apart)) ∙ lost)
     ];
+    stays = λ few n q at lost. elim (cases_eq q c) [
+      | inl here ↦ ap (λ kept. lost_there (kept_by kept n)) (kept-here progress.leaves c course.cell q here)
+          ∙ acts.stays (few c) n at (sym (ap (λ q. lost_there (kept_by (cell_at progress.leaves q).kept n)) here) ∙ lost)
+      | inr apart ↦ ap (λ cell. lost_there (kept_by cell.kept n)) (left-apart progress.leaves c course.cell q apart) ∙ lost
+    ];
   };
-  told = acts.told;
+  told = acts.changes.told;
 }
 
 -- ---- touch

@@ -1,6 +1,6 @@
 -- What a sound kernel is as a memory: it has no more pages than frames were made, and all that holds of a memory holds of it.
 use Rattle.std.proofs.Common.{◌≡◌, ℕ, zero, suc, ◌+◌, ◌*◌, ◌/◌, ◌%◌, ◌<◌, ◌≤◌, Bool, true, false, eqb, List, [], ◌∷◌, ◌++◌, map, length, length-append, Option, Some, None, refl, sym, ◌∙◌, ap, subst, arith, inl, inr, ◌⊎◌}
-use Rattle.std.specs.Prelude.{IsSome, is_some}
+use Rattle.std.specs.Prelude.{IsSome, is_some, IfSome}
 use Rattle.std.specs.Ordering.{nat_cmp}
 use Rattle.std.specs.Cmp.{nat_eq_equiv}
 use Rattle.std.specs.FinMap.{get, find, keys, len, get-empty}
@@ -180,6 +180,7 @@ module _ (parts : KernelParts) (notes : KernelNotes) (machine : Machine) (state 
         own = subst (λ memory. own_of memory ≤ notes.most) (sym seen-parent) sound.own;
         used = λ page there. seen-used parts.tables (sides_of state sound.stands.pages) tables (cell_of page) ∙ page-owned page (ap (λ present. is_some (get present page)) (sym pages) ∙ there);
         slots = omega (arith, seen-count parts.tables (sides_of state sound.stands.pages) tables, tables.slots_of.counted, count_by-le-length (λ (slot : Slot). is_some slot.owner) parts.tables.slots.items);
+        reached = λ some. tt;
         present = λ page ready. ap (λ present. is_some (get present page)) pages ∙ (seen-ready parts.tables (sides_of state sound.stands.pages) tables parts.areas page ready).1;
         writable = λ page ready. (seen-ready parts.tables (sides_of state sound.stands.pages) tables parts.areas page ready).2;
       }
@@ -208,6 +209,11 @@ IsFlat-prop memory a b = λ i. record {
   in_areas = λ page there. test-prop (is_some (area_of memory.areas page)) true (a.in_areas page there) (b.in_areas page there) i;
 }
 
+-- where something holds of what is told
+pub if-some-prop : {X : Type 0} (P : X → Type 0) (o : Option X) → ((x : X) → IsProp (P x)) → IsProp (IfSome o P)
+if-some-prop P None each = Unit-prop
+if-some-prop P (Some x) each = each x
+
 pub IsMemory-prop : (state : MemoryState) → IsProp (IsMemory state)
 IsMemory-prop state a b = λ i. record {
   flat = IsFlat-prop state.mem a.flat b.flat i;
@@ -215,6 +221,7 @@ IsMemory-prop state a b = λ i. record {
   own = le_prop a.own b.own i;
   used = λ page there. test-prop (set.contains state.used (cell_of page)) true (a.used page there) (b.used page there) i;
   slots = le_prop a.slots b.slots i;
+  reached = λ some. if-some-prop (λ enough. enough ≤ state.most) state.enough (λ enough. le_prop) (a.reached some) (b.reached some) i;
   present = λ page ready. test-prop (is_some (get state.mem.present page)) true (a.present page ready) (b.present page ready) i;
   writable = λ page ready. test-prop (is_read_only (area_of state.mem.areas page)) false (a.writable page ready) (b.writable page ready) i;
 }

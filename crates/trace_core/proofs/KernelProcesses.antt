@@ -1,12 +1,12 @@
 -- A fork and a reap of the kernel do what clauses know of a process, whatever state it stands for.
-use Rattle.std.proofs.Common.{◌≡◌, ℕ, ◌+◌, ◌<◌, ◌≤◌, ◌^◌, List, [], ◌∷◌, length, Option, Some, None, Result, Ok, Err, refl, sym, ◌∙◌, ap, subst, arith, inl, inr}
-use Rattle.std.specs.Prelude.{◌-◌, IsTrue, ◌==◌, OnOk, IfOk, OnErr, IfErr}
+use Rattle.std.proofs.Common.{◌≡◌, ℕ, ◌+◌, ◌<◌, ◌≤◌, ◌^◌, List, [], ◌∷◌, ◌++◌, length, Option, Some, None, Result, Ok, Err, refl, sym, ◌∙◌, ap, subst, arith, inl, inr}
+use Rattle.std.specs.Prelude.{◌-◌, ◌||◌, false, IsTrue, ◌==◌, OnOk, IfOk, OnErr, IfErr}
 use Rattle.std.specs.Option.{ForSome, IfSome}
 use Rattle.std.specs.Coded.{×_prop, le_prop}
 use Rattle.std.specs.Ordering.{nat_cmp}
 use Rattle.std.specs.FinMap.{len, len-empty}
 use Rattle.std.specs.List.{list_any}
-use Rattle.std.proofs.lemmas.Bool.{false≢true}
+use Rattle.std.proofs.lemmas.Bool.{false≢true, cases_eq, ne_eqb}
 use Rattle.std.proofs.Math.Logic.{∥∥₁_elim, ∥∥₁_map}
 use mathlib.Core.HLevel.{⊥_prop, ×₃_prop}
 use Rattle.vm_base.specs.declared.fork_mode.Mode.TheVariants.{Eager}
@@ -28,7 +28,10 @@ use Rattle.trace_core.specs.KernelState.{Machine, KernelState}
 use Rattle.trace_core.specs.EventMeaning.{fork_end, drop_end}
 use Rattle.trace_core.specs.KernelStanding.{KernelParts, KernelStands, EventRan}
 use Rattle.trace_core.specs.KernelRun.{Ran}
-use Rattle.trace_core.specs.KernelSeen.{KernelNotes, IsSound, IsKernelNoted, NotesHold, IsNoted, HasReached, remains_of, parent_of, memory_of, kernel_memory, live_numbers, children_of, kept_memory, kept_in}
+use Rattle.trace_core.specs.KernelWent.{KeepsChildren, AreGiven}
+use Rattle.trace_core.specs.WentOn.{goes_on-none}
+use Rattle.vm_base.specs.SnapshotState.{GoesOn}
+use Rattle.trace_core.specs.KernelSeen.{KernelNotes, IsSound, IsKernelNoted, NotesHold, IsNoted, HasReached, remains_of, parent_of, memory_of, kernel_memory, live_numbers, children_of, kept_memory, kept_in, nest_of}
 use Rattle.trace_core.proofs.ClauseProps.{number-prop, flat-prop, children-prop, MayFork-prop, AreChildren-prop, ForkFails-prop, KeepsReady-prop, LeavesAtReap-prop, Reaps-prop, known-kept}
 use Rattle.trace_core.proofs.FilledCells.{cells-filled}
 use Rattle.trace_core.proofs.ReachedEvents.{has-reached-behind}
@@ -59,6 +62,17 @@ none-there (Some kept) k few listed = past few
     past : 1 < 1 → ⊥
     past few = omega (arith, few)
 
+-- one that is forked where none lives is the only one
+one-new : (snapshot : Option SnapshotAreas) (k m : ℕ) → length (live_numbers snapshot) < 1 → IsListed k (live_numbers snapshot ++ m ∷ []) → m ≡ k
+one-new None k m few listed = elim (cases_eq m k) [
+  | inl same ↦ same
+  | inr apart ↦ absurd (false≢true (sym (ap (λ b. b || false) (ne_eqb m k apart)) ∙ listed))
+]
+one-new (Some kept) k m few listed = absurd (past few)
+  where
+    past : 1 < 1 → ⊥
+    past few = omega (arith, few)
+
 few-live : (snapshot : Option SnapshotAreas) → length (live_numbers snapshot) ≤ 1
 few-live None = omega arith
 few-live (Some kept) = omega arith
@@ -70,6 +84,17 @@ children_in parts = children_of parts.snapshot parts.last
 -- they are children
 pub known-children : (parts : KernelParts) (notes : KernelNotes) → ∥ IsKernelNoted parts notes ∥₁ → parts.last ≤ 4294967295 → AreChildren (children_in parts)
 known-children parts notes known last = ∥∥₁_elim known (AreChildren-prop (children_in parts)) (λ it. sound-children parts notes it.0 it.1.0 it.1.1 last)
+
+-- their numbers were given out
+pub known-given : (parts : KernelParts) (notes : KernelNotes) → ∥ IsKernelNoted parts notes ∥₁ → AreGiven parts
+known-given parts notes known n listed = ∥∥₁_elim known le_prop (λ it. by it.0 it.1.0 it.1.1 parts.snapshot refl listed)
+  where
+    by : (machine : Machine) (state : KernelState) → IsSound parts notes machine state → (snapshot : Option SnapshotAreas) → parts.snapshot ≡ snapshot → IsListed n (live_numbers snapshot) → n ≤ parts.last
+    by machine state sound None none lives = absurd (false≢true lives)
+    by machine state sound (Some kept) is lives =
+        let number = sound-number parts notes machine state sound kept is in
+        let same : kept.number ≡ n = one-new None n kept.number (omega arith) lives in
+        omega (arith, number.1, same)
 
 -- ---- a fork
 
@@ -203,8 +228,8 @@ module _ (old new : KernelParts) (notes later : KernelNotes) (n : ℕ) (known : 
         record { mem = same; most = its.noted.most }
 
     -- and keeps what each call keeps
-    pub fork-kept : IsNext old n → IsInBounds old.supply → HasReached new later → IsKept (kernel_memory old notes) (kernel_memory new later) []
-    fork-kept next bounds reached = told-kept (memory_of old notes.most) (memory_of new later.most) notes.enough later.enough its.noted.enough [] reached
+    pub fork-kept : IsNext old n → IsInBounds old.supply → HasReached old notes → HasReached new later → IsKept (kernel_memory old notes) (kernel_memory new later) []
+    fork-kept next bounds stood reached = told-kept (memory_of old notes.most) (memory_of new later.most) notes.enough later.enough its.noted.enough [] stood reached
         (subst (λ most. IsKept (memory_of old notes.most) (memory_of new most) []) (sym its.noted.most)
         (known-kept (memory_of old notes.most) (memory_of new notes.most) [] known (λ it.
         by-forked (λ a. IsKept (memory_of old notes.most) (memory_of new notes.most) [])
@@ -224,6 +249,51 @@ module _ (old new : KernelParts) (notes later : KernelNotes) (n : ℕ) (known : 
         let same : new ≡ old = its.full refl in
         let kept = its.noted.kept refl in
         (λ i. kept_in (same i).snapshot (kept.0 i), ap Some kept.1))
+
+    -- no number is used again, and what is told of a child that lives goes on: where one is forked none lived
+    pub fork-children : IsNext old n → KeepsChildren old notes new later
+    fork-children next = by-forked (λ a. KeepsChildren old notes new later)
+        (λ its. forked-only
+        (∥∥₁_elim known le_prop (λ it. (forked-may old new it.0 it.1.0 it.1.1.stands n Eager (its.ran it.0 it.1.0 it.1.1.stands) (next-below old n next)).place))
+        (∥∥₁_elim known (children-prop (children_in new) (after_fork (children_in old))) (λ it. forked-children old new it.0 it.1.0 it.1.1.stands n Eager (its.ran it.0 it.1.0 it.1.1.stands) next.1)))
+        (λ at its. unforked-only
+        (∥∥₁_elim known le_prop (λ it. (unforked-may old new it.0 it.1.0 it.1.1.stands n Eager at (its.ran it.0 it.1.0 it.1.1.stands) (next-below old n next)).place))
+        (∥∥₁_elim known (children-prop (children_in new) (children_in old)) (λ it. unforked-children old new it.0 it.1.0 it.1.1.stands n Eager at (its.ran it.0 it.1.0 it.1.1.stands))))
+        (λ its. full-only (its.full refl) (its.noted.kept refl).0)
+      where
+        forked-only : length (live_numbers old.snapshot) < 1 → children_in new ≡ after_fork (children_in old) → KeepsChildren old notes new later
+        forked-only few same =
+            let last : new.last ≡ old.last + 1 = ap (λ children. children.last) same in
+            let none : (k : ℕ) → k ≤ old.last → IsListed k (live_numbers new.snapshot) → ⊥ =
+                λ k old-one listed. above k old-one (one-new old.snapshot k (old.last + 1) few (subst (IsListed k) (ap (λ children. children.numbers) same) listed)) in
+            record {
+              last = omega (arith, last);
+              lived = λ k old-one listed. absurd (none k old-one listed);
+              goes_on = λ k old-one listed. absurd (none k old-one listed);
+            }
+          where
+            above : (k : ℕ) → k ≤ old.last → old.last + 1 ≡ k → ⊥
+            above k low same = omega (arith, low, same)
+
+        unforked-only : length (live_numbers old.snapshot) < 1 → children_in new ≡ children_in old → KeepsChildren old notes new later
+        unforked-only few same =
+            let last : new.last ≡ old.last = ap (λ children. children.last) same in
+            let none : (k : ℕ) → IsListed k (live_numbers new.snapshot) → ⊥ =
+                λ k listed. none-there old.snapshot k few (subst (IsListed k) (ap (λ children. children.numbers) same) listed) in
+            record {
+              last = omega (arith, last);
+              lived = λ k old-one listed. absurd (none k listed);
+              goes_on = λ k old-one listed. absurd (none k listed);
+            }
+
+        full-only : new ≡ old → later.forked ≡ notes.forked → KeepsChildren old notes new later
+        full-only same forked =
+            let last : new.last ≡ old.last = ap (λ parts. parts.last) same in
+            record {
+              last = omega (arith, last);
+              lived = λ k old-one listed. subst (λ parts. IsListed k (live_numbers parts.snapshot)) same listed;
+              goes_on = λ k old-one listed. subst (GoesOn (nest_of old notes k)) (λ i. nest_of (sym same i) (record notes { forked = sym forked i }) k) (goes_on-none (nest_of old notes k));
+            }
 
     -- ---- the kernel behind it
 
@@ -277,8 +347,8 @@ module _ (old new : KernelParts) (notes : KernelNotes) (n : ℕ) (known : ∥ Is
       drop-reap old new it.0 it.1.0 it.1.1.stands n outcome notes.most (ran it.0 it.1.0 it.1.1.stands) in
       record { mem = its.mem; most = its.most; refused = its.refused; keeps = its.keeps })
 
-  pub drop-kept : IsInBounds old.supply → HasReached new notes → IsKept (kernel_memory old notes) (kernel_memory new notes) []
-  drop-kept bounds reached = told-kept (memory_of old notes.most) (memory_of new notes.most) notes.enough notes.enough refl [] reached
+  pub drop-kept : IsInBounds old.supply → HasReached old notes → HasReached new notes → IsKept (kernel_memory old notes) (kernel_memory new notes) []
+  drop-kept bounds stood reached = told-kept (memory_of old notes.most) (memory_of new notes.most) notes.enough notes.enough refl [] stood reached
       (known-kept (memory_of old notes.most) (memory_of new notes.most) [] known (λ it.
       drop-keeps old new notes it.0 it.1.0 it.1.1 n bounds outcome (ran it.0 it.1.0 it.1.1.stands)))
 
@@ -293,6 +363,16 @@ module _ (old new : KernelParts) (notes : KernelNotes) (n : ℕ) (known : ∥ Is
     drop-unlisted k listed =
         let fewer : length (live_numbers new.snapshot) + 1 ≡ length (live_numbers old.snapshot) = drop-reaps.live in
         absurd (none-there new.snapshot k (omega (arith, fewer, few-live old.snapshot)) listed)
+
+    -- no number is used again, and no child lives of which more could be told
+    pub drop-children : KeepsChildren old notes new notes
+    drop-children =
+        let last : new.last ≡ old.last = drop-reaps.last in
+        record {
+          last = omega (arith, last);
+          lived = λ k old-one listed. drop-unlisted k listed;
+          goes_on = λ k old-one listed. drop-unlisted k listed;
+        }
 
     -- its number is one that was given out
     drop-counted : old.last ≤ 4294967295 → IsCounted n

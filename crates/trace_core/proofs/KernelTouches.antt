@@ -11,10 +11,12 @@ use Rattle.vm_base.specs.Places.{page_of, cells_of_range}
 use Rattle.vm_base.specs.FlatStep.{touch_of}
 use Rattle.vm_base.specs.MemoryState.{MemoryState, IsMemory, IsKept, own_of}
 use Rattle.vm_base.specs.MemoryCalls.{Touches, TouchFails, IsReady, after_store, if_slots}
+use Rattle.trace_events.specs.declared.outcome.Outcome.{Outcome}
+use Rattle.trace_events.specs.declared.outcome.Outcome.TheVariants.{Done, Bytes, Held, AreaRow, Copied, Nothing, Refused, Lost, NoArea, NoWrite, Overlap, AreasFull, CellsFull, NoFrame, TooMany, NoSnap}
 use Rattle.trace_core.specs.KernelState.{Machine, KernelState}
 use Rattle.trace_core.specs.EventMeaning.{touch_judged}
 use Rattle.trace_core.specs.KernelStanding.{KernelParts, KernelStands, EventRan, sides_of}
-use Rattle.trace_core.specs.KernelSeen.{KernelNotes, IsKernelNoted, HasReached, memory_of, kernel_memory, most_behind_touch}
+use Rattle.trace_core.specs.KernelSeen.{KernelNotes, IsKernelNoted, HasReached, memory_of, kernel_memory, most_answered, most_behind_touch}
 use Rattle.trace_core.proofs.ToldMemories.{telling, told-touches, told-fails, told-kept}
 use Rattle.page_tables.specs.declared.tables.PageTables.{PageTables}
 use Rattle.trace_core.specs.TouchAnswers.{touch_outcome, IsReadyKernel, LeavesReady, LacksPage, with_stored}
@@ -42,8 +44,8 @@ touches-none memory addr len none its =
     past first page low high = omega (arith, low, high)
 
 -- a memory keeps all when nothing happens
-pub kept-same : (memory : MemoryState) (cells : List ℕ) → memory.enough ≡ None → IsMemory memory → IsKept memory memory cells
-kept-same memory cells untold its = record {
+pub kept-same : (memory : MemoryState) (cells : List ℕ) → IsMemory memory → IsKept memory memory cells
+kept-same memory cells its = record {
   before = its;
   after = its;
   room = refl;
@@ -51,8 +53,27 @@ kept-same memory cells untold its = record {
   used = λ cell used. inl used;
   enough = refl;
   counted = omega arith;
-  reached = λ rose. subst (λ enough. IfSome enough (λ enough. enough ≤ memory.most)) (sym untold) tt;
+  grown = omega arith;
 }
+
+-- the most frames never fall
+pub answered-grows : (before : PageTables) (address n most : ℕ) (outcome : Outcome) → most ≤ most_answered before address n most outcome
+answered-grows before address n most Done = omega arith
+answered-grows before address n most (Bytes bytes) = omega arith
+answered-grows before address n most (Held held free) = omega arith
+answered-grows before address n most (AreaRow row) = omega arith
+answered-grows before address n most Copied = omega arith
+answered-grows before address n most Nothing = omega arith
+answered-grows before address n most (Refused at) = omega arith
+answered-grows before address n most (Lost at) = omega arith
+answered-grows before address n most (NoArea page) = omega arith
+answered-grows before address n most (NoWrite page) = omega arith
+answered-grows before address n most (Overlap page) = omega arith
+answered-grows before address n most AreasFull = omega arith
+answered-grows before address n most CellsFull = omega arith
+answered-grows before address n most (NoFrame at) = omega arith
+answered-grows before address n most TooMany = omega arith
+answered-grows before address n most NoSnap = omega arith
 
 -- ---- a touch
 
@@ -79,13 +100,17 @@ module _ (old new : KernelParts) (notes later : KernelNotes) (addr len : ℕ) (k
         let its = ran it.0 it.1.0 it.1.1.stands in
         (it.0, (its.after, touch-sound old new notes it.0 it.1.0 it.1.1 addr len (touch_outcome result) later most-noted forked its)))
 
+    -- the most frames never fall
+    touch-grows : notes.most ≤ later.most
+    touch-grows = subst (λ n. notes.most ≤ n) (sym noted) (answered-grows before addr len notes.most (touch_outcome result))
+
     -- it keeps what each call keeps
     pub touch-kept : later.forked ≡ notes.forked → TouchRan result → old.supply.out ≤ old.supply.made → new.supply.out ≤ new.supply.made
         → (count : ℕ) → count ≤ 2 ^ 64 - 1 → ((machine : Machine) (state : KernelState) → KernelStands old machine state → count ≡ state.world.refused)
-        → later.enough ≡ notes.enough → HasReached new later → IsKept (kernel_memory old notes) (kernel_memory new later) (cells_of_range addr len)
-    touch-kept forked ran within then count fits told enough reached = told-kept (memory_of old notes.most) (memory_of new later.most) notes.enough later.enough enough (cells_of_range addr len) reached (
+        → later.enough ≡ notes.enough → HasReached old notes → HasReached new later → IsKept (kernel_memory old notes) (kernel_memory new later) (cells_of_range addr len)
+    touch-kept forked ran within then count fits told enough stood reached = told-kept (memory_of old notes.most) (memory_of new later.most) notes.enough later.enough enough (cells_of_range addr len) stood reached (
         known-kept (memory_of old notes.most) (memory_of new later.most) (cells_of_range addr len) known (λ it.
-        touch-keeps old new notes it.0 it.1.0 it.1.1 addr len (touch_outcome result) later.most (ran it.0 it.1.0 it.1.1.stands)
+        touch-keeps old new notes it.0 it.1.0 it.1.1 addr len (touch_outcome result) later.most (ran it.0 it.1.0 it.1.1.stands) touch-grows
         (subst (λ n. n ≤ 2 ^ 64 - 1) (told it.0 it.1.0 it.1.1.stands ∙ sym it.1.1.stands.supply.refused) fits)
         (known-memory old notes known within) (known-memory new later (known-touched forked ran) then)))
 
@@ -146,8 +171,8 @@ module _ (old : KernelParts) (notes : KernelNotes) (addr : ℕ) (bytes : List �
 
     -- it keeps what each call keeps
     pub store-kept : new ≡ record old { tables = new.tables } → All (λ byte. byte < 256) bytes → old.supply.out ≤ old.supply.made → new.supply.out ≤ new.supply.made
-        → HasReached new notes → IsKept (kernel_memory old notes) (kernel_memory new notes) []
-    store-kept others fit within then reached = told-kept (memory_of old notes.most) (memory_of new notes.most) notes.enough notes.enough refl [] reached (
+        → HasReached old notes → HasReached new notes → IsKept (kernel_memory old notes) (kernel_memory new notes) []
+    store-kept others fit within then stood reached = told-kept (memory_of old notes.most) (memory_of new notes.most) notes.enough notes.enough refl [] stood reached (
         known-kept (memory_of old notes.most) (memory_of new notes.most) [] known (λ it.
         store-keeps old new notes it.0 it.1.0 it.1.1 addr bytes ready (stored it.0 it.1.0 it.1.1.stands) others
         (known-memory old notes known within) (known-memory new notes (known-stored fit) then)))

@@ -64,3 +64,5 @@ pub mod FilledCells
 pub mod ReachedFrames
 pub mod ReachedEvents
 pub mod KernelProcesses
+pub mod WentCalls
+pub mod HeldAlone

@@ -30,6 +30,7 @@ use Rattle.trace_core.specs.declared.snapshots.SnapshotFault.{SnapshotFault}
 use Rattle.trace_core.specs.declared.snapshots.SnapshotFault.TheVariants as fault
 use Rattle.trace_core.specs.KernelState.{Machine, KernelState}
 use Rattle.trace_core.specs.KernelStanding.{KernelParts, KernelStands, kept_number, sides_of}
+use Rattle.trace_core.specs.WentOn.{goes_on-none}
 use Rattle.trace_core.specs.KernelSeen.{KernelNotes, IsSound, IsKernelNoted, NotesHold, kept_memory, kept_in, nest_of}
 use Rattle.trace_core.specs.SnapshotAnswers.{snap_read_answer}
 use Rattle.trace_core.specs.TablesSeen.{lost_in}
@@ -216,13 +217,8 @@ module _ (parts : KernelParts) (notes : KernelNotes) (number : ℕ) (known : ∥
   -- a call that changes nothing keeps the snapshot
   pub nest-keeps : KeepsSnapshot (nest_of parts notes number) (nest_of parts notes number)
   nest-keeps = record {
-    mem = refl;
-    found = λ c at e. e;
+    goes_on = goes_on-none (nest_of parts notes number);
     cells = λ c at e. holds.cells c (∥∥₁_elim known (test-prop (is_some (slot_in parts.tables.snapshot c)) true) (λ it. slot-of-lost parts it.0 it.1.0 it.1.1.stands number c at e));
-    counted = omega arith;
-    todo = omega arith;
-    passed = λ passed. passed;
-    whole = λ whole. whole;
     unskipped = λ whole. refl;
   }
 

@@ -84,9 +84,9 @@ module _ (old new : KernelParts) (notes : KernelNotes) (machine : Machine) (stat
 
   -- what a touch keeps of a memory
   pub touch-keeps : (outcome : Outcome) (later : ℕ) → EventRan old new machine (λ answers. touch_judged machine state answers addr len (touch_of state.world.parent addr len)) outcome
-      → old.supply.refused ≤ 2 ^ 64 - 1 → IsMemory (memory_of old notes.most) → IsMemory (memory_of new later)
+      → notes.most ≤ later → old.supply.refused ≤ 2 ^ 64 - 1 → IsMemory (memory_of old notes.most) → IsMemory (memory_of new later)
       → IsKept (memory_of old notes.most) (memory_of new later) (cells_of_range addr len)
-  touch-keeps outcome later ran fits before after =
+  touch-keeps outcome later ran grown fits before after =
       let on : LeadOn old.supply.policies state.named state.made [] old.supply ran.deals new.supply =
       deals_lead_on old.supply.policies state.named state.made [] old.supply new.supply ran.deals sound.stands.supply.pending (no_request_has_led old.supply.made old.supply.policies) ran.led in
       record {
@@ -97,7 +97,7 @@ module _ (old new : KernelParts) (notes : KernelNotes) (machine : Machine) (stat
         used = used-seen old new machine state addr len notes.most later outcome sound.stands ran;
         enough = refl;
         counted = subst (λ count. old.supply.refused ≤ count) (sym on.refused) (count-grows old.supply.refused ran.deals fits);
-        reached = λ rose. tt;
+        grown = grown;
       }
 
 -- ---- behind a store
@@ -131,5 +131,5 @@ module _ (old new : KernelParts) (notes : KernelNotes) (machine : Machine) (stat
         used = λ cell used. inl used;
         enough = refl;
         counted = omega arith;
-        reached = λ rose. tt;
+        grown = omega arith;
       })

@@ -16,8 +16,17 @@ use Rattle.vm_base.specs.ProcessState.{Children, ForkFails, LeavesMemory, Leaves
 abbrev pub telling : Option ℕ → MemoryState → MemoryState
 telling enough memory = record memory { enough = enough }
 
-pub told-memory : (enough : Option ℕ) (memory : MemoryState) → IsMemory memory → IsMemory (telling enough memory)
-told-memory enough memory it = record {
+-- where it is told that so many are enough, this many are no fewer
+pub if-told : (enough : Option ℕ) (P : ℕ → Type 0) → ForSome enough P → IfSome enough P
+if-told None P each = tt
+if-told (Some n) P each = each n refl
+
+-- once a request was refused, as many frames as are told to be enough were had or asked for
+abbrev pub ToldReached : Option ℕ → MemoryState → Type 0
+ToldReached enough memory = 0 < memory.refused → ForSome enough (λ enough. enough ≤ memory.most)
+
+pub told-memory : (enough : Option ℕ) (memory : MemoryState) → ToldReached enough memory → IsMemory memory → IsMemory (telling enough memory)
+told-memory enough memory reached it = record {
   flat = it.flat;
   room = it.room;
   own = it.own;
@@ -25,16 +34,8 @@ told-memory enough memory it = record {
   slots = it.slots;
   present = it.present;
   writable = it.writable;
+  reached = λ some. if-told enough (λ enough. enough ≤ memory.most) (reached some);
 }
-
--- where it is told that so many are enough, this many are no fewer
-pub if-told : (enough : Option ℕ) (P : ℕ → Type 0) → ForSome enough P → IfSome enough P
-if-told None P each = tt
-if-told (Some n) P each = each n refl
-
--- a count that rose is above 0
-rose-some : (old new : ℕ) → Rose old new → 0 < new
-rose-some old new rose = omega (arith, rose)
 
 module _ (old new : MemoryState) (before after : Option ℕ) (same : after ≡ before) where
   -- in terms of the one that was told before
@@ -85,16 +86,16 @@ module _ (old new : MemoryState) (before after : Option ℕ) (same : after ≡ b
   told-refuses answer (Ok done) it = tt
   told-refuses answer (Err why) it = refuses-told answer why it
 
-  pub told-kept : (cells : List ℕ) → (0 < new.refused → ForSome after (λ enough. enough ≤ new.most)) → IsKept old new cells → IsKept (telling before old) (telling after new) cells
-  told-kept cells reached it = record {
-    before = told-memory before old it.before;
-    after = told-memory after new it.after;
+  pub told-kept : (cells : List ℕ) → ToldReached before old → ToldReached after new → IsKept old new cells → IsKept (telling before old) (telling after new) cells
+  told-kept cells stood reached it = record {
+    before = told-memory before old stood it.before;
+    after = told-memory after new reached it.after;
     room = it.room;
     slots = it.slots;
     used = it.used;
     enough = same;
     counted = it.counted;
-    reached = λ rose. if-told before (λ enough. enough ≤ new.most) (subst (λ told. ForSome told (λ enough. enough ≤ new.most)) same (reached (rose-some old.refused new.refused rose)));
+    grown = it.grown;
   }
 
   pub told-leaves : LeavesMemory old new → LeavesMemory (telling before old) (telling after new)

@@ -1,6 +1,6 @@
 -- The kernel as the house of its snapshot: what stands beside a snapshot tells all that the kernel tells of itself.
 use Rattle.std.proofs.Common.{◌≡◌, ℕ, Option, Some, None, inl, inr, refl, ap, eqb, arith}
-use Rattle.std.specs.Prelude.{◌⊎◌, Bool, true, false, IsTrue, IsSome, ◌==◌, ◌||◌, ◌↔◌}
+use Rattle.std.specs.Prelude.{◌<◌, ◌⊎◌, Bool, true, false, IsTrue, IsSome, ◌==◌, ◌||◌, ◌↔◌}
 use Rattle.std.proofs.Math.Logic.{∥∥₁_map}
 use Rattle.std.proofs.lemmas.Bool.{false≢true}
 use Rattle.std.proofs.lemmas.Bool.Decides.{nat_tests}
@@ -9,7 +9,9 @@ use Rattle.vm_base.specs.MemoryState.{IsIn, IsListed}
 use Rattle.kernel_meaning.specs.Leaves.{holds_number}
 use Rattle.trace_core.specs.declared.parts.SnapshotAreas.{SnapshotAreas}
 use Rattle.trace_core.specs.declared.process.SoloChild.{SoloChild}
-use Rattle.trace_core.specs.KernelStanding.{KernelParts, kept_number}
+use Rattle.trace_core.specs.KernelStanding.{KernelParts, kept_number, copies_refused_in}
+use Rattle.trace_core.specs.KernelWent.{KeepsChildren, AreGiven}
+use Rattle.vm_base.specs.SnapshotState.{GoesOn}
 use Rattle.trace_core.specs.KernelSeen.{KernelNotes, BesideChild, live_numbers, kernel_memory, kept_in, nest_of, AreSlotsUsed}
 
 -- it tells the kernel's memory
@@ -55,3 +57,13 @@ lives_numbered (Some kept) n = (λ held. (listed (kept.number == n) held, refl),
     held : (b : Bool) → (b || false) ≡ true → b ≡ true
     held true e = refl
     held false e = e
+
+-- what is told of a snapshot that lived and still lives goes on
+pub went_child : (old new : KernelParts) (notes later : KernelNotes) → AreGiven old → KeepsChildren old notes new later → (n : ℕ)
+    → IsTrue (holds_number (kept_number old.snapshot) n) → IsTrue (holds_number (kept_number new.snapshot) n) → GoesOn (nest_of old notes n) (nest_of new later n)
+went_child old new notes later given keeps n lived lives =
+    keeps.goes_on n (given n (((lives_numbered old.snapshot n).0 lived).0)) ((lives_numbered new.snapshot n).0 lives).0
+
+-- no copy was refused
+pub none_refused : {P : Type 0} (parts : KernelParts) → copies_refused_in parts.snapshot ≡ 0 → 0 < copies_refused_in parts.snapshot → P
+none_refused parts none some = absurd (omega (arith, none, some))

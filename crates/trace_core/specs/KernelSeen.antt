@@ -14,6 +14,7 @@ use Rattle.trace_events.specs.declared.event.Event.{Event}
 use Rattle.trace_events.specs.declared.event.Event.TheVariants.{Write, Fill, Fork, Refuse}
 use Rattle.trace_events.specs.declared.outcome.Outcome.{Outcome}
 use Rattle.trace_events.specs.declared.outcome.Outcome.TheVariants.{Done, NoFrame}
+use Rattle.frame_pool.specs.Policies.{PolicyView}
 use Rattle.page_tables.specs.declared.tables.PageTables.{PageTables}
 use Rattle.page_tables.specs.Standing.{slot_count, slot_in}
 use Rattle.vm_base.specs.declared.faults.Fault.{Fault}
@@ -22,7 +23,7 @@ use Rattle.vm_base.specs.declared.faults.ForkFault.TheVariants.{TooMany as TooMa
 use Rattle.trace_core.specs.declared.parts.SnapshotAreas.{SnapshotAreas}
 use Rattle.trace_core.specs.TouchAnswers.{touch_outcome}
 use Rattle.trace_core.specs.KernelState.{Machine, KernelState}
-use Rattle.trace_core.specs.KernelStanding.{KernelParts, KernelStands}
+use Rattle.trace_core.specs.KernelStanding.{KernelParts, KernelStands, KeptAreas, areas_in, copies_refused_in}
 use Rattle.trace_core.specs.SupplyState.{state_of}
 use Rattle.trace_core.specs.TablesSeen.{pages_in, used_in, ready_in, lost_in}
 use Rattle.trace_core.specs.declared.parts.Parts.{Parts}
@@ -34,20 +35,24 @@ pages_of tables = pages_in tables.slots.items
 
 -- ---- what a kernel is read off
 
--- the parts of a kernel, whatever the policies of its pool are
-abbrev pub parts_of : {Policy : Type 0} {IsPolicy : Policy → Type 0} → Parts Policy IsPolicy → KernelParts
-parts_of parts = record {
+-- the parts of a kernel whose pool has these policies
+abbrev pub parts_with : {Policy : Type 0} {IsPolicy : Policy → Type 0} → Parts Policy IsPolicy → List PolicyView → KernelParts
+parts_with parts policies = record {
   areas = parts.areas;
   tables = parts.tables;
   supply = state_of (record {
     made = parts.supply.pool.stack.made;
     free = parts.supply.pool.stack.free;
     asks = parts.supply.pool.asks;
-    policies = [];
+    policies = policies;
   }) parts.supply.asker parts.supply.refused parts.supply.pending;
   snapshot = parts.snapshot;
   last = parts.last;
 }
+
+-- the parts of a kernel, whatever the policies of its pool are
+abbrev pub parts_of : {Policy : Type 0} {IsPolicy : Policy → Type 0} → Parts Policy IsPolicy → KernelParts
+parts_of parts = parts_with parts []
 
 -- what contracts alone know of a kernel: the most frames of its own that it has had, or that a touch has asked for; of the snapshot that lives, the tables and the refused requests at its fork; and how many frames are enough, if told
 pub record KernelNotes : Type 0 where
@@ -109,42 +114,49 @@ opening_memory frames slots enough = record {
 
 -- what stands beside a kernel's memory: the snapshot that lives, the number that was given out last, and for the snapshot the tables at its fork and the refused requests then
 pub record BesideMemory : Type 0 where
-  pub snapshot : Option SnapshotAreas
+  pub snapshot : Option KeptAreas
   pub last : ℕ
   pub forked : PageTables
   pub born : ℕ
 
 -- the same of these parts and notes
 abbrev pub beside_of : KernelParts → KernelNotes → BesideMemory
-beside_of parts notes = record { snapshot = parts.snapshot; last = parts.last; forked = notes.forked; born = notes.born }
+beside_of parts notes = record { snapshot = areas_in parts.snapshot; last = parts.last; forked = notes.forked; born = notes.born }
+
+-- the number of a snapshot, if there is one
+abbrev pub numbers_among : Option KeptAreas → List ℕ
+numbers_among None = []
+numbers_among (Some kept) = kept.number ∷ []
 
 -- the number of the snapshot that lives, if one does
 abbrev pub live_numbers : Option SnapshotAreas → List ℕ
-live_numbers None = []
-live_numbers (Some kept) = kept.number ∷ []
+live_numbers snapshot = numbers_among (areas_in snapshot)
 
 -- the children: one may live
-abbrev pub children_of : Option SnapshotAreas → ℕ → Children
-children_of snapshot last = record {
-  numbers = live_numbers snapshot;
-  live = length (live_numbers snapshot);
+abbrev pub children_among : Option KeptAreas → ℕ → Children
+children_among snapshot last = record {
+  numbers = numbers_among snapshot;
+  live = length (numbers_among snapshot);
   last = last;
   limit = 1;
 }
+
+-- the children of a kernel whose snapshot this is
+abbrev pub children_of : Option SnapshotAreas → ℕ → Children
+children_of snapshot last = children_among (areas_in snapshot) last
 
 -- the memory of a snapshot, from the tables at its fork
 abbrev pub kept_memory : SnapshotAreas → PageTables → FlatMemory
 kept_memory kept forked = record { areas = kept.areas; present = pages_of forked }
 
--- the same of the one that lives, and no page where none does
-abbrev pub kept_in : Option SnapshotAreas → PageTables → FlatMemory
-kept_in None forked = empty_memory
-kept_in (Some kept) forked = kept_memory kept forked
+-- the same of one of which this is told, and no page where there is none
+abbrev pub memory_among : Option KeptAreas → PageTables → FlatMemory
+memory_among None forked = empty_memory
+memory_among (Some kept) forked = record { areas = kept.areas; present = pages_of forked }
 
--- its refused copies
-abbrev pub copies_refused_in : Option SnapshotAreas → ℕ
-copies_refused_in None = 0
-copies_refused_in (Some kept) = kept.refused
+-- the memory of the one that lives
+abbrev pub kept_in : Option SnapshotAreas → PageTables → FlatMemory
+kept_in snapshot forked = memory_among (areas_in snapshot) forked
 
 -- what is left of a snapshot: what it has lost is told by the kernel as long as it lives, and not by what is left
 abbrev pub remains_of : ℕ → Remains

@@ -37,10 +37,29 @@ abbrev pub kept_counts : Option SnapshotAreas → FinMap nat_cmp ℕ
 kept_counts None = empty
 kept_counts (Some kept) = insert empty kept.number kept.refused
 
--- its number, if one lives
+-- the refused copies of the snapshot that lives
+abbrev pub copies_refused_in : Option SnapshotAreas → ℕ
+copies_refused_in None = 0
+copies_refused_in (Some kept) = kept.refused
+
+-- of a snapshot that lives, what no copy changes: its number and its areas
+pub record KeptAreas : Type 0 where
+  pub number : ℕ
+  pub areas : List Area
+
+-- the same of the one that lives
+abbrev pub areas_in : Option SnapshotAreas → Option KeptAreas
+areas_in None = None
+areas_in (Some kept) = Some (record { number = kept.number; areas = kept.areas })
+
+-- the number of a snapshot, if there is one
+abbrev pub number_among : Option KeptAreas → Option ℕ
+number_among None = None
+number_among (Some kept) = Some kept.number
+
+-- the number of the snapshot that lives, if one does
 abbrev pub kept_number : Option SnapshotAreas → Option ℕ
-kept_number None = None
-kept_number (Some kept) = Some kept.number
+kept_number snapshot = number_among (areas_in snapshot)
 
 -- what the page tables stand for
 abbrev pub sides_of : KernelState → FinMap nat_cmp PageMap → Sides

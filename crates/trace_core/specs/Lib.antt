@@ -13,3 +13,5 @@ pub mod SnapshotAnswers
 pub mod TouchAnswers
 pub mod CallAnswers
 pub mod Housed
+pub mod KernelWent
+pub mod WentOn

@@ -1,5 +1,6 @@
 //! The kernel: its parts, which stand for the state of a run.
-ghost use Rattle.std.specs.Prelude.{◌≡◌, ◌≤◌, ◌+◌, IfOk, OnErr, List, ℕ, map, [], ◌∷◌, ◌++◌, length};
+ghost use Rattle.std.specs.Prelude.{◌≡◌, ◌≤◌, ◌+◌, IfOk, OnErr, List, ℕ, map, [], ◌∷◌, ◌++◌, length, None};
+ghost use Rattle.vm_base.specs.MemoryState.{own_of};
 ghost use Rattle.std.specs.Option.{ForSome};
 ghost use Rattle.trace_events.specs.declared.event.Event.{Event};
 ghost use Rattle.trace_events.specs.declared.outcome.Outcome.{Outcome};
@@ -11,6 +12,7 @@ ghost use Rattle.trace_core.specs.SupplyState.{state_of, opening_supply, policy_
 ghost use Rattle.trace_core.specs.KernelState.{Machine, KernelState, opening_state};
 ghost use Rattle.trace_core.specs.KernelRun.{Ran, HasRun};
 ghost use Rattle.trace_core.specs.KernelStanding.{KernelStands};
+ghost use Rattle.trace_core.specs.KernelWent.{AreGiven};
 ghost use Rattle.trace_core.specs.KernelSeen.{KernelNotes, IsKernelNoted, IsNoted, NotesHold, AreSlotsUsed, HasReached, parts_of, notes_of, kernel_memory, opening_memory, enough_of};
 
 use crate::notes::Notes;
@@ -34,6 +36,8 @@ pub struct Kernel {
     ghost slotted: { AreSlotsUsed (parts_of parts) (notes_of notes) },
     /// Once a request was refused, as many frames were had or asked for as are enough.
     ghost reached: { HasReached (parts_of parts) (notes_of notes) },
+    /// The number of a snapshot that lives was given out.
+    ghost given: { AreGiven (parts_of parts) },
     /// Where it is told how many are enough, no policy may refuse a request.
     ghost plain: { ForSome notes.enough.value (λ enough. length parts.supply.pool.policies.items ≡ 0) },
 }
@@ -125,6 +129,10 @@ impl Kernel {
     pub fn held(&self) -> u32
         ensures held { (machine : Machine) (state : KernelState) → KernelStands (⟦<Kernel as Standing>⟧.parts self.now) machine state
             → result ≡ held_frames state.leaves }
+
+        // Where no snapshot lives, they are those of the parent's own memory.
+        ensures alone { (⟦<Kernel as Standing>⟧.parts self.now).snapshot ≡ None
+            → result ≡ own_of (⟦<Kernel as Memory>⟧.state self.now).mem }
     {
         self.parts.held()
     }

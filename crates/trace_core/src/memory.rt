@@ -9,13 +9,26 @@ use std::snapshot::Snapshot;
 use vm_base::{Fault, Memory, Perm};
 
 impl Memory for Kernel {
-    ghost use Rattle.trace_core.specs.KernelSeen.{BesideMemory, beside_of, kernel_memory, parts_of, notes_of};
+    ghost use Rattle.std.specs.Prelude.{map};
+    ghost use Rattle.trace_core.specs.KernelWent.{KernelWent};
+    ghost use Rattle.trace_core.specs.WentOn.{went-none, went-on};
+    ghost use Rattle.trace_core.specs.KernelSeen.{BesideMemory, beside_of, kernel_memory, parts_of, parts_with, notes_of};
 
     ghost Aside = { BesideMemory };
 
     ghost aside = { λ kernel. beside_of (parts_of kernel.parts) (notes_of kernel.notes) };
 
     ghost state = { λ kernel. kernel_memory (parts_of kernel.parts) (notes_of kernel.notes) };
+
+    // Each request since was answered as it may be, each asker's count rose by its own refused
+    // ones, and what is told of a snapshot that lives goes on.
+    ghost went = { λ old new. KernelWent
+        (parts_with old.parts (map (λ b. (FramePolicy-box b).told b.value) old.parts.supply.pool.policies.items)) (notes_of old.notes)
+        (parts_with new.parts (map (λ b. (FramePolicy-box b).told b.value) new.parts.supply.pool.policies.items)) (notes_of new.notes) };
+
+    ghost went_none = { λ p. went-none _ (notes_of p.notes) p.given };
+
+    ghost went_on = { λ p q r one two. went-on _ _ _ _ _ _ one two };
 
     fn read(&mut self, addr: u64, buf: &mut [u8]) -> Result<(), Fault> {
         if buf.is_empty() {

@@ -7,8 +7,11 @@ use crate::snapshots::SnapshotFault;
 use vm_base::{CopyFault, Housing, Nest, SnapFault, Step};
 
 impl Nest for Kernel {
-    ghost use Rattle.trace_core.specs.KernelSeen.{BesideChild, beside_of, kernel_memory, nest_of, parts_of, notes_of};
-    ghost use Rattle.trace_core.specs.KernelStanding.{kept_number};
+    ghost use Rattle.std.specs.Prelude.{map};
+    ghost use Rattle.trace_core.specs.KernelWent.{KernelWent};
+    ghost use Rattle.trace_core.specs.WentOn.{went-none, went-on};
+    ghost use Rattle.trace_core.specs.KernelSeen.{BesideChild, beside_of, kernel_memory, nest_of, parts_of, parts_with, notes_of};
+    ghost use Rattle.trace_core.specs.KernelStanding.{number_among};
     ghost use Rattle.kernel_meaning.specs.Leaves.{holds_number};
 
     type Child = SoloChild;
@@ -21,13 +24,21 @@ impl Nest for Kernel {
       number = child.number;
     } };
 
-    ghost lives = { λ beside. holds_number (kept_number beside.beside.snapshot) beside.number };
+    ghost lives = { λ beside. holds_number (number_among beside.beside.snapshot) beside.number };
 
     ghost born = { λ beside. beside.beside.born };
 
     ghost refused = { λ beside. beside.memory.refused };
 
     ghost nested = { λ kernel child. nest_of (parts_of kernel.parts) (notes_of kernel.notes) child.number };
+
+    ghost went = { λ old new. KernelWent
+        (parts_with old.parts (map (λ b. (FramePolicy-box b).told b.value) old.parts.supply.pool.policies.items)) (notes_of old.notes)
+        (parts_with new.parts (map (λ b. (FramePolicy-box b).told b.value) new.parts.supply.pool.policies.items)) (notes_of new.notes) };
+
+    ghost went_none = { λ p. went-none _ (notes_of p.notes) p.given };
+
+    ghost went_on = { λ p q r one two. went-on _ _ _ _ _ _ one two };
 
     fn child_read(
         &mut self,
@@ -57,7 +68,7 @@ impl Nest for Kernel {
 
 impl Housing for Kernel {
     ghost use Rattle.trace_core.specs.KernelSeen.{parts_of, notes_of};
-    ghost use Rattle.trace_core.specs.Housed.{same_memory, same_beside, same_child, used_there, lives_numbered};
+    ghost use Rattle.trace_core.specs.Housed.{same_memory, same_beside, same_child, used_there, lives_numbered, went_child, none_refused};
     ghost use Rattle.std.proofs.Common.{refl};
 
     ghost state_beside = { λ p q c d same. same_memory same };
@@ -75,6 +86,12 @@ impl Housing for Kernel {
     ghost found_since = { λ p c lives cell at found. p.held.since c.number cell at found };
 
     ghost used_there = { λ p cell used. used_there (parts_of p.parts) (notes_of p.notes) p.slotted cell used };
+
+    ghost went_nest = { λ p q went. went };
+
+    ghost went_child = { λ p q c went lived lives. went_child _ _ _ _ p.given went.children c.number lived lives };
+
+    ghost copies_reached = { λ p c lives refused. none_refused (parts_of p.parts) p.parts.uncopied refused };
 
     ghost lives_numbered = { λ p c. lives_numbered p.parts.snapshot c.number };
 }

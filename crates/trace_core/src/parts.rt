@@ -4,7 +4,7 @@ ghost use Rattle.frame_pool.specs.Policies.{standing};
 ghost use Rattle.trace_core.specs.SupplyState.{state_of, opening_supply, policy_sum};
 ghost use Rattle.trace_core.specs.KernelState.{opening_state};
 ghost use Rattle.trace_core.specs.KernelRun.{HasRun};
-ghost use Rattle.trace_core.specs.KernelStanding.{KernelParts, KernelStands};
+ghost use Rattle.trace_core.specs.KernelStanding.{KernelParts, KernelStands, copies_refused_in};
 
 use crate::supply::Supply;
 use area_list::Areas;
@@ -38,6 +38,8 @@ pub(crate) struct Parts {
 
     ghost room: { 1025 ≤ vec_capacity added },
     ghost numbered: { last ≤ 4294967295 },
+    /// All is copied at a fork, so no copy of the snapshot was ever refused.
+    ghost uncopied: { copies_refused_in snapshot ≡ 0 },
 }
 
 /// What clauses may know of a value with a kernel in it.

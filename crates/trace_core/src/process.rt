@@ -17,7 +17,7 @@ pub struct SoloChild {
 
 impl Process for Kernel {
     ghost use Rattle.std.specs.Prelude.{Some};
-    ghost use Rattle.trace_core.specs.KernelSeen.{BesideMemory, beside_of, parts_of, notes_of, children_of, kept_in, remains_of};
+    ghost use Rattle.trace_core.specs.KernelSeen.{BesideMemory, beside_of, parts_of, notes_of, children_among, memory_among, remains_of};
 
     type Child = SoloChild;
 
@@ -32,9 +32,9 @@ impl Process for Kernel {
 
     ghost home = { λ beside. tt };
 
-    ghost children = { λ beside. children_of beside.snapshot beside.last };
+    ghost children = { λ beside. children_among beside.snapshot beside.last };
 
-    ghost kept = { λ beside child. kept_in beside.snapshot beside.forked };
+    ghost kept = { λ beside child. memory_among beside.snapshot beside.forked };
 
     ghost born = { λ beside child. Some beside.born };
 

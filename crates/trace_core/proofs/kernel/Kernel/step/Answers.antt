@@ -8,6 +8,7 @@ use Rattle.trace_core.proofs.FilledCells.{cells-filled, filled-step}
 use Rattle.trace_core.proofs.PlainPools.{step-empty, step-told, plain-still, plain-empty}
 use Rattle.trace_core.proofs.ReachedEvents.{reached-step}
 use Rattle.trace_core.proofs.UsedCells.{used-there}
+use Rattle.trace_core.proofs.KernelProcesses.{known-given}
 use Rattle.trace_core.proofs.kernel.Kernel.step.Goals as goal
 
 pub step-answer-requires-clause-stands : goal.step-answer-requires-clause-stands
@@ -42,3 +43,6 @@ invariant_of-self-2-clause-reached g c =
 
 pub invariant_of-self-2-clause-slotted : goal.invariant_of-self-2-clause-slotted
 invariant_of-self-2-clause-slotted g c = used-there _ _ (invariant_of-self-2-clause-stood g c) (invariant_of-self-2-clause-held g c)
+
+pub invariant_of-self-2-clause-given : goal.invariant_of-self-2-clause-given
+invariant_of-self-2-clause-given g c = known-given _ _ (invariant_of-self-2-clause-stood g c)

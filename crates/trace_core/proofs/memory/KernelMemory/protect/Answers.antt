@@ -1,4 +1,4 @@
-use Rattle.std.proofs.Common.{arith}
+use Rattle.std.proofs.Common.{arith, refl}
 use Rattle.trace_core.proofs.Stood.{known-under}
 use Rattle.trace_core.proofs.SoundSteps.{known-noted, noted-under}
 use Rattle.trace_core.specs.CallAnswers.{area_outcome}
@@ -8,6 +8,8 @@ use Rattle.trace_core.proofs.ReachedEvents.{protect-reached}
 use Rattle.trace_core.proofs.PlainPools.{ran-empty, plain-still, plain-empty}
 use Rattle.trace_core.proofs.AreaCalls.{unless-done, protect-known, protect-granted, protect-refused, protect-keeps}
 use Rattle.trace_core.proofs.UsedCells.{used-there}
+use Rattle.trace_core.proofs.WentCalls.{protect-went}
+use Rattle.trace_core.proofs.KernelProcesses.{known-given}
 use Rattle.trace_core.proofs.memory.KernelMemory.protect.Goals as goal
 
 pub protect-requires-clause-stands : goal.protect-requires-clause-stands
@@ -39,8 +41,17 @@ returns-clause-fault g c =
 
 pub returns-clause-keeps : goal.returns-clause-keeps
 returns-clause-keeps g c =
-    protect-keeps _ _ _ c.args.first c.args.pages c.args.perm (noted-under _ _ _ c.args.self.now.stood) (area_outcome c.protect.result) c.protect.ensures.ran (omega arith) c.args.self.now.parts.supply.refused c.args.self.now.parts.supply.counted (λ machine state st. st.supply.refused) c.requires.some c.requires.within (protect-reached _ _ (notes_of c.args.self.now.notes) (noted-under _ _ _ c.args.self.now.stood) (under-holds _ _ _ c.args.self.now.held) (plain-empty _ _ _ c.args.self.now.plain) c.args.self.now.reached
+    protect-keeps _ _ _ c.args.first c.args.pages c.args.perm (noted-under _ _ _ c.args.self.now.stood) (area_outcome c.protect.result) c.protect.ensures.ran (omega arith) c.args.self.now.parts.supply.refused c.args.self.now.parts.supply.counted (λ machine state st. st.supply.refused) c.requires.some c.requires.within c.args.self.now.reached (protect-reached _ _ (notes_of c.args.self.now.notes) (noted-under _ _ _ c.args.self.now.stood) (under-holds _ _ _ c.args.self.now.held) (plain-empty _ _ _ c.args.self.now.plain) c.args.self.now.reached
     c.args.first c.args.pages c.args.perm (area_outcome c.protect.result) c.protect.ensures.ran)
 
 pub invariant_of-self-clause-slotted : goal.invariant_of-self-clause-slotted
 invariant_of-self-clause-slotted g c = used-there _ _ (invariant_of-self-clause-stood g c) (invariant_of-self-clause-held g c)
+
+pub invariant_of-self-clause-given : goal.invariant_of-self-clause-given
+invariant_of-self-clause-given g c = known-given _ _ (invariant_of-self-clause-stood g c)
+
+pub returns-clause-went : goal.returns-clause-went
+returns-clause-went g c =
+    protect-went _ _ (notes_of c.args.self.now.notes) (notes_of c.args.self.now.notes)
+    (record { known = noted-under _ _ _ c.args.self.now.stood; snapshot = c.protect.ensures.beside.0; last = c.protect.ensures.beside.1; forked = refl; copied = c.args.self.now.parts.uncopied })
+    c.args.first c.args.pages c.args.perm (area_outcome c.protect.result) c.protect.ensures.ran

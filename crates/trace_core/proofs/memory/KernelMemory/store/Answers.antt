@@ -6,6 +6,8 @@ use Rattle.trace_core.proofs.HeldNotes.{store-holds, holds-under, under-holds}
 use Rattle.trace_core.proofs.PlainPools.{plain-still}
 use Rattle.trace_core.proofs.KernelTouches.{bytes-fit, known-ready, known-stored, store-stores, store-kept}
 use Rattle.trace_core.proofs.UsedCells.{used-there}
+use Rattle.trace_core.proofs.WentCalls.{store-went}
+use Rattle.trace_core.proofs.KernelProcesses.{known-given}
 use Rattle.trace_core.proofs.memory.KernelMemory.store.Goals as goal
 
 -- src/memory.rt:65:9
@@ -40,7 +42,14 @@ returns-clause-stored g c =
 pub returns-clause-keeps : goal.returns-clause-keeps
 returns-clause-keeps g c =
     store-kept _ _ c.args.addr c.args.bytes.now (noted-under _ _ _ c.args.self.now.stood) c.requires.ready _ c.store.ensures.stored c.store.ensures.others
-    (bytes-fit c.args.bytes.now c.type_inv.bytes) (omega arith) (omega arith) (λ rose. c.args.self.now.reached (subst (λ count. 0 < count) (ap (λ parts. parts.supply.refused) c.store.ensures.others) rose))
+    (bytes-fit c.args.bytes.now c.type_inv.bytes) (omega arith) (omega arith) c.args.self.now.reached (λ rose. c.args.self.now.reached (subst (λ count. 0 < count) (ap (λ parts. parts.supply.refused) c.store.ensures.others) rose))
 
 pub invariant_of-self-clause-slotted : goal.invariant_of-self-clause-slotted
 invariant_of-self-clause-slotted g c = used-there _ _ (invariant_of-self-clause-stood g c) (invariant_of-self-clause-held g c)
+
+pub invariant_of-self-clause-given : goal.invariant_of-self-clause-given
+invariant_of-self-clause-given g c = known-given _ _ (invariant_of-self-clause-stood g c)
+
+pub returns-clause-went : goal.returns-clause-went
+returns-clause-went g c =
+    store-went _ _ (notes_of c.args.self.now.notes) c.args.addr c.args.bytes.now (noted-under _ _ _ c.args.self.now.stood) c.store.ensures.stored c.store.ensures.others c.args.self.now.given

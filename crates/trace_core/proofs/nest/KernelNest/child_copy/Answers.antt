@@ -1,6 +1,7 @@
 use Rattle.std.proofs.Common.{refl}
 use Rattle.trace_core.specs.KernelSeen.{parts_of, notes_of}
 use Rattle.trace_core.proofs.SeenNests.{copy-lost, copy-lowest, copy-none, nest-keeps}
+use Rattle.trace_core.specs.WentOn.{went-none}
 use Rattle.trace_core.proofs.nest.KernelNest.child_copy.Goals as goal
 
 -- src/nest.rt:50:5
@@ -30,3 +31,9 @@ returns-in-None-clause-step g c = (
 -- src/nest.rt:50:5
 pub returns-in-None-clause-keeps : goal.returns-in-None-clause-keeps
 returns-in-None-clause-keeps g c = nest-keeps (parts_of c.args.self.now.parts) (notes_of c.args.self.now.notes) c.args.child.now.number c.args.self.now.stood c.args.self.now.held
+
+pub returns-in-Some-clause-went : goal.returns-in-Some-clause-went
+returns-in-Some-clause-went g c = went-none _ _ c.args.self.now.given
+
+pub returns-in-None-clause-went : goal.returns-in-None-clause-went
+returns-in-None-clause-went g c = went-none _ _ c.args.self.now.given

@@ -3,6 +3,7 @@ use Rattle.trace_core.specs.KernelSeen.{parts_of, notes_of}
 use Rattle.trace_core.proofs.Stood.{known-under}
 use Rattle.trace_core.proofs.SoundSteps.{known-noted, noted-under}
 use Rattle.trace_core.proofs.SeenNests.{read-bytes, read-outside, read-lost, read-lives, nest-keeps}
+use Rattle.trace_core.specs.WentOn.{went-none}
 use Rattle.trace_core.proofs.nest.KernelNest.child_read.Goals as goal
 
 -- src/nest.rt:39:13
@@ -48,3 +49,15 @@ returns-in-Err-Lost-clause-fault g c =
 -- src/nest.rt:32:5
 pub returns-in-Err-Lost-clause-keeps : goal.returns-in-Err-Lost-clause-keeps
 returns-in-Err-Lost-clause-keeps g c = nest-keeps (parts_of c.args.self.now.parts) (notes_of c.args.self.now.notes) c.args.child.now.number c.args.self.now.stood c.args.self.now.held
+
+pub returns-then-is_empty-clause-went : goal.returns-then-is_empty-clause-went
+returns-then-is_empty-clause-went g c = went-none _ _ c.args.self.now.given
+
+pub returns-in-Ok-clause-went : goal.returns-in-Ok-clause-went
+returns-in-Ok-clause-went g c = went-none _ _ c.args.self.now.given
+
+pub returns-in-Err-NoArea-clause-went : goal.returns-in-Err-NoArea-clause-went
+returns-in-Err-NoArea-clause-went g c = went-none _ _ c.args.self.now.given
+
+pub returns-in-Err-Lost-clause-went : goal.returns-in-Err-Lost-clause-went
+returns-in-Err-Lost-clause-went g c = went-none _ _ c.args.self.now.given

@@ -12,12 +12,15 @@ use Rattle.trace_core.proofs.ToldMemories.{told-kept}
 use Rattle.trace_core.proofs.KernelTouches.{kept-same}
 use Rattle.trace_core.proofs.KernelProcesses.{known-children, forked-noted, fork-copy, fork-born, fork-forked, fork-fails, fork-failed, fork-leaves, fork-kept, fork-others, fork-known, fork-holds, fork-reached}
 use Rattle.trace_core.proofs.UsedCells.{used-there}
+use Rattle.trace_core.specs.WentOn.{went-none}
+use Rattle.trace_core.proofs.WentCalls.{fork-went}
+use Rattle.trace_core.proofs.KernelProcesses.{known-given}
 use Rattle.trace_core.proofs.process.KernelProcess.fork.Goals as goal
 
 -- src/process.rt:52:13
 pub returns-in_default-clause-memory : goal.returns-in_default-clause-memory
 returns-in_default-clause-memory g c =
-    (record { mem = refl; most = refl }, told-kept _ _ _ _ refl _ c.args.self.now.reached (kept-same _ _ refl (known-memory _ _ c.args.self.now.stood (omega arith))))
+    (record { mem = refl; most = refl }, told-kept _ _ _ _ refl _ c.args.self.now.reached c.args.self.now.reached (kept-same _ _ (known-memory _ _ c.args.self.now.stood (omega arith))))
 
 -- src/process.rt:52:13
 pub returns-in_default-clause-home : goal.returns-in_default-clause-home
@@ -101,7 +104,7 @@ returns-clause-memory g c = (
       (forked-noted _ _ _ _ _ _ _ c.refused-refused.ensures.count c.fork_answered.ensures c.fork-answer.ensures.ran c.fork-answer.ensures.full),
   fork-kept _ _ (notes_of c.args.self.now.notes) (notes_of c.fork_answered.new.self) c.in-Some.number (noted-under _ _ _ c.args.self.now.stood) c.fork-answer.result
       (forked-noted _ _ _ _ _ _ _ c.refused-refused.ensures.count c.fork_answered.ensures c.fork-answer.ensures.ran c.fork-answer.ensures.full)
-      c.in-Some.ensures (omega arith, c.args.self.now.parts.supply.counted)
+      c.in-Some.ensures (omega arith, c.args.self.now.parts.supply.counted) c.args.self.now.reached
       (fork-reached _ _ (notes_of c.args.self.now.notes) (notes_of c.fork_answered.new.self) c.in-Some.number
       (noted-under _ _ _ c.args.self.now.stood) c.fork-answer.result
       (forked-noted _ _ _ _ _ _ _ c.refused-refused.ensures.count c.fork_answered.ensures c.fork-answer.ensures.ran c.fork-answer.ensures.full)
@@ -122,3 +125,16 @@ returns-clause-home g c = (refl, known-children _ _ c.args.self.now.stood c.args
 
 pub invariant_of-self-2-clause-slotted : goal.invariant_of-self-2-clause-slotted
 invariant_of-self-2-clause-slotted g c = used-there _ _ (invariant_of-self-2-clause-stood g c) (invariant_of-self-2-clause-held g c)
+
+pub invariant_of-self-2-clause-given : goal.invariant_of-self-2-clause-given
+invariant_of-self-2-clause-given g c = known-given _ _ (invariant_of-self-2-clause-stood g c)
+
+pub returns-in_default-clause-went : goal.returns-in_default-clause-went
+returns-in_default-clause-went g c = went-none _ _ c.args.self.now.given
+
+pub returns-clause-went : goal.returns-clause-went
+returns-clause-went g c =
+    fork-went _ _ (notes_of c.args.self.now.notes) (notes_of c.fork_answered.new.self) c.in-Some.number
+    (noted-under _ _ _ c.args.self.now.stood) c.fork-answer.result
+    (forked-noted _ _ _ _ _ _ _ c.refused-refused.ensures.count c.fork_answered.ensures c.fork-answer.ensures.ran c.fork-answer.ensures.full)
+    c.in-Some.ensures c.args.self.now.parts.uncopied c.fork-answer.new.self.uncopied

@@ -7,6 +7,8 @@ use Rattle.trace_core.proofs.HeldNotes.{holds-under, under-holds}
 use Rattle.trace_core.proofs.PlainPools.{ran-empty, plain-still}
 use Rattle.trace_core.proofs.KernelProcesses.{known-children, no-refusal, drop-known, drop-leaves, drop-kept, drop-reaps, drop-unlisted, drop-holds}
 use Rattle.trace_core.proofs.UsedCells.{used-there}
+use Rattle.trace_core.proofs.WentCalls.{drop-went}
+use Rattle.trace_core.proofs.KernelProcesses.{known-given}
 use Rattle.trace_core.proofs.process.KernelProcess.reap.Goals as goal
 
 -- src/process.rt:68:17
@@ -44,7 +46,7 @@ pub returns-clause-memory : goal.returns-clause-memory
 returns-clause-memory g c = (
   drop-leaves _ _ (notes_of c.args.self.now.notes) c.args.gone.number (noted-under _ _ _ c.args.self.now.stood) c.drop_snapshot.result c.drop_snapshot.ensures.ran,
   drop-kept _ _ (notes_of c.args.self.now.notes) c.args.gone.number (noted-under _ _ _ c.args.self.now.stood) c.drop_snapshot.result c.drop_snapshot.ensures.ran
-      (omega arith, c.args.self.now.parts.supply.counted)
+      (omega arith, c.args.self.now.parts.supply.counted) c.args.self.now.reached
       (λ rose. c.args.self.now.reached (subst (λ count. 0 < count)
       (drop-leaves _ _ (notes_of c.args.self.now.notes) c.args.gone.number (noted-under _ _ _ c.args.self.now.stood) c.drop_snapshot.result c.drop_snapshot.ensures.ran).refused rose)),
 )
@@ -65,3 +67,11 @@ returns-clause-home g c = (refl, known-children _ _ c.args.self.now.stood c.args
 
 pub invariant_of-self-clause-slotted : goal.invariant_of-self-clause-slotted
 invariant_of-self-clause-slotted g c = used-there _ _ (invariant_of-self-clause-stood g c) (invariant_of-self-clause-held g c)
+
+pub invariant_of-self-clause-given : goal.invariant_of-self-clause-given
+invariant_of-self-clause-given g c = known-given _ _ (invariant_of-self-clause-stood g c)
+
+pub returns-clause-went : goal.returns-clause-went
+returns-clause-went g c = drop-went _ _ (notes_of c.args.self.now.notes) c.args.gone.number
+    (noted-under _ _ _ c.args.self.now.stood) c.drop_snapshot.result c.drop_snapshot.ensures.ran c.requires.lives
+    c.args.self.now.parts.uncopied c.drop_snapshot.new.self.uncopied

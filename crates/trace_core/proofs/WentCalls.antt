@@ -1,0 +1,228 @@
+-- What each call makes of a kernel: no number is used again, what is told of a snapshot that lives goes on, and each request was answered as it may be.
+use Rattle.std.proofs.Common.{◌≡◌, ◌⊎◌, ℕ, ◌+◌, ◌<◌, ◌≤◌, ◌^◌, List, [], ◌∷◌, ◌++◌, length, Option, Some, None, Result, Ok, Err, refl, sym, ◌∙◌, ap, subst, arith}
+use Rattle.std.specs.Prelude.{false, true, IsTrue, OnOk, IfErr}
+use Rattle.std.specs.FinMap.{get}
+use Rattle.std.proofs.lemmas.Bool.{false≢true}
+use Rattle.std.proofs.lemmas.List.{append-nil}
+use Rattle.std.proofs.Math.Logic.{∥∥₁_elim}
+use Rattle.vm_base.specs.declared.fork_mode.Mode.TheVariants.{Eager}
+use Rattle.vm_base.specs.declared.permission.Perm.{Perm}
+use Rattle.vm_base.specs.declared.faults.Fault.{Fault}
+use Rattle.vm_base.specs.declared.frame_request.Asker.TheVariants.{Parent, Snapshot}
+use Rattle.vm_base.specs.Deals.{Deal, Granted, Denied, Returned}
+use Rattle.vm_base.specs.FlatStep.{touch_of, map_of, unmap_of, protect_of}
+use Rattle.vm_base.specs.MemoryState.{IsListed}
+use Rattle.vm_base.specs.SnapshotState.{GoesOn}
+use Rattle.kernel_meaning.specs.Requests.{Answer, answers_of}
+use Rattle.kernel_meaning.specs.FrameLaw.{held_frames}
+use Rattle.kernel_meaning.specs.EventRequests.{pages_unmapped, pages_protected}
+use Rattle.kernel_meaning.specs.RefusedRequests.{Request, PolicySum, requests_of, out_after, count_after}
+use Rattle.kernel_meaning.specs.Stretches.{dealings_of, requests_among, made_among, refused_among, counted_up}
+use Rattle.kernel_meaning.proofs.DealingLemmas.{requests_among-of, out_among-of, counted_up-parent, refused_among-parent}
+use Rattle.trace_events.specs.declared.event.Event.TheVariants.{Map, Unmap, Protect, Fork, Drop}
+use Rattle.trace_events.specs.declared.outcome.Outcome.{Outcome}
+use Rattle.trace_core.specs.declared.snapshots.ForkRefusal.{ForkRefusal}
+use Rattle.trace_core.specs.declared.snapshots.ForkRefusal.TheVariants.{NoFrame as FrameRefused, TooMany as LivesAlready}
+use Rattle.trace_core.specs.CallAnswers.{fork_outcome}
+use Rattle.trace_core.specs.Answering.{HaveLed, LeadOn, made_after}
+use Rattle.trace_core.specs.EventMeaning.{EventEnd, begun, touch_judged, fork_end, drop_end}
+use Rattle.trace_core.specs.KernelState.{Machine, KernelState}
+use Rattle.trace_core.specs.KernelStanding.{KernelParts, KernelStands, EventRan, sides_of, copies_refused_in}
+use Rattle.trace_core.specs.KernelSeen.{KernelNotes, IsKernelNoted, live_numbers, kept_in, nest_of}
+use Rattle.trace_core.specs.TablesSeen.{lost_in}
+use Rattle.trace_core.specs.TouchAnswers.{touch_outcome, with_stored}
+use Rattle.trace_core.specs.KernelWent.{IsStretch, HasDealt, KeepsChildren, KernelWent, AreGiven}
+use Rattle.trace_core.specs.WentOn.{goes_on-none, went-none}
+use Rattle.trace_core.proofs.AnswerLemmas.{deals_lead_on, no_request_has_led}
+use Rattle.trace_core.proofs.AreaCalls.{HasMapped, HasUnmapped, HasProtected}
+use Rattle.trace_core.proofs.ClauseProps.{option-prop}
+use Rattle.trace_core.proofs.EventCounts.{HasCounted, counted-touch, parent_counts}
+use Rattle.trace_core.proofs.KeptEvents.{EndKeeps, lost-stay, map-keeps-leaves, unmap-keeps-leaves, protect-keeps-leaves, touch-keeps-leaves}
+use Rattle.trace_core.proofs.KeptLeaves.{same-keeps}
+use Rattle.trace_core.proofs.KernelProcesses.{Forked, HasDropped, IsNext, fork-children, drop-children}
+use Rattle.trace_core.proofs.KernelTouches.{TouchRan}
+
+-- ---- the requests
+
+made_among-of : (made : ℕ) (deals : List Deal) → made_among made (dealings_of Parent deals) ≡ made_after made deals
+made_among-of made [] = refl
+made_among-of made (Granted want ∷ deals) = made_among-of (made + 1) deals
+made_among-of made (Denied want at ∷ deals) = made_among-of (made + 1) deals
+made_among-of made (Returned ∷ deals) = made_among-of made deals
+
+-- what a call of the parent dealt, which ended so from whatever state the kernel stood for
+module _ (old new : KernelParts) (outcome : Outcome) (end : Machine → KernelState → List Answer → EventEnd)
+    (ran : (machine : Machine) (state : KernelState) → KernelStands old machine state → EventRan old new machine (end machine state) outcome)
+    (counts : (machine : Machine) (state : KernelState) (answers : List Answer) → HasCounted state (end machine state answers))
+    (copied : copies_refused_in old.snapshot ≡ 0) (uncopied : copies_refused_in new.snapshot ≡ 0) where
+  ran-stretch : (machine : Machine) (state : KernelState) (st : KernelStands old machine state) → IsStretch old new machine state (dealings_of Parent (ran machine state st).deals)
+  ran-stretch machine state st = record {
+    after = its.after;
+    led = λ opening earlier led. led-by opening earlier led;
+    made = sym (ap (λ e. e.after.made) its.ends) ∙ counted.made ∙ ap (λ e. made_after state.made e.deals) its.ends ∙ sym (made_among-of state.made its.deals);
+    named = sym (ap (λ e. e.after.named) its.ends) ∙ counted.named;
+    out = sym its.stands.supply.held ∙ none-led.out ∙ ap (λ out. out_after out its.deals) st.supply.held ∙ sym (out_among-of Parent (held_frames state.leaves) its.deals);
+    refused = none-led.refused ∙ counted_up-parent old.supply.refused its.deals;
+    kept = λ n given lives. uncopied ∙ sym copied ∙ none-asked n (copies_refused_in old.snapshot);
+    fresh = λ n above lives. uncopied ∙ none-asked n 0;
+    askers = λ n later. refused_among-parent n its.deals;
+    stands = its.stands;
+  }
+    where
+      its : EventRan old new machine (end machine state) outcome
+      its = ran machine state st
+
+      counted : HasCounted state (end machine state (answers_of its.deals))
+      counted = counts machine state (answers_of its.deals)
+
+      lead : (opening : PolicySum) (earlier : List Request) → HaveLed machine.frames opening earlier old.supply.policies
+          → LeadOn opening state.named state.made earlier old.supply its.deals new.supply
+      lead opening earlier led = deals_lead_on opening state.named state.made earlier old.supply new.supply its.deals st.supply.pending
+          (subst (λ frames. HaveLed frames opening earlier old.supply.policies) (sym st.supply.frames) led) its.led
+
+      none-led : LeadOn old.supply.policies state.named state.made [] old.supply its.deals new.supply
+      none-led = lead old.supply.policies [] (no_request_has_led machine.frames old.supply.policies)
+
+      -- the deals are the parent's, with the frames out that the definitions count
+      same-requests : requests_of old.supply.asker state.named state.made old.supply.out its.deals ≡ requests_among state.named state.made (held_frames state.leaves) (dealings_of Parent its.deals)
+      same-requests = (λ i. requests_of (st.supply.asker i) state.named state.made (st.supply.held i) its.deals)
+          ∙ sym (requests_among-of Parent state.named state.made (held_frames state.leaves) its.deals)
+
+      led-by : (opening : PolicySum) (earlier : List Request) → HaveLed machine.frames opening earlier old.supply.policies
+          → HaveLed machine.frames opening (earlier ++ requests_among state.named state.made (held_frames state.leaves) (dealings_of Parent its.deals)) new.supply.policies
+      led-by opening earlier led = subst (λ frames. HaveLed frames opening (earlier ++ requests_among state.named state.made (held_frames state.leaves) (dealings_of Parent its.deals)) new.supply.policies)
+          st.supply.frames (subst (λ requests. HaveLed old.supply.made opening (earlier ++ requests) new.supply.policies) same-requests (lead opening earlier led).led)
+
+      none-asked : (n count : ℕ) → count ≡ counted_up count (refused_among (Snapshot n) (dealings_of Parent its.deals))
+      none-asked n count = ap (counted_up count) (sym (refused_among-parent n its.deals))
+
+  pub ran-dealt : HasDealt old new
+  ran-dealt machine state st = (dealings_of Parent (ran machine state st).deals, ran-stretch machine state st)
+
+-- ---- the snapshot
+
+-- none is listed in place of one that is
+listed-still : (old new : KernelParts) → new.snapshot ≡ old.snapshot → (n : ℕ) → IsListed n (live_numbers new.snapshot) → IsListed n (live_numbers old.snapshot)
+listed-still old new same n lives = subst (λ snapshot. IsListed n (live_numbers snapshot)) same lives
+
+module _ (old new : KernelParts) (notes later : KernelNotes) (snapshot : new.snapshot ≡ old.snapshot) (last : new.last ≡ old.last) (forked : later.forked ≡ notes.forked)
+    (stays : (n c at : ℕ) → get (lost_in n old.tables.slots.items) c ≡ Some at → get (lost_in n new.tables.slots.items) c ≡ Some at) where
+  -- a call that loses no number and keeps what was lost
+  pub keeps-children : KeepsChildren old notes new later
+  keeps-children = record {
+    last = omega (arith, last);
+    lived = λ n given lives. listed-still old new snapshot n lives;
+    goes_on = λ n given lives. record {
+      mem = λ i. kept_in (snapshot i) (forked i);
+      found = λ c at lost. stays n c at lost;
+      counted = copies-still;
+      todo = omega arith;
+      passed = λ passed. passed;
+      whole = λ whole. whole;
+    };
+  }
+    where
+      copies-still : copies_refused_in old.snapshot ≤ copies_refused_in new.snapshot
+      copies-still = let same : copies_refused_in new.snapshot ≡ copies_refused_in old.snapshot = ap copies_refused_in snapshot in omega (arith, same)
+
+-- what was lost stays so behind an event of the parent
+module _ (old new : KernelParts) (notes : KernelNotes) (known : ∥ IsKernelNoted old notes ∥₁) (outcome : Outcome) (end : Machine → KernelState → List Answer → EventEnd)
+    (ran : (machine : Machine) (state : KernelState) → KernelStands old machine state → EventRan old new machine (end machine state) outcome)
+    (keeps : (machine : Machine) (state : KernelState) (answers : List Answer) → EndKeeps state (end machine state answers)) where
+  ran-stays : (n c at : ℕ) → get (lost_in n old.tables.slots.items) c ≡ Some at → get (lost_in n new.tables.slots.items) c ≡ Some at
+  ran-stays n c at lost = ∥∥₁_elim known (option-prop (get (lost_in n new.tables.slots.items) c) (Some at)) (λ it.
+      let st = it.1.1.stands in
+      let its : EventRan old new it.0 (end it.0 it.1.0) outcome = ran it.0 it.1.0 st in
+      lost-stay old.tables new.tables (sides_of it.1.0 st.pages) (sides_of its.after its.stands.pages) st.tables its.stands.tables its.deals
+      (subst (EndKeeps it.1.0) its.ends (keeps it.0 it.1.0 (answers_of its.deals))) n c at lost)
+
+-- ---- the calls of the parent
+
+-- what a call of the parent starts from and leaves beside its memory
+pub record IsParents (old new : KernelParts) (notes later : KernelNotes) : Type 0 where
+  pub known : ∥ IsKernelNoted old notes ∥₁
+  pub snapshot : new.snapshot ≡ old.snapshot
+  pub last : new.last ≡ old.last
+  pub forked : later.forked ≡ notes.forked
+  pub copied : copies_refused_in old.snapshot ≡ 0
+
+module _ (old new : KernelParts) (notes later : KernelNotes) (its : IsParents old new notes later) where
+  still-copied : copies_refused_in new.snapshot ≡ 0
+  still-copied = ap copies_refused_in its.snapshot ∙ its.copied
+
+  parents-went : (outcome : Outcome) (end : Machine → KernelState → List Answer → EventEnd)
+      → ((machine : Machine) (state : KernelState) → KernelStands old machine state → EventRan old new machine (end machine state) outcome)
+      → ((machine : Machine) (state : KernelState) (answers : List Answer) → HasCounted state (end machine state answers))
+      → ((machine : Machine) (state : KernelState) (answers : List Answer) → EndKeeps state (end machine state answers)) → KernelWent old notes new later
+  parents-went outcome end ran counts keeps = record {
+    children = keeps-children old new notes later its.snapshot its.last its.forked (ran-stays old new notes its.known outcome end ran keeps);
+    dealt = ran-dealt old new outcome end ran counts its.copied still-copied;
+  }
+
+  pub touch-went : (addr len : ℕ) (result : Result (Unit {0}) Fault) → TouchRan old new notes later addr len its.known result → KernelWent old notes new later
+  touch-went addr len result ran = parents-went (touch_outcome result) (λ machine state answers. touch_judged machine state answers addr len (touch_of state.world.parent addr len)) ran
+      (λ machine state answers. counted-touch machine state answers addr len (touch_of state.world.parent addr len))
+      (λ machine state answers. touch-keeps-leaves machine state answers addr len (touch_of state.world.parent addr len))
+
+  pub map-went : (first n : ℕ) (perm : Perm) (outcome : Outcome) → HasMapped old new first n perm outcome → KernelWent old notes new later
+  map-went first n perm outcome ran = parents-went outcome _ ran (λ machine state answers. parent_counts machine state answers (Map first n perm) refl refl)
+      (λ machine state answers. map-keeps-leaves state answers (map_of state.world.parent first n perm))
+
+  pub unmap-went : (first n : ℕ) (outcome : Outcome) → HasUnmapped old new first n outcome → KernelWent old notes new later
+  unmap-went first n outcome ran = parents-went outcome _ ran (λ machine state answers. parent_counts machine state answers (Unmap first n) refl refl)
+      (λ machine state answers. unmap-keeps-leaves state answers (unmap_of state.world.parent first n) first n)
+
+  pub protect-went : (first n : ℕ) (perm : Perm) (outcome : Outcome) → HasProtected old new first n perm outcome → KernelWent old notes new later
+  protect-went first n perm outcome ran = parents-went outcome _ ran (λ machine state answers. parent_counts machine state answers (Protect first n perm) refl refl)
+      (λ machine state answers. protect-keeps-leaves state answers (protect_of state.world.parent first n perm) first n)
+
+-- a store asks for nothing
+pub store-went : (old new : KernelParts) (notes : KernelNotes) (addr : ℕ) (bytes : List ℕ) → ∥ IsKernelNoted old notes ∥₁
+    → ((machine : Machine) (state : KernelState) → KernelStands old machine state → KernelStands new machine (with_stored state addr bytes)) → new ≡ record old { tables = new.tables }
+    → AreGiven old → KernelWent old notes new notes
+store-went old new notes addr bytes known stored others given = record {
+  children = keeps-children old new notes notes snapshot (ap (λ parts. parts.last) others) refl stays;
+  dealt = λ machine state st. ([], record {
+    after = with_stored state addr bytes;
+    led = λ opening earlier led. subst (λ requests. HaveLed machine.frames opening requests new.supply.policies) (sym (append-nil earlier))
+        (subst (λ parts. HaveLed machine.frames opening earlier parts.supply.policies) (sym others) led);
+    made = refl;
+    named = refl;
+    out = refl;
+    refused = ap (λ parts. parts.supply.refused) others;
+    kept = λ n below lives. ap copies_refused_in snapshot;
+    fresh = λ n above lives. absurd (none-fresh n above lives);
+    askers = λ n later. refl;
+    stands = stored machine state st;
+  });
+}
+  where
+    snapshot : new.snapshot ≡ old.snapshot
+    snapshot = ap (λ parts. parts.snapshot) others
+
+    none-fresh : (n : ℕ) → old.last < n → IsListed n (live_numbers new.snapshot) → ⊥
+    none-fresh n above lives = let below : n ≤ old.last = given n (listed-still old new snapshot n lives) in omega (arith, above, below)
+
+    stays : (n c at : ℕ) → get (lost_in n old.tables.slots.items) c ≡ Some at → get (lost_in n new.tables.slots.items) c ≡ Some at
+    stays n c at lost = ∥∥₁_elim known (option-prop (get (lost_in n new.tables.slots.items) c) (Some at)) (λ it.
+        let st = it.1.1.stands in
+        let then : KernelStands new it.0 (with_stored it.1.0 addr bytes) = stored it.0 it.1.0 st in
+        lost-stay old.tables new.tables (sides_of it.1.0 st.pages) (sides_of (with_stored it.1.0 addr bytes) then.pages) st.tables then.tables [] (same-keeps it.1.0.leaves []) n c at lost)
+
+-- ---- a fork and a drop
+
+pub fork-went : (old new : KernelParts) (notes later : KernelNotes) (n : ℕ) (known : ∥ IsKernelNoted old notes ∥₁) (answer : Result (Unit {0}) ForkRefusal) → Forked old new notes later n answer
+    → IsNext old n → copies_refused_in old.snapshot ≡ 0 → copies_refused_in new.snapshot ≡ 0 → KernelWent old notes new later
+fork-went old new notes later n known answer its next copied uncopied = record {
+  children = fork-children old new notes later n known answer its next;
+  dealt = ran-dealt old new (fork_outcome answer) (λ machine state answers. fork_end machine state answers n Eager) its.ran
+      (λ machine state answers. parent_counts machine state answers (Fork n Eager) refl refl) copied uncopied;
+}
+
+pub drop-went : (old new : KernelParts) (notes : KernelNotes) (n : ℕ) (known : ∥ IsKernelNoted old notes ∥₁) (outcome : Outcome) → HasDropped old new n outcome → IsListed n (live_numbers old.snapshot)
+    → copies_refused_in old.snapshot ≡ 0 → copies_refused_in new.snapshot ≡ 0 → KernelWent old notes new notes
+drop-went old new notes n known outcome ran lives copied uncopied = record {
+  children = drop-children old new notes n known outcome ran lives;
+  dealt = ran-dealt old new outcome (λ machine state answers. drop_end state answers n) ran
+      (λ machine state answers. parent_counts machine state answers (Drop n) refl refl) copied uncopied;
+}
