@@ -6,3 +6,4 @@ pub mod Worked
 pub mod DealLemmas
 pub mod EntryLemmas
 pub mod WorkedFrames
+pub mod FlatLaws
