@@ -1,9 +1,8 @@
 -- What touching, storing and unmapping leave of the pages and of the reads.
-use Rattle.std.proofs.Common.{◌≡◌, ◌≢◌, ℕ, zero, suc, ◌+◌, ◌-◌, ◌*◌, ◌/◌, ◌%◌, ◌<◌, ◌≤◌, ◌⊎◌, Bool, true, false, not, cond, eqb, List, [], ◌∷◌, ◌++◌, length, map, replicate, set, get_or, Option, Some, None, refl, sym, ◌∙◌, ap, subst, arith, inl, inr}
-use Rattle.std.specs.Prelude.{is_some, unwrap_or, ◌&&◌, slice_index}
-use Rattle.std.specs.Ordering.{nat_cmp}
-use Rattle.std.specs.FinMap.{get, insert, retain_keys, get-retain_keys, nat_cmp-IsAntisymmetric}
-use Rattle.std.proofs.lemmas.Bool.{cases_Bool, cases_eq, cases_lt, cond-true, cond-false, ne_eqb, false≢true}
+use Rattle.std.proofs.Common.{◌≡◌, ◌≢◌, ℕ, zero, suc, ◌+◌, ◌-◌, ◌<◌, ◌≤◌, true, false, cond, eqb, List, [], ◌∷◌, length, replicate, set, get_or, Option, Some, None, refl, sym, ◌∙◌, ap, subst, arith, inl, inr}
+use Rattle.std.specs.Prelude.{IsSome, is_some, unwrap_or, slice_index}
+use Rattle.std.specs.FinMap.{get, retain_keys, get-retain_keys, nat_cmp-IsAntisymmetric}
+use Rattle.std.proofs.lemmas.Bool.{cases_Bool, cases_eq, cond-true, cond-false, ne_eqb, false≢true}
 use Rattle.std.proofs.lemmas.Bool.Decides.{nat_tests}
 use Rattle.std.proofs.lemmas.List.{length-set, get_or-set_same, get_or-set_other}
 use Rattle.vm_base.specs.Places.{page_of, offset_of, page_count}
@@ -11,7 +10,7 @@ use Rattle.vm_base.specs.FlatMemory.{PageMap, FlatMemory, IsFlat, zero_page, byt
 use Rattle.vm_base.specs.FlatStep.{with_page, with_pages, with_byte, with_bytes, is_beyond}
 use Rattle.vm_base.specs.MemoryState.{MemoryState, IsMemory}
 use Rattle.vm_base.specs.MemoryCalls.{IsInRange, IsReady}
-use Rattle.vm_base.specs.FlatLaws.{IsAmong, IsBeyond, AreApart, IsFullPage, AreFullPages, unmapped, TouchesChangeNoRead, TouchesKeepPages, TouchesMakeZeros, TouchesLeaveOthers, AbsentPagesReadAsZeros, StoredBytesAreRead, StoresChangeNoOtherRead, StoresLeaveOtherPages, StoresMakeNoPagePresent, StoresKeepLengths, StoresJoin, UnmapsChangeNoOtherRead, UnmapsLeaveOthers, UnmappedPagesAreAbsent}
+use Rattle.vm_base.specs.FlatLaws.{IsBeyond, IsFullPage, AreFullPages, unmapped, TouchesChangeNoRead, TouchesKeepPages, TouchesMakeZeros, TouchesLeaveOthers, AbsentPagesReadAsZeros, StoredBytesAreRead, StoresChangeNoOtherRead, StoresLeaveOtherPages, StoresMakeNoPagePresent, StoresKeepLengths, StoresJoin, UnmapsChangeNoOtherRead, UnmapsLeaveOthers, UnmappedPagesAreAbsent}
 use Rattle.vm_base.proofs.NumberedMaps.{get_inserted_here, get_inserted_apart}
 use Rattle.vm_base.proofs.FlatPages.{with_page_there, with_page_absent, with_bytes-append}
 
@@ -164,13 +163,45 @@ length-with_byte present address byte page full = elim (cases_eq page (page_of a
   | inr apart ↦ ap (λ o. length (unwrap_or o [])) (get_inserted_apart present (page_of address) (changed present address byte) page apart)
 ]
 
-is_some-with_byte : (present : PageMap) (address byte page : ℕ) → IsFullPage present (page_of address) → is_some (get (with_byte present address byte) page) ≡ is_some (get present page)
-is_some-with_byte present address byte page full = elim (cases_eq page (page_of address)) [
-  | inl here ↦
-      let known = full_bytes (get present (page_of address)) full in
-      ap is_some (get_inserted_here present (page_of address) (changed present address byte) page here) ∙ sym (ap is_some (ap (get present) here ∙ known.1.0))
-  | inr apart ↦ ap is_some (get_inserted_apart present (page_of address) (changed present address byte) page apart)
-]
+-- the pages of a range, byte by byte
+abbrev pub ArePresent : PageMap → ℕ → ℕ → Type 0
+ArePresent present address n = (k : ℕ) → k < n → IsSome (get present (page_of (address + k)))
+
+pub present_bytes : (present : PageMap) (address n : ℕ) → ((page : ℕ) → page_of address ≤ page → page < page_of address + page_count address n → IsSome (get present page)) → ArePresent present address n
+present_bytes present address n there k inside =
+    let some : page_count address n ≡ page_of (address + n - 1) + 1 - page_of address = cond-false (eqb n 0) 0 _ (ne_eqb n 0 (λ none. omega arith)) in
+    there (page_of (address + k)) (omega arith) (omega arith)
+
+-- storing a byte in a page that is present makes no other page present
+keys-with_byte : (present : PageMap) (address byte q : ℕ) → IsSome (get present (page_of address)) → is_some (get (with_byte present address byte) q) ≡ is_some (get present q)
+keys-with_byte present address byte q there =
+    let new : List ℕ = set (unwrap_or (get present (page_of address)) zero_page) (offset_of address) byte in
+    elim (cases_eq q (page_of address)) [
+      | inl here ↦ ap is_some (get_inserted_here present (page_of address) new q here) ∙ sym (ap (λ p. is_some (get present p)) here ∙ there)
+      | inr apart ↦ ap is_some (get_inserted_apart present (page_of address) new q apart)
+    ]
+
+pub first_present : (present : PageMap) (address n : ℕ) → ArePresent present address (suc n) → IsSome (get present (page_of address))
+first_present present address n there = let same : address + 0 ≡ address = omega arith in subst (λ a. IsSome (get present (page_of a))) same (there 0 (omega arith))
+
+pub present_then : (present : PageMap) (address byte n : ℕ) → ArePresent present address (suc n) → ArePresent (with_byte present address byte) (address + 1) n
+present_then present address byte n there k inside =
+    let further : address + suc k ≡ address + 1 + k = omega arith in
+    keys-with_byte present address byte (page_of (address + 1 + k)) (first_present present address n there)
+    ∙ subst (λ a. IsSome (get present (page_of a))) further (there (suc k) (omega arith))
+
+keys_by_byte : (bytes : List ℕ) (present : PageMap) (address page : ℕ) → ArePresent present address (length bytes)
+    → is_some (get (with_bytes present address bytes) page) ≡ is_some (get present page)
+keys_by_byte [] present address page there = refl
+keys_by_byte (byte ∷ bytes) present address page there =
+    keys_by_byte bytes (with_byte present address byte) (address + 1) page (present_then present address byte (length bytes) there)
+    ∙ keys-with_byte present address byte page (first_present present address (length bytes) there)
+
+-- storing where all pages of the range are present makes no other page present
+pub keys-with_bytes : (present : PageMap) (address : ℕ) (bytes : List ℕ)
+    → ((page : ℕ) → page_of address ≤ page → page < page_of address + page_count address (length bytes) → IsSome (get present page))
+    → (page : ℕ) → is_some (get (with_bytes present address bytes) page) ≡ is_some (get present page)
+keys-with_bytes present address bytes there page = keys_by_byte bytes present address page (present_bytes present address (length bytes) there)
 
 -- the pages of a range, byte by byte, are full
 abbrev AreFull : PageMap → ℕ → ℕ → Type 0
@@ -220,13 +251,7 @@ get-with_bytes_beyond present address bytes page beyond =
         ∙ get_inserted_apart present (page_of address) (changed present address byte) page (apart address (omega arith) (omega arith))
 
 pub is_some-with_bytes : StoresMakeNoPagePresent
-is_some-with_bytes present address bytes full page = by bytes present address (full_by_byte present address (length bytes) full)
-  where
-    by : (bytes : List ℕ) (present : PageMap) (address : ℕ) → AreFull present address (length bytes) → is_some (get (with_bytes present address bytes) page) ≡ is_some (get present page)
-    by [] present address full = refl
-    by (byte ∷ bytes) present address full =
-        by bytes (with_byte present address byte) (address + 1) (full_then present address byte (length bytes) full)
-        ∙ is_some-with_byte present address byte page (full address (omega arith) (omega arith))
+is_some-with_bytes present address bytes there page = keys-with_bytes present address bytes (λ q low high. there q (low, high)) page
 
 pub length-with_bytes : StoresKeepLengths
 length-with_bytes present address bytes full page = by bytes present address (full_by_byte present address (length bytes) full)

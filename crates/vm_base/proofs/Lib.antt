@@ -7,3 +7,7 @@ pub mod DealLemmas
 pub mod EntryLemmas
 pub mod WorkedFrames
 pub mod FlatLaws
+pub mod OwnFrames
+pub mod FlatAreas
+pub mod FlatSlots
+pub mod FlatFrames

@@ -4,7 +4,7 @@ use Rattle.std.specs.FinMap.{get, len, retain_keys}
 use Rattle.std.specs.List.{Contains}
 use Rattle.vm_base.specs.declared.faults.Fault.TheVariants.{CellsFull}
 use Rattle.vm_base.specs.Places.{page_of, cell_of, page_count, cells_of_range, directory_frames, distinct}
-use Rattle.vm_base.specs.FlatMemory.{Area, PageMap, FlatMemory, AreInOrder, empty_memory, area_of, zero_page, bytes_at, cells_of}
+use Rattle.vm_base.specs.FlatMemory.{Area, PageMap, FlatMemory, AreInOrder, area_of, zero_page, bytes_at}
 use Rattle.vm_base.specs.FlatStep.{outside, taken, unwritable, is_read_only, is_writable, with_pages, with_bytes, is_beyond, read_of, touch_of}
 use Rattle.vm_base.specs.MemoryState.{MemoryState, IsIn, IsListed, own_of}
 use Rattle.vm_base.specs.MemoryCalls.{IsInRange, faulted, touched, touch_answer, is_out_of_slots, TouchFails}
@@ -78,10 +78,10 @@ StoresLeaveOtherPages =
     (present : PageMap) (address : ℕ) (bytes : List ℕ) (page : ℕ) → IsBeyond (page_of address) (page_count address (length bytes)) page
     → get (with_bytes present address bytes) page ≡ get present page
 
--- the same pages are present
+-- where each page of the range is present, the same pages are present behind it
 abbrev pub StoresMakeNoPagePresent : Type 0
 StoresMakeNoPagePresent =
-    (present : PageMap) (address : ℕ) (bytes : List ℕ) → AreFullPages present address (length bytes)
+    (present : PageMap) (address : ℕ) (bytes : List ℕ) → ((page : ℕ) → IsInRange page address (length bytes) → IsSome (get present page))
     → (page : ℕ) → is_some (get (with_bytes present address bytes) page) ≡ is_some (get present page)
 
 -- each page has as many bytes as before

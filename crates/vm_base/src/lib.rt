@@ -34,7 +34,11 @@ pub use frame_request::{Asker, Want};
 pub use frozen::{Frozen, read_twice};
 pub use gate::{Gate, OpenGate, Point};
 pub use housing::{Housing, read_child};
-pub use laws::{a_store_changes_its_own_bytes_alone, a_touch_changes_no_read, an_unmap_changes_no_other_read};
+pub use laws::{
+    a_range_of_one_area_is_not_refused, a_store_changes_its_own_bytes_alone,
+    a_touch_changes_no_read, an_unmap_changes_no_other_read, more_pages_take_more_frames,
+    no_area_is_missed, slots_suffice_among_as_many_cells,
+};
 pub use memory::{Memory, write_at};
 pub use nest::{Nest, Nested};
 pub use no_memory::NoMemory;
