@@ -12,7 +12,7 @@ use Rattle.kernel_meaning.specs.FrameLaw.{Leaves, cell_at, parent_cells}
 use Rattle.leaf_cell.proofs.PairCounts.{IsIn, AreOnce, same-pair}
 use Rattle.leaf_cell.proofs.LivePairs.{at-pair}
 use Rattle.page_tables.proofs.LeafMap.{same_number, passes, is_some-filter}
-use Rattle.trace_core.proofs.OwnFrames.{member, AreMembers}
+use Rattle.vm_base.proofs.OwnFrames.{member, AreMembers}
 
 -- ---- members
 

@@ -19,7 +19,7 @@ use Rattle.trace_core.specs.KernelStanding.{KernelParts, KernelStands, IsKernel,
 use Rattle.trace_core.specs.KernelSeen.{pages_of, parent_of, is_new_fork}
 use Rattle.trace_core.proofs.ClauseProps.{test-prop}
 use Rattle.trace_core.proofs.HeldEvents.{AreFilled}
-use Rattle.trace_core.proofs.OwnFrames.{member, member-map, member-keys}
+use Rattle.vm_base.proofs.OwnFrames.{member, member-map, member-keys}
 use Rattle.trace_core.proofs.SeenTables.{seen-pages}
 use Rattle.trace_core.proofs.WholeCells.{whole-versions}
 

@@ -14,6 +14,7 @@ use Rattle.vm_base.specs.FlatMemory.{Area, PageMap, FlatMemory, IsFlat, AreInOrd
 use Rattle.vm_base.specs.FlatStep.{Refusal, OutsideAreas, ReadOnly, Taken, TooManyAreas, outside, unwritable, taken, or_refused, with_page, with_pages, with_byte, with_bytes, touch_of, stored, write_of, joined, with_area, areas_without, at_most_128, is_beyond, map_of, unmap_of, protect_of}
 use Rattle.vm_base.proofs.NumberedMaps.{get_inserted_here, get_inserted_apart}
 use Rattle.vm_base.proofs.FlatPages.{with_page_there, with_page_absent, is_some-with_pages}
+use Rattle.vm_base.proofs.FlatLaws.{ArePresent, present_bytes, first_present, present_then, get-unmapped}
 use Rattle.area_list.specs.AreaList.{permission_at, is_among, Sets}
 use Rattle.area_list.specs.Calls.{area_at, if_few}
 use Rattle.area_list.specs.Pieces.{pieces}
@@ -136,40 +137,6 @@ touch-flat memory address n after flat is =
     (pages-with_pages count memory.areas memory.present first (pages_of_flat memory flat) inside))
 
 -- ---- storing
--- the pages of a range, byte by byte
-abbrev ArePresent : PageMap → ℕ → ℕ → Type 0
-ArePresent present address n = (k : ℕ) → k < n → IsSome (get present (page_of (address + k)))
-
-present_bytes : (present : PageMap) (address n : ℕ) → ((page : ℕ) → page_of address ≤ page → page < page_of address + page_count address n → IsSome (get present page)) → ArePresent present address n
-present_bytes present address n there k inside =
-    let some : page_count address n ≡ page_of (address + n - 1) + 1 - page_of address = cond-false (eqb n 0) 0 _ (ne_eqb n 0 (λ none. omega arith)) in
-    there (page_of (address + k)) (omega arith) (omega arith)
-
--- storing a byte in a page that is present makes no other page present
-keys-with_byte : (present : PageMap) (address byte q : ℕ) → IsSome (get present (page_of address)) → is_some (get (with_byte present address byte) q) ≡ is_some (get present q)
-keys-with_byte present address byte q there =
-    let new : List ℕ = set (unwrap_or (get present (page_of address)) zero_page) (offset_of address) byte in
-    elim (cases_eq q (page_of address)) [
-      | inl here ↦ ap is_some (get_inserted_here present (page_of address) new q here) ∙ sym (ap (λ p. is_some (get present p)) here ∙ there)
-      | inr apart ↦ ap is_some (get_inserted_apart present (page_of address) new q apart)
-    ]
-
-first_present : (present : PageMap) (address n : ℕ) → ArePresent present address (suc n) → IsSome (get present (page_of address))
-first_present present address n there = let same : address + 0 ≡ address = omega arith in subst (λ a. IsSome (get present (page_of a))) same (there 0 (omega arith))
-
-present_then : (present : PageMap) (address byte n : ℕ) → ArePresent present address (suc n) → ArePresent (with_byte present address byte) (address + 1) n
-present_then present address byte n there k inside =
-    let further : address + suc k ≡ address + 1 + k = omega arith in
-    keys-with_byte present address byte (page_of (address + 1 + k)) (first_present present address n there)
-    ∙ subst (λ a. IsSome (get present (page_of a))) further (there (suc k) (omega arith))
-
-keys_by_byte : (bytes : List ℕ) (present : PageMap) (address page : ℕ) → ArePresent present address (length bytes)
-    → is_some (get (with_bytes present address bytes) page) ≡ is_some (get present page)
-keys_by_byte [] present address page there = refl
-keys_by_byte (byte ∷ bytes) present address page there =
-    keys_by_byte bytes (with_byte present address byte) (address + 1) page (present_then present address byte (length bytes) there)
-    ∙ keys-with_byte present address byte page (first_present present address (length bytes) there)
-
 pages-with_byte : (areas : List Area) (present : PageMap) (address byte : ℕ) → byte < 256 → ArePages areas present → IsSome (get present (page_of address)) → ArePages areas (with_byte present address byte)
 pages-with_byte areas present address byte fits pages there =
     let page = value_of (get present (page_of address)) there in
@@ -189,12 +156,6 @@ pages-with_bytes (byte ∷ bytes) areas present address fit pages there =
     pages-with_bytes bytes areas (with_byte present address byte) (address + 1) (All-tail (λ b. b < 256) byte bytes fit)
     (pages-with_byte areas present address byte (All-head (λ b. b < 256) byte bytes fit) pages (first_present present address (length bytes) there))
     (present_then present address byte (length bytes) there)
-
--- storing where all pages of the range are present makes no other page present
-pub keys-with_bytes : (present : PageMap) (address : ℕ) (bytes : List ℕ)
-    → ((page : ℕ) → page_of address ≤ page → page < page_of address + page_count address (length bytes) → IsSome (get present page))
-    → (page : ℕ) → is_some (get (with_bytes present address bytes) page) ≡ is_some (get present page)
-keys-with_bytes present address bytes there page = keys_by_byte bytes present address page (present_bytes present address (length bytes) there)
 
 pub stored-flat : (memory : FlatMemory) (address : ℕ) (bytes : List ℕ) → IsFlat memory → All (λ byte. byte < 256) bytes
     → ((page : ℕ) → page_of address ≤ page → page < page_of address + page_count address (length bytes) → IsSome (get memory.present page))
@@ -272,10 +233,6 @@ protect-flat memory first n perm after flat some is =
     let made : if_few (joined (pieces first (first + n) (Some (area_at first n perm)) memory.areas)) ≡ if_few new =
     made_protected memory.areas first n perm flat.in_order held.0 ∙ ap (λ found. or_refused OutsideAreas found (if_few new)) held.0 in
     subst IsFlat few.0 (set_flat memory first n perm new some flat (same_few (joined (pieces first (first + n) (Some (area_at first n perm)) memory.areas)) new few.1 made) few.1)
-
--- what is left of the pages after some were taken out
-pub get-unmapped : (present : PageMap) (first n q : ℕ) → get (retain_keys present (is_beyond first n)) q ≡ cond (is_beyond first n q) (get present q) None
-get-unmapped present first n q = get-retain_keys present (is_beyond first n) q (λ x ties. ap (is_beyond first n) (sym (nat_cmp-IsAntisymmetric q x ties)))
 
 -- a page that is left lies beyond them, and was there
 kept_page : {X : Type 0} (beyond : Bool) (old : Option X) (bytes : X) → cond beyond old None ≡ Some bytes → (beyond ≡ true) × (old ≡ Some bytes)

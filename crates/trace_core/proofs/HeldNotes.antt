@@ -40,7 +40,7 @@ use Rattle.trace_core.proofs.KeptEvents.{EndKeeps, map-keeps-leaves, unmap-keeps
 use Rattle.trace_core.proofs.KeptLeaves.{KeepsLeaves, told-between, same-keeps}
 use Rattle.trace_core.proofs.Known.{none-numbered}
 use Rattle.trace_core.proofs.OneSnapshot.{nothing-there, live-is, number-is}
-use Rattle.trace_core.proofs.OwnFrames.{own-empty}
+use Rattle.vm_base.proofs.OwnFrames.{own-empty}
 use Rattle.trace_core.proofs.SeenForks.{memory-under}
 use Rattle.trace_core.proofs.SeenTables.{seen-lost}
 use Rattle.trace_core.proofs.Stood.{under}

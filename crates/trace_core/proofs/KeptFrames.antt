@@ -21,7 +21,7 @@ use Rattle.page_tables.specs.Sides.{Sides}
 use Rattle.page_tables.specs.Standing.{number_of, slot_in, numbers_at, StandFor, TablesStandFor}
 use Rattle.page_tables.proofs.HeldFrames.{all-found, snapshot-cells, snapshot-law}
 use Rattle.page_tables.proofs.StandingFacts.{no-numbers}
-use Rattle.trace_core.proofs.OwnFrames.{member, AreMembers, member-distinct, directory_frames-le, IsDistinct-sorted}
+use Rattle.vm_base.proofs.OwnFrames.{member, AreMembers, member-distinct, directory_frames-le, IsDistinct-sorted}
 use Rattle.trace_core.proofs.PageCounts.{in_cell, len-cells}
 use Rattle.trace_core.proofs.SpentPairs.{kept_frames}
 use Rattle.trace_core.proofs.CellSums.{member-entries, sum-entries-le, sum-entries-none, pairs-le}

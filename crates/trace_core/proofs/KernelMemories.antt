@@ -27,7 +27,7 @@ use Rattle.page_tables.specs.Sides.{Sides}
 use Rattle.page_tables.specs.Standing.{TablesStandFor}
 use Rattle.page_tables.specs.Held.{shares_in}
 use Rattle.trace_core.specs.TablesSeen.{with_some, with_cell_pages, with_owned_pages, pages_in}
-use Rattle.trace_core.proofs.OwnFrames.{member, member-keys, IsDistinct-keys, length-keys}
+use Rattle.vm_base.proofs.OwnFrames.{member, member-keys, IsDistinct-keys, length-keys}
 use Rattle.trace_core.specs.KernelState.{Machine, KernelState}
 use Rattle.trace_core.specs.KernelStanding.{KernelParts, sides_of}
 use Rattle.trace_core.specs.KernelSeen.{KernelNotes, IsSound, IsKernelNoted, pages_of, parent_of, memory_of}

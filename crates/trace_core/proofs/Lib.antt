@@ -23,7 +23,6 @@ pub mod Stood
 pub mod SoundEvents
 pub mod SoundSteps
 pub mod FlatSteps
-pub mod OwnFrames
 pub mod PageCounts
 pub mod SeenForks
 pub mod KeptForks

@@ -9,7 +9,7 @@ use Rattle.std.proofs.lemmas.List.Sums.{sum_by-cons}
 use Rattle.std.proofs.lemmas.Map.Keys.{IsDistinct-head, IsDistinct-tail}
 use Rattle.vm_base.specs.Places.{cell_of, distinct}
 use Rattle.vm_base.specs.FlatMemory.{PageMap, FlatMemory, cells_of}
-use Rattle.trace_core.proofs.OwnFrames.{member, member-distinct, IsDistinct-distinct, member-map, member-keys, IsDistinct-keys, length-keys}
+use Rattle.vm_base.proofs.OwnFrames.{member, member-distinct, IsDistinct-distinct, member-map, member-keys, IsDistinct-keys, length-keys}
 
 -- ---- sums
 -- functions that agree have one sum

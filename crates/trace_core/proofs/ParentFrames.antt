@@ -21,7 +21,7 @@ use Rattle.page_tables.specs.Standing.{AreKept}
 use Rattle.page_tables.proofs.HeldFrames.{all-found}
 use Rattle.page_tables.proofs.LeafMap.{sorted-filter, used-found}
 use Rattle.page_tables.proofs.TouchShapes.{page-there, page-used}
-use Rattle.trace_core.proofs.OwnFrames.{AreMembers, member, member-distinct, IsDistinct-distinct, IsDistinct-sorted, member-map, member-keys, directory_frames-le}
+use Rattle.vm_base.proofs.OwnFrames.{AreMembers, member, member-distinct, IsDistinct-distinct, IsDistinct-sorted, member-map, member-keys, directory_frames-le}
 use Rattle.trace_core.proofs.PageCounts.{in_cell, len-cells}
 use Rattle.trace_core.proofs.CellSums.{member-entries, members-mapped, member-parent_cells, page-with-version, sum-entries, pairs-counted, pairs-distinct, pairs-fewer}
 use Rattle.trace_core.proofs.SpentPairs.{kept_frames}

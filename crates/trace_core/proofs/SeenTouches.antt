@@ -35,10 +35,12 @@ use Rattle.trace_core.specs.KernelSeen.{KernelNotes, IsSound, pages_of, parent_o
 use Rattle.trace_core.specs.TablesSeen.{used_in, ready_in}
 use Rattle.trace_core.specs.TouchAnswers.{fault_outcome, touch_outcome, LeavesReady, LacksPage, with_stored}
 use Rattle.trace_core.proofs.SeenTables.{seen-pages, seen-used, seen-count, seen-ready, ready-seen}
-use Rattle.trace_core.proofs.OwnFrames.{kept-with_pages}
-use Rattle.trace_core.proofs.FlatSteps.{present-touched, keys-with_bytes}
+use Rattle.vm_base.proofs.OwnFrames.{kept-with_pages}
+use Rattle.vm_base.proofs.FlatLaws.{keys-with_bytes}
+use Rattle.vm_base.proofs.FlatAreas.{listed-page}
+use Rattle.trace_core.proofs.FlatSteps.{present-touched}
 use Rattle.trace_core.proofs.AnswerLemmas.{deals_lead_on, no_request_has_led}
-use Rattle.trace_core.proofs.TouchedCells.{HasSlot, had-pages, listed-page}
+use Rattle.trace_core.proofs.TouchedCells.{HasSlot, had-pages}
 use Rattle.trace_core.proofs.ToldRefusals.{last_told, Told, told-count, touched-told}
 
 -- ---- what is seen is what the definitions judge by

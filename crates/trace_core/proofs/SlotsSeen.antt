@@ -24,7 +24,7 @@ use Rattle.page_tables.specs.declared.slot.Slot.{Slot}
 use Rattle.page_tables.specs.Standing.{owner_at}
 use Rattle.page_tables.proofs.OwnedSlots.{same_slot}
 use Rattle.trace_core.specs.TablesSeen.{with_some, with_cell_pages, with_owned_pages, pages_in, with_owner, used_in, is_named_by, is_unnamed, is_alone, is_alone_in, ready_in, with_leaf, with_lost, lost_in}
-use Rattle.trace_core.proofs.OwnFrames.{member, member-keys}
+use Rattle.vm_base.proofs.OwnFrames.{member, member-keys}
 
 -- each owner has one slot alone
 abbrev pub AreOnce : List Slot → Type 0

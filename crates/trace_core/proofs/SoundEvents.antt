@@ -24,8 +24,9 @@ use Rattle.trace_core.specs.KernelState.{Machine, KernelState, opening_state}
 use Rattle.trace_core.specs.EventMeaning.{EventEnd, begun, areas_changed, touch_answered, touch_judged, fork_answered, is_live, event_end}
 use Rattle.trace_core.specs.KernelStanding.{KernelParts, KernelStands}
 use Rattle.trace_core.specs.KernelSeen.{IsSound, KernelNotes, pages_of, most_touched, most_answered, most_behind}
-use Rattle.trace_core.proofs.FlatSteps.{opening-flat, map-flat, unmap-flat, protect-flat, write-flat, touched_is, stored_is, present-touched, keys-with_bytes, get-unmapped}
-use Rattle.trace_core.proofs.OwnFrames.{own-fewer, own-alike, own-empty}
+use Rattle.vm_base.proofs.FlatLaws.{keys-with_bytes, get-unmapped}
+use Rattle.trace_core.proofs.FlatSteps.{opening-flat, map-flat, unmap-flat, protect-flat, write-flat, touched_is, stored_is, present-touched}
+use Rattle.vm_base.proofs.OwnFrames.{own-fewer, own-alike, own-empty}
 
 -- the value of an answer
 abbrev value_or : {X E : Type 0} → X → Result X E → X

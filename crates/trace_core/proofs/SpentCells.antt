@@ -14,7 +14,7 @@ use Rattle.kernel_meaning.specs.FrameLaw.{Leaves, cell_at, with_cell, is_used, p
 use Rattle.kernel_meaning.specs.EventRequests.{shares_table, missing_tables, wanted_unless}
 use Rattle.page_tables.proofs.LeafMap.{same_number, sum-put, with_cell-put, is_some-filter, passes}
 use Rattle.page_tables.proofs.Missing.{has_number}
-use Rattle.trace_core.proofs.OwnFrames.{member}
+use Rattle.vm_base.proofs.OwnFrames.{member}
 
 -- ---- sums over the cells
 -- a part of each cell, summed

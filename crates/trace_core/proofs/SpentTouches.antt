@@ -27,7 +27,7 @@ use Rattle.page_tables.proofs.LeafMap.{cell_at-here, cell_at-apart, kept-with_ce
 use Rattle.page_tables.proofs.Missing.{missing-known}
 use Rattle.page_tables.proofs.TouchShapes.{Losing, touch-unjoined, page-there}
 use Rattle.page_tables.proofs.Again.{with_cell-same}
-use Rattle.trace_core.proofs.OwnFrames.{kept-with_pages}
+use Rattle.vm_base.proofs.OwnFrames.{kept-with_pages}
 use Rattle.trace_core.proofs.SpentPairs.{own_part, kept_part, kept_pages, parent_frames, kept_frames, lacking_leaf, version-apart, pages-then, own-grows, own-stays, shared_once, shared-apart, shared-here, shared-lost}
 use Rattle.leaf_cell.specs.Touching.{needs_copy}
 use Rattle.trace_core.proofs.SpentDeals.{AreSpent, IsSpent, spent-at, spent-weaker, spent-granted, spent-denied, spent-given, spent-row}

@@ -108,26 +108,3 @@ module _ (P : ℕ → Type 0) (q : ℕ) where
       by (Some refusal) further =
           had-more progress.leaves (page_touched first progress).leaves (without_pages added (page_touched first progress).leaves)
           (had-page first progress (pass first (omega arith) (omega arith))) (had-without added (page_touched first progress).leaves all)
-
--- ---- the cells of a range
-
-listed-range : (n first q : ℕ) → first ≤ q → q < first + n → IsListed q (range_with_len first n)
-listed-range zero first q low high = absurd (omega arith)
-listed-range (suc n) first q low high = elim (cases_eq first q) [
-  | inl here ↦ ap (λ b. b || list_any (λ other. other == q) (range_with_len (first + 1) n)) (eq-eqb first q here)
-  | inr apart ↦ ap (λ b. b || list_any (λ other. other == q) (range_with_len (first + 1) n)) (ne_eqb first q apart) ∙ listed-range n (first + 1) q (omega arith) (omega arith)
-]
-
--- the cell of a page of the range is one of its cells
-pub listed-page : (addr len page : ℕ) → page_of addr ≤ page → page < page_of addr + page_count addr len → IsListed (cell_of page) (cells_of_range addr len)
-listed-page addr zero page low high = absurd (omega arith)
-listed-page addr (suc n) page low high =
-    let whole : page_count addr (suc n) ≡ page_of (addr + suc n - 1) + 1 - page_of addr =
-    ap (λ b. cond b 0 (page_of (addr + suc n - 1) + 1 - page_of addr)) (ne_eqb (suc n) 0 (λ none. omega arith)) in
-    let last : page ≤ page_of (addr + suc n - 1) = omega (arith, whole, low, high) in
-    let above : cell_of page ≤ cell_of (page_of (addr + suc n - 1)) = omega (arith, last) in
-    let below : cell_of (page_of addr) ≤ cell_of page = omega (arith, low) in
-    let cells : cells_of_range addr (suc n) ≡ range_with_len (cell_of (page_of addr)) (cell_of (page_of (addr + suc n - 1)) + 1 - cell_of (page_of addr)) =
-    ap (λ b. cond b [] (range_with_len (cell_of (page_of addr)) (cell_of (page_of (addr + suc n - 1)) + 1 - cell_of (page_of addr)))) (ne_eqb (suc n) 0 (λ none. omega arith)) in
-    subst (IsListed (cell_of page)) (sym cells)
-    (listed-range (cell_of (page_of (addr + suc n - 1)) + 1 - cell_of (page_of addr)) (cell_of (page_of addr)) (cell_of page) below (omega (arith, above, below)))

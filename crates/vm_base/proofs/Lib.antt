@@ -7,3 +7,8 @@ pub mod DealLemmas
 pub mod EntryLemmas
 pub mod WorkedFrames
 pub mod IsKeptOn
+pub mod FlatLaws
+pub mod OwnFrames
+pub mod FlatAreas
+pub mod FlatSlots
+pub mod FlatFrames

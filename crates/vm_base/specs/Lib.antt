@@ -13,3 +13,4 @@ pub mod MemoryState
 pub mod MemoryCalls
 pub mod ProcessState
 pub mod SnapshotState
+pub mod FlatLaws

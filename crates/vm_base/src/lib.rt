@@ -14,6 +14,7 @@ mod frame_request;
 mod frozen;
 mod gate;
 mod housing;
+mod laws;
 mod memory;
 mod nest;
 mod no_memory;
@@ -36,6 +37,14 @@ pub use gate::{Gate, OpenGate, Point};
 pub use housing::{Housing, read_child, write_and_copy};
 pub use memory::{Memory, write_at, write_both};
 pub use nest::{Nest, Nested, copy_nested, read_nested_twice};
+pub use housing::{Housing, read_child};
+pub use laws::{
+    a_range_of_one_area_is_not_refused, a_store_changes_its_own_bytes_alone,
+    a_touch_changes_no_read, an_unmap_changes_no_other_read, more_pages_take_more_frames,
+    no_area_is_missed, slots_suffice_among_as_many_cells,
+};
+pub use memory::{Memory, write_at};
+pub use nest::{Nest, Nested};
 pub use no_memory::NoMemory;
 pub use page_frame::Frame;
 pub use parting::Parting;
