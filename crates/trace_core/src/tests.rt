@@ -5,10 +5,11 @@ ghost use Rattle.trace_core.specs.KernelStanding.{kept_number};
 
 use crate::{Kernel, SoloChild, Supply};
 use frame_pool::{DenyNth, FramePolicy, SnapQuota};
+use memory_uses::{fork_and_write, read_child, reap_one, write_at};
 use std::test::Fail;
 use vm_base::{
     Allot, Asker, CopyFault, Fault, ForkFault, Frame, Memory, Mode, Nest, Perm, Process, Refused,
-    SnapFault, Step, Want, fork_and_write, read_child, reap_one, write_at,
+    SnapFault, Step, Want,
 };
 
 // The count of a refusal, where there was one.

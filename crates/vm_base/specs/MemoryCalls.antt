@@ -8,7 +8,7 @@ use Rattle.vm_base.specs.declared.faults.Fault.TheVariants.{NoArea, NoWrite, NoF
 use Rattle.vm_base.specs.Counts.{Rose}
 use Rattle.vm_base.specs.Places.{page_of, page_count, cells_of_range}
 use Rattle.vm_base.specs.FlatMemory.{FlatMemory}
-use Rattle.vm_base.specs.FlatStep.{Refusal, OutsideAreas, ReadOnly, Taken, TooManyAreas, read_of, touch_of, write_of, with_pages, with_bytes, map_of, unmap_of, protect_of}
+use Rattle.vm_base.specs.FlatStep.{Refusal, OutsideAreas, ReadOnly, Taken, TooManyAreas, read_of, touch_of, with_pages, with_bytes, map_of, unmap_of, protect_of}
 use Rattle.vm_base.specs.MemoryState.{MemoryState, IsIn, KeepsReady, own_of}
 
 -- the fault that a refusal of the areas is answered with
@@ -95,17 +95,6 @@ IsReady state address n = (page : ℕ) → IsInRange page address n → IsIn pag
 abbrev pub after_store : MemoryState → ℕ → List ℕ → MemoryState
 after_store state address bytes =
     record state { mem = record state.mem { present = with_bytes state.mem.present address bytes } }
-
--- the memory that a write leaves where each of its frames is granted, or the fault
-abbrev pub write_answer : MemoryState → ℕ → List ℕ → Result FlatMemory Fault
-write_answer state address bytes = if_slots (is_out_of_slots state address (length bytes)) (faulted (write_of state.mem address bytes))
-
--- the range was touched, and the bytes are stored there
-pub record Writes (old new : MemoryState) (address : ℕ) (bytes : List ℕ) : Type 0 where
-  pub mem : write_answer old address bytes ≡ Ok new.mem
-  pub most : Reaches old new address (length bytes)
-  pub ready : IsReady new address (length bytes)
-  pub keeps : KeepsReady old new
 
 -- the memory that mapping pages leaves, or the fault
 abbrev pub map_answer : MemoryState → ℕ → ℕ → Perm → Result FlatMemory Fault

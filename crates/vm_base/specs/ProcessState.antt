@@ -1,13 +1,11 @@
 -- What is known of a process beside its memory: the children that live, and the numbers given out.
 use Rattle.std.specs.Prelude.{◌≡◌, ℕ, ◌+◌, ◌≤◌, ◌<◌, ◌==◌, not, ◌⊎◌, List, [], ◌∷◌, ◌++◌, length, filter, All}
-use Rattle.vm_base.specs.declared.faults.Fault.{Fault}
 use Rattle.std.specs.Ordering.{nat_cmp}
 use Rattle.std.specs.FinMap.{FinMap, len}
 use Rattle.vm_base.specs.declared.faults.ForkFault.{ForkFault}
 use Rattle.vm_base.specs.declared.faults.ForkFault.TheVariants.{NoFrame, TooMany, NumbersSpent}
 use Rattle.vm_base.specs.Counts.{Rose}
-use Rattle.vm_base.specs.MemoryState.{MemoryState, IsKept, KeepsReady}
-use Rattle.vm_base.specs.MemoryCalls.{Writes, TouchFails}
+use Rattle.vm_base.specs.MemoryState.{MemoryState, KeepsReady}
 
 -- the children of a process
 pub record Children : Type 0 where
@@ -62,14 +60,6 @@ ForkFails children old new NumbersSpent = (children.last ≡ 4294967295) × (chi
 pub record LeavesMemory (old new : MemoryState) : Type 0 where
   pub mem : new.mem ≡ old.mem
   pub most : new.most ≡ old.most
-
--- behind a fork, which refused no request, the bytes were written, or the touch of their range was refused
-pub record WritesAfterFork (old new : MemoryState) (address : ℕ) (bytes : List ℕ) : Type 0 where
-  pub forked : MemoryState
-  pub fork : LeavesMemory old forked
-  pub kept : IsKept old forked []
-  pub refused : forked.refused ≡ old.refused
-  pub write : Writes forked new address bytes ⊎ ((fault : Fault) × TouchFails forked new address (length bytes) fault)
 
 -- the child of this number lives no more
 pub record Reaps (old new : Children) (number : ℕ) : Type 0 where

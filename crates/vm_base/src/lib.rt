@@ -28,28 +28,25 @@ mod walk;
 
 pub use allotment::Allot;
 pub use byte_list::Bytes;
-pub use copying::{Copying, copy_through};
+pub use copying::Copying;
 pub use faults::{CopyFault, Fault, ForkFault, SnapFault, Step};
 pub use fork_mode::Mode;
 pub use frame_request::{Asker, Want};
-pub use frozen::{Frozen, read_twice};
+pub use frozen::Frozen;
 pub use gate::{Gate, OpenGate, Point};
-pub use housing::{Housing, read_child, write_and_copy};
-pub use memory::{Memory, write_at, write_both};
-pub use nest::{Nest, Nested, copy_nested, read_nested_twice};
-pub use housing::{Housing, read_child};
+pub use housing::Housing;
 pub use laws::{
     a_range_of_one_area_is_not_refused, a_store_changes_its_own_bytes_alone,
     a_touch_changes_no_read, an_unmap_changes_no_other_read, more_pages_take_more_frames,
     no_area_is_missed, slots_suffice_among_as_many_cells,
 };
-pub use memory::{Memory, write_at};
+pub use memory::Memory;
 pub use nest::{Nest, Nested};
 pub use no_memory::NoMemory;
 pub use page_frame::Frame;
 pub use parting::Parting;
 pub use permission::Perm;
-pub use process::{Process, fork_and_write, reap_one};
+pub use process::Process;
 pub use refusals::{Lost, Refused};
 pub use table_entry::{Bits, entry_parts, entry_word};
 pub use walk::split_addr;

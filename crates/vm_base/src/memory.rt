@@ -1,9 +1,8 @@
 //! A memory as its owner sees it, whatever keeps its pages.
-ghost use Rattle.std.specs.Prelude.{List, ◌≡◌, ℕ, ◌+◌, ◌<◌, ◌≤◌, ◌^◌, [], length, OnOk, OnErr, IfErr};
+ghost use Rattle.std.specs.Prelude.{◌≡◌, ◌+◌, ◌<◌, ◌≤◌, ◌^◌, [], length, OnOk, IfErr, Ok, Err};
 ghost use Rattle.vm_base.specs.Places.{cells_of_range};
-ghost use Rattle.vm_base.specs.FlatStep.{write_of};
-ghost use Rattle.vm_base.specs.MemoryState.{MemoryState, IsMemory, IsKept, IsListed};
-ghost use Rattle.vm_base.specs.MemoryCalls.{read_answer, map_answer, unmap_answer, protect_answer, after_store, IsReady, Touches, TouchFails, Writes, Maps, Changes, Refuses};
+ghost use Rattle.vm_base.specs.MemoryState.{MemoryState, IsMemory, IsKept};
+ghost use Rattle.vm_base.specs.MemoryCalls.{read_answer, map_answer, unmap_answer, protect_answer, after_store, IsReady, Touches, TouchFails, Maps, Changes, Refuses};
 
 use crate::faults::Fault;
 use crate::permission::Perm;
@@ -95,50 +94,4 @@ pub trait Memory {
     ghost went_none: { (p : Self) → went p p };
 
     ghost went_on: { (p q r : Self) → went p q → went q r → went p r };
-}
-
-/// Touches a range and stores bytes there. It is refused where the touch is.
-pub fn write_at<M: Memory>(memory: &mut M, addr: u64, bytes: &[u8]) -> Result<(), Fault>
-    requires within { addr + length bytes.now ≤ 2 ^ 48 }
-    requires few { length bytes.now ≤ 4194304 }
-    ensures written { OnOk result
-        (write_of (M.state memory.old).mem addr bytes.now ≡ Ok (M.state memory.new).mem) }
-    ensures ready { OnOk result (Writes (M.state memory.old) (M.state memory.new) addr bytes.now) }
-
-    // The touch was refused, and the memory is as it was.
-    ensures cause { IfErr result
-        (λ fault. TouchFails (M.state memory.old) (M.state memory.new) addr (length bytes.now) fault) }
-    ensures fault { OnErr result ((M.state memory.new).mem ≡ (M.state memory.old).mem) }
-
-    ensures keeps { IsKept (M.state memory.old) (M.state memory.new) (cells_of_range addr (length bytes.now)) }
-    ensures aside { M.aside memory.new ≡ M.aside memory.old }
-    ensures went { M.went memory.old memory.new }
-{
-    memory.touch(addr, bytes.len() as u64)?;
-    memory.store(addr, bytes);
-    Ok(())
-}
-
-/// Touches two ranges, and then stores bytes in both.
-pub fn write_both<M: Memory>(
-    memory: &mut M,
-    addr: u64,
-    one: &[u8],
-    second: u64,
-    two: &[u8],
-) -> Result<(), Fault>
-    requires within { addr + length one.now ≤ 2 ^ 48 }
-    requires few { length one.now ≤ 4194304 }
-    requires within_second { second + length two.now ≤ 2 ^ 48 }
-    requires few_second { length two.now ≤ 4194304 }
-    ensures keeps { (cells : List ℕ) → ((cell : ℕ) → IsListed cell (cells_of_range addr (length one.now)) → IsListed cell cells)
-        → ((cell : ℕ) → IsListed cell (cells_of_range second (length two.now)) → IsListed cell cells) → IsKept (M.state memory.old) (M.state memory.new) cells }
-    ensures aside { M.aside memory.new ≡ M.aside memory.old }
-    ensures went { M.went memory.old memory.new }
-{
-    memory.touch(addr, one.len() as u64)?;
-    memory.touch(second, two.len() as u64)?;
-    memory.store(addr, one);
-    memory.store(second, two);
-    Ok(())
 }

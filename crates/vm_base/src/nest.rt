@@ -2,9 +2,9 @@
 ghost use Rattle.std.specs.Prelude.{◌≡◌, ℕ, Bool, IsTrue, ◌+◌, ◌≤◌, ◌^◌, length, OnOk, IfOk, IfErr, Ok, Err};
 ghost use Rattle.vm_base.specs.SnapshotState.{SnapshotState, KeepsSnapshot, StepsNest, FailsNest, IsFoundSince, snapshot_answer};
 
-use crate::copying::{Copying, copy_through};
+use crate::copying::Copying;
 use crate::faults::{CopyFault, SnapFault, Step};
-use crate::frozen::{Frozen, read_twice};
+use crate::frozen::Frozen;
 use crate::gate::Gate;
 
 /// A value that reads and copies its children itself.
@@ -103,40 +103,4 @@ impl<N: Nest> Copying for Nested<'_, '_, N> {
     fn copy_left<G: Gate>(&mut self, _gate: &G) -> Result<Step, CopyFault> {
         self.nest.child_copy(self.child)
     }
-}
-
-/// Reads a range of a child twice, as a snapshot.
-pub fn read_nested_twice<N: Nest>(
-    nest: &mut N,
-    child: &mut N::Child,
-    addr: u64,
-    first: &mut [u8],
-    again: &mut [u8],
-) -> Result<(), SnapFault>
-    requires lives { IsTrue (N.lives (N.beside nest.old child.old)) }
-    requires within { addr + length first.old ≤ 2 ^ 48 }
-    requires length { length again.old ≡ length first.old }
-    ensures same { OnOk result (first.new ≡ again.new) }
-    ensures bytes { OnOk result (snapshot_answer (N.nested nest.new child.new) addr (length first.old) ≡ Ok first.new) }
-    ensures beside { N.beside nest.new child.new ≡ N.beside nest.old child.old }
-    ensures keeps { KeepsSnapshot (N.nested nest.old child.old) (N.nested nest.new child.new) }
-    ensures went { N.went nest.old nest.new }
-{
-    let mut z = Nested { nest, child };
-    read_twice(&mut z, addr, first, again)
-}
-
-/// Copies what is left of a child, as a snapshot.
-pub fn copy_nested<N: Nest, G: Gate>(
-    nest: &mut N,
-    child: &mut N::Child,
-    gate: &G,
-) -> Result<(), CopyFault>
-    requires lives { IsTrue (N.lives (N.beside nest.old child.old)) }
-    ensures whole { OnOk result (IsTrue (N.nested nest.new child.new).whole) }
-    ensures beside { N.beside nest.new child.new ≡ N.beside nest.old child.old }
-    ensures went { N.went nest.old nest.new }
-{
-    let mut z = Nested { nest, child };
-    copy_through(&mut z, gate)
 }

@@ -1,6 +1,6 @@
 use Rattle.vm_base.specs.SnapshotState.{Quiet}
 use Rattle.std.proofs.Common.{◌≡◌, ◌≤◌, IsTrue}
-use Rattle.vm_base.proofs.copying.copy_through.Given as goal
+use Rattle.memory_uses.proofs.copying.copy_through.Given as goal
 
 -- what was found lost before the first call is known only behind one
 abbrev pub invariant-loop : goal.invariant-loop

@@ -1,8 +1,9 @@
 use Rattle.std.proofs.Common.{rules, ℕ, List, length, Result, Ok, Err, IfErr, OnOk, ◌⊎◌, inl, inr}
 use Rattle.vm_base.specs.declared.faults.Fault.{Fault}
 use Rattle.vm_base.specs.MemoryState.{MemoryState}
-use Rattle.vm_base.specs.MemoryCalls.{Writes, TouchFails}
-use Rattle.vm_base.proofs.process.fork_and_write.Goals as goal
+use Rattle.vm_base.specs.MemoryCalls.{TouchFails}
+use Rattle.memory_uses.specs.Written.{Writes}
+use Rattle.memory_uses.proofs.process.fork_and_write.Goals as goal
 
 -- a write was made, or its touch was refused
 written_or_refused : (answer : Result (Unit {0}) Fault) (old new : MemoryState) (address : ℕ) (bytes : List ℕ)

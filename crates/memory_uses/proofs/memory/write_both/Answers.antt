@@ -1,7 +1,7 @@
 use Rattle.std.proofs.Common.{[]}
 use Rattle.std.proofs.lemmas.Bool.{false≢true}
 use Rattle.vm_base.proofs.IsKeptOn.{IsKept-on}
-use Rattle.vm_base.proofs.memory.write_both.Goals as goal
+use Rattle.memory_uses.proofs.memory.write_both.Goals as goal
 
 pub returns-clause-went : goal.returns-clause-went
 returns-clause-went g c =

@@ -1,0 +1,27 @@
+-- What a write leaves, alone and behind a fork.
+use Rattle.std.specs.Prelude.{◌≡◌, ℕ, ◌⊎◌, List, [], length, Result, Ok}
+use Rattle.vm_base.specs.declared.faults.Fault.{Fault}
+use Rattle.vm_base.specs.FlatMemory.{FlatMemory}
+use Rattle.vm_base.specs.FlatStep.{write_of}
+use Rattle.vm_base.specs.MemoryState.{MemoryState, IsKept, KeepsReady}
+use Rattle.vm_base.specs.MemoryCalls.{Reaches, IsReady, TouchFails, is_out_of_slots, if_slots, faulted}
+use Rattle.vm_base.specs.ProcessState.{LeavesMemory}
+
+-- the memory that a write leaves where each of its frames is granted, or the fault
+abbrev pub write_answer : MemoryState → ℕ → List ℕ → Result FlatMemory Fault
+write_answer state address bytes = if_slots (is_out_of_slots state address (length bytes)) (faulted (write_of state.mem address bytes))
+
+-- the range was touched, and the bytes are stored there
+pub record Writes (old new : MemoryState) (address : ℕ) (bytes : List ℕ) : Type 0 where
+  pub mem : write_answer old address bytes ≡ Ok new.mem
+  pub most : Reaches old new address (length bytes)
+  pub ready : IsReady new address (length bytes)
+  pub keeps : KeepsReady old new
+
+-- behind a fork, which refused no request, the bytes were written, or the touch of their range was refused
+pub record WritesAfterFork (old new : MemoryState) (address : ℕ) (bytes : List ℕ) : Type 0 where
+  pub forked : MemoryState
+  pub fork : LeavesMemory old forked
+  pub kept : IsKept old forked []
+  pub refused : forked.refused ≡ old.refused
+  pub write : Writes forked new address bytes ⊎ ((fault : Fault) × TouchFails forked new address (length bytes) fault)
