@@ -8,3 +8,4 @@ pub mod Within
 pub mod Unique
 pub mod Found
 pub mod Made
+pub mod FlatSteps

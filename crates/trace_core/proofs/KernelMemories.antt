@@ -206,6 +206,7 @@ IsFlat-prop memory a b = λ i. record {
   few = le_prop a.few b.few i;
   bytes = λ page bytes there k d within. le_prop (a.bytes page bytes there k d within) (b.bytes page bytes there k d within) i;
   whole = λ page bytes there. Coded-set coded_ℕ (length bytes) 4096 (a.whole page bytes there) (b.whole page bytes there) i;
+  low = λ page inside. le_prop (a.low page inside) (b.low page inside) i;
   in_areas = λ page there. test-prop (is_some (area_of memory.areas page)) true (a.in_areas page there) (b.in_areas page there) i;
 }
 

@@ -22,7 +22,6 @@ pub mod Known
 pub mod Stood
 pub mod SoundEvents
 pub mod SoundSteps
-pub mod FlatSteps
 pub mod PageCounts
 pub mod SeenForks
 pub mod KeptForks

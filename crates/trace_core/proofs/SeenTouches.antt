@@ -38,7 +38,7 @@ use Rattle.trace_core.proofs.SeenTables.{seen-pages, seen-used, seen-count, seen
 use Rattle.vm_base.proofs.OwnFrames.{kept-with_pages}
 use Rattle.vm_base.proofs.FlatLaws.{keys-with_bytes}
 use Rattle.vm_base.proofs.FlatAreas.{listed-page}
-use Rattle.trace_core.proofs.FlatSteps.{present-touched}
+use Rattle.area_list.proofs.FlatSteps.{present-touched}
 use Rattle.trace_core.proofs.AnswerLemmas.{deals_lead_on, no_request_has_led}
 use Rattle.trace_core.proofs.TouchedCells.{HasSlot, had-pages}
 use Rattle.trace_core.proofs.ToldRefusals.{last_told, Told, told-count, touched-told}

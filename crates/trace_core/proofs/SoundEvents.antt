@@ -25,7 +25,7 @@ use Rattle.trace_core.specs.EventMeaning.{EventEnd, begun, areas_changed, touch_
 use Rattle.trace_core.specs.KernelStanding.{KernelParts, KernelStands}
 use Rattle.trace_core.specs.KernelSeen.{IsSound, KernelNotes, pages_of, most_touched, most_answered, most_behind}
 use Rattle.vm_base.proofs.FlatLaws.{keys-with_bytes, get-unmapped}
-use Rattle.trace_core.proofs.FlatSteps.{opening-flat, map-flat, unmap-flat, protect-flat, write-flat, touched_is, stored_is, present-touched}
+use Rattle.area_list.proofs.FlatSteps.{opening-flat, map-flat, unmap-flat, protect-flat, write-flat, touched_is, stored_is, present-touched}
 use Rattle.vm_base.proofs.OwnFrames.{own-fewer, own-alike, own-empty}
 
 -- the value of an answer
@@ -102,9 +102,9 @@ pub event-flat : (machine : Machine) (state : KernelState) (answers : List Answe
 event-flat machine state answers event within flat = event-parent IsFlat machine state answers flat event (changes-flat event within)
   where
     changes-flat : (event : Event) → IsWithinBounds event → (memory : FlatMemory) → change_of state.world.parent event ≡ Ok memory → IsFlat memory
-    changes-flat (Map first n perm) within memory is = map-flat state.world.parent first n perm memory flat within.0 is
+    changes-flat (Map first n perm) within memory is = map-flat state.world.parent first n perm memory flat within.0 within.1 is
     changes-flat (Unmap first n) within memory is = unmap-flat state.world.parent first n memory flat within.0 is
-    changes-flat (Protect first n perm) within memory is = protect-flat state.world.parent first n perm memory flat within.0 is
+    changes-flat (Protect first n perm) within memory is = protect-flat state.world.parent first n perm memory flat within.0 within.1 is
     changes-flat (Write address bytes) within memory is = write-flat state.world.parent address bytes memory flat within.1 is
     changes-flat (Fill address n byte) within memory is = write-flat state.world.parent address (replicate n byte) memory flat (All-replicate (λ b. b < 256) n byte within.1) is
     changes-flat (Read address n) within memory is = subst IsFlat (ok-is is) flat

@@ -21,7 +21,7 @@ use Rattle.trace_core.specs.KernelSeen.{KernelNotes, IsSound, pages_of, memory_o
 use Rattle.trace_core.specs.TouchAnswers.{with_stored}
 use Rattle.trace_core.proofs.SeenTables.{seen-pages, seen-ready}
 use Rattle.vm_base.proofs.FlatLaws.{keys-with_bytes}
-use Rattle.trace_core.proofs.FlatSteps.{touched_is, touch-flat, stored-flat}
+use Rattle.area_list.proofs.FlatSteps.{touched_is, touch-flat, stored-flat}
 use Rattle.vm_base.proofs.OwnFrames.{own-alike}
 use Rattle.trace_core.proofs.AnswerLemmas.{deals_lead_on, no_request_has_led}
 use Rattle.trace_core.proofs.ToldRefusals.{count-grows}

@@ -1,5 +1,5 @@
 -- A memory as its owner sees it: areas, and the bytes of the pages that are present.
-use Rattle.std.specs.Prelude.{◌≡◌, ◌≢◌, ℕ, ◌+◌, ◌≤◌, ◌<◌, nat_le, nat_lt, Bool, ◌&&◌, List, [], ◌∷◌, Option, Some, IsSome, unwrap_or, length, slice_index, replicate, map, take, drop, ◌++◌, All}
+use Rattle.std.specs.Prelude.{◌≡◌, ◌≢◌, ℕ, ◌+◌, ◌^◌, ◌≤◌, ◌<◌, nat_le, nat_lt, Bool, ◌&&◌, List, [], ◌∷◌, Option, Some, IsSome, unwrap_or, length, slice_index, replicate, map, take, drop, ◌++◌, All}
 use Rattle.std.specs.Ordering.{nat_cmp}
 use Rattle.std.specs.FinMap.{FinMap, get, empty, keys}
 use Rattle.std.specs.List.{find, range_with_len}
@@ -59,10 +59,11 @@ AreInOrder [] = Unit {0}
 AreInOrder (a ∷ []) = 0 < a.pages
 AreInOrder (a ∷ b ∷ areas) = (0 < a.pages) × (a.first + a.pages ≤ b.first) × (a.first + a.pages ≡ b.first → a.perm ≢ b.perm) × AreInOrder (b ∷ areas)
 
--- areas in order, and whole pages that lie in them
+-- areas in order, whose pages lie below 2^36, and whole pages that lie in them
 pub record IsFlat (memory : FlatMemory) : Type 0 where
   pub in_order : AreInOrder memory.areas
   pub few : length memory.areas ≤ 128
   pub bytes : (page : ℕ) (bytes : List ℕ) → get memory.present page ≡ Some bytes → All (λ byte. byte < 256) bytes
   pub whole : (page : ℕ) (bytes : List ℕ) → get memory.present page ≡ Some bytes → length bytes ≡ 4096
+  pub low : (page : ℕ) → IsSome (area_of memory.areas page) → page < 2 ^ 36
   pub in_areas : (page : ℕ) → IsSome (get memory.present page) → IsSome (area_of memory.areas page)

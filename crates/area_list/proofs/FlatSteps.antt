@@ -1,11 +1,11 @@
 -- A flat memory stays flat: touching, storing, mapping, unmapping and protecting.
-use Rattle.std.proofs.Common.{◌≡◌, ℕ, zero, suc, ◌+◌, ◌-◌, ◌<◌, ◌≤◌, Bool, true, false, not, cond, eqb, leb, List, [], ◌∷◌, length, replicate, set, Option, Some, None, Result, Ok, Err, refl, sym, ◌∙◌, ap, subst, arith, inl, inr}
+use Rattle.std.proofs.Common.{◌≡◌, ℕ, zero, suc, ◌+◌, ◌-◌, ◌^◌, ◌<◌, ◌≤◌, Bool, true, false, not, cond, eqb, leb, List, [], ◌∷◌, length, replicate, set, Option, Some, None, Result, Ok, Err, refl, sym, ◌∙◌, ap, subst, arith, inl, inr}
 use Rattle.std.specs.Prelude.{IsSome, is_some, is_ok, unwrap_or}
 use Rattle.std.specs.List.{All}
 use Rattle.std.specs.Option.{option_map}
 use Rattle.std.specs.Ordering.{nat_cmp}
 use Rattle.std.specs.FinMap.{get, insert, retain_keys, get-empty, get-retain_keys, nat_cmp-IsAntisymmetric}
-use Rattle.std.proofs.lemmas.Bool.{cases_Bool, cases_eq, cond-true, cond-false, leb-true, le-leb, false≢true, not-false, not-true, ne_eqb}
+use Rattle.std.proofs.lemmas.Bool.{cases_Bool, cases_eq, cond-true, cond-false, leb-true, le-leb, ltb-true, and_parts, false≢true, not-false, not-true, ne_eqb}
 use Rattle.std.proofs.lemmas.List.{length-replicate, length-set}
 use Rattle.std.proofs.lemmas.List.Elements.{All-head, All-tail, All-replicate, All-set}
 use Rattle.vm_base.specs.declared.permission.Perm.{Perm}
@@ -50,10 +50,15 @@ pages_of_flat memory flat page bytes there = record {
   inside = flat.in_areas page (ap is_some there);
 }
 
-flat_from_pages : (memory : FlatMemory) → AreInOrder memory.areas → length memory.areas ≤ 128 → ArePages memory.areas memory.present → IsFlat memory
-flat_from_pages memory order few pages = record {
+-- each page of areas lies below 2^36
+abbrev AreLow : List Area → Type 0
+AreLow areas = (page : ℕ) → IsSome (area_of areas page) → page < 2 ^ 36
+
+flat_from_pages : (memory : FlatMemory) → AreInOrder memory.areas → length memory.areas ≤ 128 → AreLow memory.areas → ArePages memory.areas memory.present → IsFlat memory
+flat_from_pages memory order few low pages = record {
   in_order = order;
   few = few;
+  low = low;
   bytes = λ page bytes there. (pages page bytes there).fit;
   whole = λ page bytes there. (pages page bytes there).whole;
   in_areas = λ page there. let found = value_of (get memory.present page) there in (pages page found.0 found.1).inside;
@@ -133,7 +138,7 @@ touch-flat memory address n after flat is =
     let known = touched_is memory address n after is in
     let inside : (q : ℕ) → first ≤ q → q < first + count → IsSome (area_of memory.areas q) =
     λ q le lt. not-false (is_some (area_of memory.areas q)) (fails_below count (λ page. not (is_some (area_of memory.areas page))) first known.0 q le lt) in
-    subst IsFlat known.1 (flat_from_pages (record memory { present = with_pages memory.present first count }) flat.in_order flat.few
+    subst IsFlat known.1 (flat_from_pages (record memory { present = with_pages memory.present first count }) flat.in_order flat.few flat.low
     (pages-with_pages count memory.areas memory.present first (pages_of_flat memory flat) inside))
 
 -- ---- storing
@@ -161,7 +166,7 @@ pub stored-flat : (memory : FlatMemory) (address : ℕ) (bytes : List ℕ) → I
     → ((page : ℕ) → page_of address ≤ page → page < page_of address + page_count address (length bytes) → IsSome (get memory.present page))
     → IsFlat (record memory { present = with_bytes memory.present address bytes })
 stored-flat memory address bytes flat fit there =
-    flat_from_pages (record memory { present = with_bytes memory.present address bytes }) flat.in_order flat.few
+    flat_from_pages (record memory { present = with_bytes memory.present address bytes }) flat.in_order flat.few flat.low
     (pages-with_bytes bytes memory.areas memory.present address fit (pages_of_flat memory flat) (present_bytes memory.present address (length bytes) there))
 
 -- ---- writing
@@ -201,38 +206,51 @@ still_inside old new first n perm page sets inside =
       | inr beyond ↦ ap is_some (cond-false (is_among first n page) (Some perm) (permission_at old page) beyond) ∙ has_permission old page ∙ inside
     ]
 
+-- pages that lie in areas then were among those that were set, or did before
+low_then : (old new : List Area) (first n : ℕ) (perm : Option Perm) (page : ℕ) → Sets old new first n perm → (IsSome perm → first + n ≤ 2 ^ 36) → AreLow old → IsSome (area_of new page) → page < 2 ^ 36
+low_then old new first n perm page sets within low inside =
+    let some : IsSome (cond (is_among first n page) perm (permission_at old page)) = sym (ap is_some (sets page)) ∙ has_permission new page ∙ inside in
+    elim (cases_Bool (is_among first n page)) [
+      | inl among ↦
+          let below : page < first + n = ltb-true page (first + n) (and_parts _ _ among).1 in
+          let end : first + n ≤ 2 ^ 36 = within (sym (ap is_some (cond-true (is_among first n page) perm (permission_at old page) among)) ∙ some) in
+          omega (arith, below, end)
+      | inr beyond ↦ low page (sym (has_permission old page) ∙ sym (ap is_some (cond-false (is_among first n page) perm (permission_at old page) beyond)) ∙ some)
+    ]
+
 -- a memory with such areas
-set_flat : (memory : FlatMemory) (first n : ℕ) (perm : Perm) (new : List Area) → 0 < n → IsFlat memory → joined (pieces first (first + n) (Some (area_at first n perm)) memory.areas) ≡ new
+set_flat : (memory : FlatMemory) (first n : ℕ) (perm : Perm) (new : List Area) → 0 < n → first + n ≤ 2 ^ 36 → IsFlat memory → joined (pieces first (first + n) (Some (area_at first n perm)) memory.areas) ≡ new
     → length new ≤ 128 → IsFlat (record memory { areas = new })
-set_flat memory first n perm new some flat made few =
+set_flat memory first n perm new some within flat made few =
     let from = pieces_from first n (Some (area_at first n perm)) memory.areas some (refl, refl) (IsFrom-in_order memory.areas flat.in_order) in
     let order : AreInOrder new = subst AreInOrder made (joined_in_order 0 (pieces first (first + n) (Some (area_at first n perm)) memory.areas) from) in
     let sets = pieces_set first n (Some (area_at first n perm)) memory.areas new (refl, refl) (sym made) in
     record {
       in_order = order;
       few = few;
+      low = λ page inside. low_then memory.areas new first n (Some perm) page sets (λ there. within) flat.low inside;
       bytes = flat.bytes;
       whole = flat.whole;
       in_areas = λ page there. still_inside memory.areas new first n perm page sets (flat.in_areas page there);
     }
 
-pub map-flat : (memory : FlatMemory) (first n : ℕ) (perm : Perm) (after : FlatMemory) → IsFlat memory → 0 < n → map_of memory first n perm ≡ Ok after → IsFlat after
-map-flat memory first n perm after flat some is =
+pub map-flat : (memory : FlatMemory) (first n : ℕ) (perm : Perm) (after : FlatMemory) → IsFlat memory → 0 < n → first + n ≤ 2 ^ 36 → map_of memory first n perm ≡ Ok after → IsFlat after
+map-flat memory first n perm after flat some within is =
     let new : List Area = joined (with_area (area_at first n perm) memory.areas) in
     let free = accepted Taken (taken memory.areas first n) (at_most_128 (record memory { areas = new })) after is in
     let few = few_then (record memory { areas = new }) after free.1 in
     let made : if_few (joined (pieces first (first + n) (Some (area_at first n perm)) memory.areas)) ≡ if_few new =
     made_mapped memory.areas first n perm some flat.in_order free.0 ∙ ap (λ found. or_refused Taken found (if_few new)) free.0 in
-    subst IsFlat few.0 (set_flat memory first n perm new some flat (same_few (joined (pieces first (first + n) (Some (area_at first n perm)) memory.areas)) new few.1 made) few.1)
+    subst IsFlat few.0 (set_flat memory first n perm new some within flat (same_few (joined (pieces first (first + n) (Some (area_at first n perm)) memory.areas)) new few.1 made) few.1)
 
-pub protect-flat : (memory : FlatMemory) (first n : ℕ) (perm : Perm) (after : FlatMemory) → IsFlat memory → 0 < n → protect_of memory first n perm ≡ Ok after → IsFlat after
-protect-flat memory first n perm after flat some is =
+pub protect-flat : (memory : FlatMemory) (first n : ℕ) (perm : Perm) (after : FlatMemory) → IsFlat memory → 0 < n → first + n ≤ 2 ^ 36 → protect_of memory first n perm ≡ Ok after → IsFlat after
+protect-flat memory first n perm after flat some within is =
     let new : List Area = joined (with_area (area_at first n perm) (areas_without first n memory.areas)) in
     let held = accepted OutsideAreas (outside memory.areas first n) (at_most_128 (record memory { areas = new })) after is in
     let few = few_then (record memory { areas = new }) after held.1 in
     let made : if_few (joined (pieces first (first + n) (Some (area_at first n perm)) memory.areas)) ≡ if_few new =
     made_protected memory.areas first n perm flat.in_order held.0 ∙ ap (λ found. or_refused OutsideAreas found (if_few new)) held.0 in
-    subst IsFlat few.0 (set_flat memory first n perm new some flat (same_few (joined (pieces first (first + n) (Some (area_at first n perm)) memory.areas)) new few.1 made) few.1)
+    subst IsFlat few.0 (set_flat memory first n perm new some within flat (same_few (joined (pieces first (first + n) (Some (area_at first n perm)) memory.areas)) new few.1 made) few.1)
 
 -- a page that is left lies beyond them, and was there
 kept_page : {X : Type 0} (beyond : Bool) (old : Option X) (bytes : X) → cond beyond old None ≡ Some bytes → (beyond ≡ true) × (old ≡ Some bytes)
@@ -247,7 +265,8 @@ unmap-flat memory first n after flat some is =
     let made : joined (pieces first (first + n) None memory.areas) ≡ new =
     same_few (joined (pieces first (first + n) None memory.areas)) new few.1 (made_unmapped memory.areas first n some flat.in_order) in
     let sets = pieces_set first n None memory.areas new tt (sym made) in
-    subst IsFlat few.0 (flat_from_pages (record { areas = new; present = left }) (without_in_order first n memory.areas some flat.in_order) few.1 (λ page bytes there.
+    subst IsFlat few.0 (flat_from_pages (record { areas = new; present = left }) (without_in_order first n memory.areas some flat.in_order) few.1
+    (λ page inside. low_then memory.areas new first n None page sets (λ there. absurd (false≢true there)) flat.low inside) (λ page bytes there.
     let kept = kept_page (is_beyond first n page) (get memory.present page) bytes (sym (get-unmapped memory.present first n page) ∙ there) in
     let old : IsPage memory.areas page bytes = pages_of_flat memory flat page bytes kept.1 in
     record {
@@ -259,4 +278,4 @@ unmap-flat memory first n after flat some is =
 
 -- ---- at first
 pub opening-flat : IsFlat empty_memory
-opening-flat = flat_from_pages empty_memory tt (omega arith) (λ page bytes there. absurd (false≢true (ap is_some (sym (get-empty nat_cmp page) ∙ there))))
+opening-flat = flat_from_pages empty_memory tt (omega arith) (λ page inside. absurd (false≢true inside)) (λ page bytes there. absurd (false≢true (ap is_some (sym (get-empty nat_cmp page) ∙ there))))
