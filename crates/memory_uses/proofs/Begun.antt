@@ -41,7 +41,7 @@ begun_one old middle new first n address k maps touch = record {
   maps = front_mapped old middle first n [] maps;
   mem = touches_mem middle new address k touch;
   most = touch.most ∙ ap (λ m. max m (own_of (touched middle.mem address k))) (same_most old middle first n maps)
-    ∙ ap (λ m. max old.most (own_of m)) (sym (touches_mem middle new address k touch));
+      ∙ ap (λ m. max old.most (own_of m)) (sym (touches_mem middle new address k touch));
   ready = touch.ready;
 }
 

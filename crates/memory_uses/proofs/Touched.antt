@@ -57,7 +57,7 @@ stores_three s0 s1 s2 s3 s4 s5 s6 a b d x y z t1 t2 t3 e4 e5 e6 =
     record {
       mem = ap (λ s. s.mem) all ∙ ap (λ m. stored_all m ((a, x) ∷ (b, y) ∷ (d, z) ∷ [])) three;
       most = ap (λ s. s.most) all ∙ t3.most ∙ ap (λ m. max s2.most (own_of (touched m d (length z)))) two
-        ∙ ap (λ k. max k (own_of (touched (touched (touched s0.mem a (length x)) b (length y)) d (length z))))
+          ∙ ap (λ k. max k (own_of (touched (touched (touched s0.mem a (length x)) b (length y)) d (length z))))
           (t2.most ∙ ap (λ m. max s1.most (own_of (touched m b (length y)))) one
           ∙ ap (λ k. max k (own_of (touched (touched s0.mem a (length x)) b (length y)))) t1.most);
       keeps = λ page is. subst (λ s. IsIn page s.ready) (sym all) (t3.keeps page (t2.keeps page (t1.keeps page is)));
@@ -73,7 +73,7 @@ stores_two s0 s1 s2 s3 s4 a b x y t1 t2 e3 e4 =
     record {
       mem = ap (λ s. s.mem) all ∙ ap (λ m. stored_all m ((a, x) ∷ (b, y) ∷ [])) two;
       most = ap (λ s. s.most) all ∙ t2.most ∙ ap (λ m. max s1.most (own_of (touched m b (length y)))) one
-        ∙ ap (λ k. max k (own_of (touched (touched s0.mem a (length x)) b (length y)))) t1.most;
+          ∙ ap (λ k. max k (own_of (touched (touched s0.mem a (length x)) b (length y)))) t1.most;
       keeps = λ page is. subst (λ s. IsIn page s.ready) (sym all) (t2.keeps page (t1.keeps page is));
     }
 

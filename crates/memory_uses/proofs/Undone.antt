@@ -92,24 +92,24 @@ without_both : (first n : ℕ) (a next : Area) (rest : List Area) → 0 < n → 
 without_both first n a next rest some pages below one order =
     let meets : a.first + a.pages ≡ next.first = touches a next one in
     elim (cases_lt first (next.first + next.pages)) [
-    | inr early ↦
-        let stays = subst (λ l. AreInOrder (a ∷ l ++ rest)) (without_apart first n next (inl early)) order in
-        absurd (stays.2 meets (alike a next one))
-    | inl beyond ↦ elim (cases_lt next.first first) [
-      | inl before ↦
-          let parts = without_met first n next beyond (omega arith)
-              ∙ ap (λ l. l ++ area_between (first + n) (next.first + next.pages) next.perm) (between_some next.first first next.perm before) in
-          let stays = subst (λ l. AreInOrder (a ∷ l ++ rest)) parts order in
+      | inr early ↦
+          let stays = subst (λ l. AreInOrder (a ∷ l ++ rest)) (without_apart first n next (inl early)) order in
           absurd (stays.2 meets (alike a next one))
-      | inr at ↦
-          let ends : a.first + (a.pages + next.pages) ≡ next.first + next.pages = omega arith in
-          let size : first - a.first ≡ a.pages = omega arith in
-          without_met first n (both a next) (omega arith) (omega arith)
-          ∙ ap (λ l. l ++ area_between (first + n) (a.first + (a.pages + next.pages)) a.perm) (between_some a.first first a.perm (omega arith))
-          ∙ ap (λ m. area_at a.first m a.perm ∷ area_between (first + n) (a.first + (a.pages + next.pages)) a.perm) size
-          ∙ ap (λ e. a ∷ area_between (first + n) e a.perm) ends
-          ∙ ap (λ p. a ∷ area_between (first + n) (next.first + next.pages) p) (alike a next one)
-          ∙ ap (λ l. a ∷ l) (sym (without_met first n next beyond (omega arith)
+      | inl beyond ↦ elim (cases_lt next.first first) [
+        | inl before ↦
+            let parts = without_met first n next beyond (omega arith)
+            ∙ ap (λ l. l ++ area_between (first + n) (next.first + next.pages) next.perm) (between_some next.first first next.perm before) in
+            let stays = subst (λ l. AreInOrder (a ∷ l ++ rest)) parts order in
+            absurd (stays.2 meets (alike a next one))
+        | inr at ↦
+            let ends : a.first + (a.pages + next.pages) ≡ next.first + next.pages = omega arith in
+            let size : first - a.first ≡ a.pages = omega arith in
+            without_met first n (both a next) (omega arith) (omega arith)
+            ∙ ap (λ l. l ++ area_between (first + n) (a.first + (a.pages + next.pages)) a.perm) (between_some a.first first a.perm (omega arith))
+            ∙ ap (λ m. area_at a.first m a.perm ∷ area_between (first + n) (a.first + (a.pages + next.pages)) a.perm) size
+            ∙ ap (λ e. a ∷ area_between (first + n) e a.perm) ends
+            ∙ ap (λ p. a ∷ area_between (first + n) (next.first + next.pages) p) (alike a next one)
+            ∙ ap (λ l. a ∷ l) (sym (without_met first n next beyond (omega arith)
             ∙ ap (λ l. l ++ area_between (first + n) (next.first + next.pages) next.perm) (between_none next.first first next.perm at)))
       ]
     ]
@@ -124,7 +124,7 @@ front_again first n a (next ∷ made) areas some below order again = elim (cases
       ∙ ap (λ l. l ++ areas_without first n (next ∷ made)) (without_apart first n a (inl below)) ∙ ap (λ l. a ∷ l) again
   | inl one ↦ ap (areas_without first n) (front_joins a next made one)
       ∙ ap (λ l. l ++ areas_without first n made) (without_both first n a next (areas_without first n made) some (some_pages a areas order) below one
-        (subst (λ l. AreInOrder (a ∷ l)) (sym again) order))
+      (subst (λ l. AreInOrder (a ∷ l)) (sym again) order))
       ∙ ap (λ l. a ∷ l) again
 ]
 
@@ -148,7 +148,7 @@ areas_again first n perm (a ∷ areas) some order free = elim (cases_Bool (nat_l
       let below : a.first + a.pages ≤ first = elim (free_apart first n a areas some (some_pages a areas order) free) [ inl low ↦ low | inr high ↦ absurd (omega arith) ] in
       ap (λ l. areas_without first n (joined l)) (cond-false (nat_le first a.first) (area_at first n perm ∷ a ∷ areas) (a ∷ with_area (area_at first n perm) areas) later)
       ∙ front_again first n a (joined (with_area (area_at first n perm) areas)) areas some below order
-        (areas_again first n perm areas some (order_rest a areas order) (free_others first n a areas free))
+      (areas_again first n perm areas some (order_rest a areas order) (free_others first n a areas free))
 ]
 
 -- a page among the free ones is absent
@@ -182,7 +182,7 @@ pub unmap_of-mapped : (before now : FlatMemory) (first n : ℕ) → 0 < n → Is
 unmap_of-mapped before now first n some mapped =
     ap (λ areas. at_most_128 (record { areas = areas_without first n areas; present = retain_keys now.present (is_beyond first n) })) mapped.areas
     ∙ ap (λ areas. at_most_128 (record { areas = areas; present = retain_keys now.present (is_beyond first n) }))
-      (areas_again first n mapped.perm before.areas some mapped.flat.in_order (AreFree-taken first n before.areas mapped.free))
+    (areas_again first n mapped.perm before.areas some mapped.flat.in_order (AreFree-taken first n before.areas mapped.free))
     ∙ ap (λ present. at_most_128 (record { areas = before.areas; present = present })) (present_again before now first n mapped)
     ∙ cond-true (nat_le (length before.areas) 128) _ _ (few_enough (length before.areas) mapped.flat.few)
 
@@ -216,7 +216,7 @@ mapped_into old first n perm now flat answer = elim (cases_taken (taken old.mem.
       elim (cases_Bool (nat_le (length (joined (with_area (area_at first n perm) old.mem.areas))) 128)) [
         | inl few ↦
             let is : record old.mem { areas = joined (with_area (area_at first n perm) old.mem.areas) } ≡ now =
-              same_memory (map_answer old first n perm) _ now (plain ∙ ap faulted (cond-true _ _ _ few)) answer in
+            same_memory (map_answer old first n perm) _ now (plain ∙ ap faulted (cond-true _ _ _ few)) answer in
             record {
               flat = flat;
               perm = perm;
