@@ -1,16 +1,24 @@
 //! Generic callers of the memories, processes and snapshots of `vm_base`.
 #![tactic(auto)]
 
+mod complete;
 mod copying;
 mod frozen;
 mod housing;
 mod memory;
 mod nest;
+mod parting;
 mod process;
+mod putting;
+mod undoing;
 
+pub use complete::write_within;
 pub use copying::copy_through;
 pub use frozen::read_twice;
 pub use housing::{read_child, write_and_copy};
 pub use memory::{write_at, write_both};
 pub use nest::{copy_nested, read_nested_twice};
+pub use parting::write_and_read_own;
 pub use process::{fork_and_write, reap_one};
+pub use putting::put_three;
+pub use undoing::{begin, map_and_protect, take_back};

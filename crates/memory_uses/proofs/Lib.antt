@@ -1,0 +1,6 @@
+pub mod FreePages
+pub mod Undone
+pub mod Touched
+pub mod Begun
+pub mod Completed
+pub mod Answered
