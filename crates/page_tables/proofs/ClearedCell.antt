@@ -62,7 +62,7 @@ unmapped-runs c first n leaves made present unjoined freed whole = record {
 pub get-retained : (pages : PageMap) (first n p : ℕ) → get (retain_keys pages (is_beyond first n)) p ≡ cond (is_beyond first n p) (get pages p) None
 get-retained pages first n p = get-retain_keys pages (is_beyond first n) p (λ x same. ap (is_beyond first n) (sym (exact_unsigned p x same)))
 
-beyond-moved : (k first n p : ℕ) → is_beyond first n p ≡ is_beyond (k + first) n (k + p)
+pub beyond-moved : (k first n p : ℕ) → is_beyond first n p ≡ is_beyond (k + first) n (k + p)
 beyond-moved k first n p = grind (arith, nat_tests)
 
 pub beyond-outside : (first n p : ℕ) → (p < first) ⊎ (first + n ≤ p) → is_beyond first n p ≡ true

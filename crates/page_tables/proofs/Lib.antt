@@ -44,6 +44,7 @@ pub mod UnmapSteps
 pub mod ProtectedPages
 pub mod Permissions
 pub mod WrittenPages
+pub mod KeptWriting
 pub mod Vacancies
 pub mod SnapshotShares
 pub mod ForkSlots

@@ -110,7 +110,7 @@ module _ (slots : List Slot) (s : ℕ) (slot : Slot) (here : slice_get slots s �
   }
 
 -- a page lies in a range where its place in the cell lies in the part of the range there
-same-range : (c page first end low high : ℕ) → cell_of page ≡ c → low ≡ first - c * 512 → high ≡ min (end - c * 512) 512 → is_beyond low (high - low) (page % 512) ≡ is_beyond first (end - first) page
+pub same-range : (c page first end low high : ℕ) → cell_of page ≡ c → low ≡ first - c * 512 → high ≡ min (end - c * 512) 512 → is_beyond low (high - low) (page % 512) ≡ is_beyond first (end - first) page
 same-range c page first end low high same low_is high_is = elim (cases_lt page first) [
   | inl before ↦ beyond-outside low (high - low) (page % 512) (inl (omega (arith, same, low_is, before))) ∙ sym (beyond-outside first (end - first) page (inl before))
   | inr reached ↦ elim (cases_lt page end) [

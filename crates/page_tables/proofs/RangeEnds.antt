@@ -47,7 +47,7 @@ made-left : (pages : List ℕ) (sides : Sides) → (sides_without_pages pages si
 made-left [] sides = refl
 made-left (page ∷ pages) sides = made-left pages (sides_without (cell_of page) (page % 512) 1 sides)
 
-beyond-one : (page q : ℕ) → is_beyond (page / 512 * 512 + page % 512) 1 q ≡ not (eqb q page)
+pub beyond-one : (page q : ℕ) → is_beyond (page / 512 * 512 + page % 512) 1 q ≡ not (eqb q page)
 beyond-one page q = let whole : page / 512 * 512 + page % 512 ≡ page = omega arith in ap (λ p. is_beyond p 1 q) whole ∙ grind (arith, nat_tests)
 
 pages-left : (pages : List ℕ) (sides : Sides) (q : ℕ) → get (sides_without_pages pages sides).pages q ≡ cond (list_any (eqb q) pages) None (get sides.pages q)
@@ -110,7 +110,7 @@ out-of-range : (q a n : ℕ) → list_any (eqb q) (range_with_len a n) ≡ false
 out-of-range q a n e low high = false≢true (sym e ∙ among-range q a n low high)
 
 module _ (pages : PageMap) (first i : ℕ) (added : List ℕ) (new : added ≡ absent_pages pages first i) where
-  added-if : (q : ℕ) → list_any (eqb q) added ≡ (not (is_some (get pages q)) && list_any (eqb q) (range_with_len first i))
+  pub added-if : (q : ℕ) → list_any (eqb q) added ≡ (not (is_some (get pages q)) && list_any (eqb q) (range_with_len first i))
   added-if q = ap (list_any (eqb q)) new ∙ any-filter (λ page. not (is_some (get pages page))) q (range_with_len first i)
 
   both-true : (a b : Bool) → (a && b) ≡ true → (a ≡ true) × (b ≡ true)

@@ -1,6 +1,6 @@
 -- Pages that may be written to: they may be stored to, and a touch lets its page be written to.
 use Rattle.std.proofs.Common.{◌≡◌, ◌≢◌, ◌↔◌, ℕ, ◌+◌, ◌-◌, ◌/◌, ◌%◌, ◌≤◌, List, Option, Some, None, Result, Ok, Err, refl, sym, ◌∙◌, ap, subst, arith, inl, inr}
-use Rattle.std.specs.Prelude.{Bool, true, false, OnOk, is_some, slice_set, unwrap_or}
+use Rattle.std.specs.Prelude.{Bool, true, false, OnOk, OnErr, is_some, slice_set, unwrap_or}
 use Rattle.std.specs.Option.{option_map, option_and_then}
 use Rattle.std.specs.List.{slice_get}
 use Rattle.std.specs.FinMap.{get}
@@ -18,7 +18,7 @@ use Rattle.page_tables.specs.declared.tables.PageTables.{PageTables}
 use Rattle.page_tables.specs.Sides.{Sides}
 use Rattle.page_tables.specs.Standing.{owner_at, TablesStandFor, IsSlotFor}
 use Rattle.page_tables.specs.Accesses.{IsReady}
-use Rattle.page_tables.specs.Permissions.{parent_cell, may_write, is_alone, LetsWrite}
+use Rattle.page_tables.specs.Permissions.{parent_cell, may_write, is_alone, LetsWrite, KeepsWriting, WritesAfterPage}
 use Rattle.page_tables.proofs.OwnedSlots.{owned-slot, slot-unjoined}
 use Rattle.page_tables.proofs.ParentPages.{account_at, slot-stands}
 use Rattle.page_tables.proofs.Readiness.{alone-meant}
@@ -32,7 +32,7 @@ use Rattle.leaf_cell.specs.Standing.{StandsFor}
 use Rattle.kernel_meaning.specs.CellAccount.{CellAccount}
 
 -- the cell of a slot that the directory has
-cell-known : (tables : PageTables) (c s : ℕ) (slot : Slot) → get tables.directory c ≡ Some s → slice_get tables.slots.items s ≡ Some slot → parent_cell tables c ≡ Some slot.cell
+pub cell-known : (tables : PageTables) (c s : ℕ) (slot : Slot) → get tables.directory c ≡ Some s → slice_get tables.slots.items s ≡ Some slot → parent_cell tables c ≡ Some slot.cell
 cell-known tables c s slot known here = ap (λ o. option_map (λ it. it.cell) (option_and_then (slice_get tables.slots.items) o)) known ∙ ap (option_map (λ it. it.cell)) here
 
 -- so its entries tell which of its pages may be written to
@@ -73,10 +73,11 @@ alone-ready tables sides st page = by (get tables.directory (cell_of page)) refl
 
 -- ---- behind a touch
 
--- what holds of an answer that is granted, by two facts of it
-pub granted-both : (result : Result (Unit {0}) Refused) {P Q R : Type 0} → OnOk result P → OnOk result Q → (P → Q → R) → OnOk result R
-granted-both (Ok done) p q so = so p q
-granted-both (Err refused) p q so = tt
+-- the touch of a page was granted or refused
+pub page-answered : (page : ℕ) (result : Result (Unit {0}) Refused) (old new : PageTables) {P Q R : Type 0} → OnOk result P → OnOk result Q → OnErr result R
+    → (P → Q → LetsWrite page 1 old new) → (R → KeepsWriting old new) → WritesAfterPage page result old new
+page-answered page (Ok done) old new p q r so not_so = so p q
+page-answered page (Err refused) old new p q r so not_so = not_so r
 
 -- the cell of the page lies in a slot, and each other cell where it did
 module _ (page s : ℕ) (old new : PageTables) (it : Slot) (there : get new.directory (cell_of page) ≡ Some s) (here : slice_get new.slots.items s ≡ Some it)

@@ -1,5 +1,5 @@
 -- What a fork makes of the cells in slots, and what a drop does.
-use Rattle.std.specs.Prelude.{◌≡◌, ℕ, Bool, if◌then◌else◌, List, [], length, count_by, Option, Some, None, Result, Ok, Err}
+use Rattle.std.specs.Prelude.{◌≡◌, ◌⊎◌, ◌<◌, ◌≤◌, ℕ, Bool, true, if◌then◌else◌, List, [], length, count_by, Option, Some, None, Result, Ok, Err}
 use Rattle.std.specs.Ordering.{nat_cmp}
 use Rattle.std.specs.FinMap.{FinMap, insert, remove}
 use Rattle.std.specs.List.{slice_get}
@@ -14,6 +14,7 @@ use Rattle.kernel_meaning.specs.FrameLaw.{Leaves, is_used}
 use Rattle.kernel_meaning.specs.EventRequests.{Progress, FrameRefusal}
 use Rattle.leaf_cell.specs.CellView.{without_snapshot}
 use Rattle.leaf_cell.specs.Standing.{StandsFor}
+use Rattle.leaf_cell.specs.Writable.{none_writable}
 use Rattle.page_tables.specs.declared.slot.Slot.{Slot}
 use Rattle.page_tables.specs.declared.tables.PageTables.{PageTables}
 use Rattle.page_tables.specs.Sides.{Sides}
@@ -61,6 +62,30 @@ forked_state n state =
     if has_pages state.leaves.parent
     then record { leaves = with_fork n Eager Own state.leaves; pages = state.pages; snapshots = insert state.snapshots n state.pages }
     else state
+
+-- which pages of the cell may be written to then: none where the parent has a page
+abbrev pub forked_bits : Slot → List Bool
+forked_bits slot = if is_forked slot then none_writable else slot.cell.writable
+
+-- which they were
+abbrev pub same_bits : Slot → List Bool
+same_bits slot = slot.cell.writable
+
+-- each slot has such bits now
+abbrev pub HaveBits : (Slot → List Bool) → List Slot → List Slot → Type 0
+HaveBits bits old new = (s : ℕ) (slot : Slot) → slice_get old s ≡ Some slot → (it : Slot) × ((slice_get new s ≡ Some it) × (it.cell.writable ≡ bits slot))
+
+-- the slots before one have the bits of a fork, and the others those that they had: that slot has a page of the parent, or it is the first
+pub record HaveBitsBefore (old new : List Slot) : Type 0 where
+  pub slot : ℕ
+  pub at : (slot ≡ 0) ⊎ ((it : Slot) × ((slice_get old slot ≡ Some it) × (is_forked it ≡ true)))
+  pub below : (s : ℕ) (it : Slot) → s < slot → slice_get old s ≡ Some it → (to : Slot) × ((slice_get new s ≡ Some to) × (to.cell.writable ≡ forked_bits it))
+  pub above : (s : ℕ) (it : Slot) → slot ≤ s → slice_get old s ≡ Some it → (to : Slot) × ((slice_get new s ≡ Some to) × (to.cell.writable ≡ same_bits it))
+
+-- the bits of the slots behind a fork, or behind one that was refused at a slot
+abbrev pub BitsAfterFork : Result (Unit {0}) Refused → List Slot → List Slot → Type 0
+BitsAfterFork (Ok done) old new = HaveBits forked_bits old new
+BitsAfterFork (Err refused) old new = HaveBitsBefore old new
 
 -- nothing became of the leaves
 abbrev pub same_leaves : CellLeaves → CellLeaves

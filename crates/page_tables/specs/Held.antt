@@ -1,5 +1,5 @@
 -- The frames that page tables hold.
-use Rattle.std.specs.Prelude.{ℕ, ◌+◌, List, Option, Some, None, sum_by}
+use Rattle.std.specs.Prelude.{◌≡◌, ℕ, ◌+◌, List, Option, Some, None, sum_by}
 use Rattle.table_levels.specs.Cells.{tables_of}
 use Rattle.kernel_meaning.specs.Leaves.{share}
 use Rattle.leaf_cell.specs.CellView.{held_of}
@@ -23,3 +23,8 @@ snapshot_frames (Some tables) = tables_of tables.directory
 -- the tables of both directories, and what the cells hold
 abbrev pub frames_of : PageTables → ℕ
 frames_of tables = tables_of tables.directory + snapshot_frames tables.snapshot + frames_in tables.slots.items
+
+-- the cells in slots hold as many frames, with the same shares
+pub record HoldAlike (old new : List Slot) : Type 0 where
+  pub frames : frames_in new ≡ frames_in old
+  pub shares : shares_in new ≡ shares_in old

@@ -8,7 +8,8 @@ ghost use Rattle.kernel_meaning.specs.FrameLaw.{cell_at};
 ghost use Rattle.leaf_cell.specs.States.{state_of};
 ghost use Rattle.page_tables.specs.Sides.{Sides};
 ghost use Rattle.page_tables.specs.Standing.{TablesStandFor, slot_in, slot_count};
-ghost use Rattle.page_tables.specs.Held.{frames_of, frames_in, shares_in};
+ghost use Rattle.page_tables.specs.Held.{frames_of, HoldAlike};
+ghost use Rattle.page_tables.specs.Permissions.{KeepsWriting};
 ghost use Rattle.page_tables.specs.Accesses.{IsReady, IsSnapshotRead, IsLowestLoss};
 
 use crate::loss::{LostCell, lowest_lost};
@@ -59,8 +60,8 @@ impl PageTables {
             ((page : ℕ) → page_of addr ≤ page → page * 4096 < addr + length bytes.now → IsReady sides.leaves page))) ∥₁ }
         ensures stored { (sides : Sides) → TablesStandFor self.old sides → TablesStandFor self.new (record sides { pages = with_bytes sides.pages addr bytes.now }) }
         ensures held { frames_of self.new ≡ frames_of self.old }
-        ensures frames { frames_in self.new.slots.items ≡ frames_in self.old.slots.items }
-        ensures shares { shares_in self.new.slots.items ≡ shares_in self.old.slots.items }
+        ensures cells { HoldAlike self.old.slots.items self.new.slots.items }
+        ensures writable { KeepsWriting self.old self.new }
         ensures snapshot { self.new.snapshot ≡ self.old.snapshot }
         ensures slots { slot_count self.new ≡ slot_count self.old }
     {
@@ -80,8 +81,8 @@ impl PageTables {
         requires stands { ∥ ((sides : Sides) × (TablesStandFor self.old sides × IsReady sides.leaves (page_of addr))) ∥₁ }
         ensures stored { (sides : Sides) → TablesStandFor self.old sides → TablesStandFor self.new (record sides { pages = with_bytes sides.pages addr bytes.now }) }
         ensures held { frames_of self.new ≡ frames_of self.old }
-        ensures frames { frames_in self.new.slots.items ≡ frames_in self.old.slots.items }
-        ensures shares { shares_in self.new.slots.items ≡ shares_in self.old.slots.items }
+        ensures cells { HoldAlike self.old.slots.items self.new.slots.items }
+        ensures writable { KeepsWriting self.old self.new }
         ensures snapshot { self.new.snapshot ≡ self.old.snapshot }
         ensures slots { slot_count self.new ≡ slot_count self.old }
     {

@@ -7,8 +7,9 @@ ghost use Rattle.kernel_meaning.specs.Leaves.{has_present};
 ghost use Rattle.kernel_meaning.specs.FrameLaw.{cell_at};
 ghost use Rattle.leaf_cell.specs.States.{nth_number};
 ghost use Rattle.page_tables.specs.Clearing.{sides_without, owner_left, pages_without, has_some, GivesBack, IsOutOf};
-ghost use Rattle.kernel_meaning.specs.EventRequests.{pages_unmapped};
+ghost use Rattle.kernel_meaning.specs.EventRequests.{pages_unmapped, first_in_cell, count_in_cell};
 ghost use Rattle.page_tables.specs.Making.{MadeEvent};
+ghost use Rattle.page_tables.specs.Permissions.{StopsWriting};
 ghost use Rattle.page_tables.specs.Sides.{Sides};
 ghost use Rattle.page_tables.specs.Standing.{TablesStandFor, slot_count};
 ghost use Rattle.page_tables.specs.Held.{frames_of, frames_in, shares_in};
@@ -34,6 +35,7 @@ impl PageTables {
         ensures unrefused { A.refused (A.state allot.new) ≡ A.refused (A.state allot.old) }
         ensures even { frames_in self.old.slots.items + shares_in self.new.slots.items ≡ shares_in self.old.slots.items + frames_in self.new.slots.items }
         ensures snapshot { self.new.snapshot ≡ self.old.snapshot }
+        ensures writable { StopsWriting first count self.old self.new }
     {
         let end = first + count;
         let mut next = (first / CELL_PAGES) as u32;
@@ -62,6 +64,7 @@ impl PageTables {
         ensures unrefused { A.refused (A.state allot.new) ≡ A.refused (A.state allot.old) }
         ensures even { frames_in self.old.slots.items + shares_in self.new.slots.items ≡ shares_in self.old.slots.items + frames_in self.new.slots.items }
         ensures snapshot { self.new.snapshot ≡ self.old.snapshot }
+        ensures writable { StopsWriting (cell * 512 + first_in_cell cell first) (count_in_cell cell first (end - first)) self.old self.new }
     {
         let start = u64::from(cell) * CELL_PAGES;
         let low = first.saturating_sub(start) as u16;
@@ -98,6 +101,7 @@ impl PageTables {
         ensures unrefused { A.refused (A.state allot.new) ≡ A.refused (A.state allot.old) }
         ensures even { frames_in self.old.slots.items + shares_in self.new.slots.items ≡ shares_in self.old.slots.items + frames_in self.new.slots.items }
         ensures snapshot { self.new.snapshot ≡ self.old.snapshot }
+        ensures writable { StopsWriting (cell * 512 + first) count self.old self.new }
     {
         match self.directory.find(cell) {
             Some(slot) => self.clear_slot(slot, cell, first, count, allot),
@@ -123,6 +127,7 @@ impl PageTables {
         ensures unrefused { A.refused (A.state allot.new) ≡ A.refused (A.state allot.old) }
         ensures even { frames_in self.old.slots.items + shares_in self.new.slots.items ≡ shares_in self.old.slots.items + frames_in self.new.slots.items }
         ensures snapshot { self.new.snapshot ≡ self.old.snapshot }
+        ensures writable { StopsWriting (cell * 512 + first) count self.old self.new }
     {
         let home = &mut self.slots[slot as usize];
         // A cell holds its share, before and after: what goes back is what the share falls by.
@@ -130,6 +135,8 @@ impl PageTables {
         home.cell.clear(first, count, allot);
         home.cell.tell_share();
         if !home.cell.has_pages() {
+            // No page is left here, so none may be written to.
+            prove!(!home.cell.covers(0, 512));
             leave_slot(home);
             self.directory.remove(cell, allot);
         }

@@ -15,7 +15,8 @@ ghost use Rattle.table_levels.specs.Requests.{Asks, directory_wants};
 ghost use Rattle.page_tables.specs.Sides.{Sides};
 ghost use Rattle.page_tables.specs.Standing.{TablesStandFor, number_of, slot_count};
 ghost use Rattle.page_tables.specs.Held.{frames_in, frames_of, shares_in};
-ghost use Rattle.page_tables.specs.Forking.{Becomes, AllBecome, HaveAccounts, AreAlone, AreFreed, owner_if_used, is_forked, forked_count, forked_leaves, forked_state, same_leaves, same_state, dropped_state, fork_refusal, snapshots_with, snapshots_without, MadeOfSnapshots};
+ghost use Rattle.page_tables.specs.Forking.{Becomes, AllBecome, HaveAccounts, AreAlone, AreFreed, owner_if_used, is_forked, forked_count, forked_leaves, forked_state, same_leaves, same_state, dropped_state, fork_refusal, forked_bits, same_bits, HaveBits, BitsAfterFork, snapshots_with, snapshots_without, MadeOfSnapshots};
+ghost use Rattle.page_tables.specs.Permissions.{KeepsWriting, WritesAfterFork};
 ghost use Rattle.page_tables.specs.Returning.{Returning};
 
 use crate::slot::Slot;
@@ -41,6 +42,7 @@ impl PageTables {
         ensures even { frames_in self.old.slots.items + shares_in self.new.slots.items ≡ shares_in self.old.slots.items + frames_in self.new.slots.items }
         ensures lives { OnOk result (number_of self.new.snapshot ≡ Some number) }
         ensures kept { OnErr result (self.new.snapshot ≡ None) }
+        ensures writable { WritesAfterFork result self.old self.new }
     {
         match self.spare.take() {
             Some(mut directory) => {
@@ -79,6 +81,7 @@ impl PageTables {
         ensures slots { slot_count self.new ≡ slot_count self.old }
         ensures even { frames_in self.old.slots.items + shares_in self.new.slots.items ≡ shares_in self.old.slots.items + frames_in self.new.slots.items }
         ensures gone { self.new.snapshot ≡ None }
+        ensures writable { KeepsWriting self.old self.new }
     {
         match self.snapshot.take() {
             Some(mut tables) => {
@@ -109,6 +112,7 @@ fn fork_into<A: Allot>(
     ensures forked { OnOk result (AllBecome (forked_leaves number) (forked_state number) slots.old.items slots.new.items) }
     ensures kept { OnErr result (child.new ≡ empty) }
     ensures undone { OnErr result (AllBecome same_leaves same_state slots.old.items slots.new.items) }
+    ensures bits { BitsAfterFork result slots.old.items slots.new.items }
 
     // What the allot was asked for, and what it has afterwards.
     ensures requests { Asks A.goes (A.state allot.old) (directory_wants (keys parent.now) ++ replicate (forked_count slots.old.items) want.Leaf) result (A.state allot.new) }
@@ -138,6 +142,7 @@ fn fork_cells<A: Allot>(slots: &mut Vec<Slot>, number: u32, allot: &mut A) -> Re
     requires untold { A.grants allot.old ≡ None }
     ensures forked { OnOk result (AllBecome (forked_leaves number) (forked_state number) slots.old.items slots.new.items) }
     ensures undone { OnErr result (AllBecome same_leaves same_state slots.old.items slots.new.items) }
+    ensures bits { BitsAfterFork result slots.old.items slots.new.items }
     ensures requests { Asks A.goes (A.state allot.old) (replicate (forked_count slots.old.items) want.Leaf) result (A.state allot.new) }
     ensures counts { Counts A.refused (A.state allot.old) result (A.state allot.new) }
     ensures held { A.out (A.state allot.new) + frames_in slots.old.items ≡ A.out (A.state allot.old) + frames_in slots.new.items }
@@ -164,6 +169,7 @@ fn fork_slot<A: Allot>(slot: &mut Slot, number: u32, allot: &mut A) -> Result<()
     requires untold { A.grants allot.old ≡ None }
     ensures forked { OnOk result (Becomes (forked_leaves number) (forked_state number) slot.old slot.new) }
     ensures kept { OnErr result (slot.new ≡ slot.old) }
+    ensures bits { OnOk result (slot.new.cell.writable ≡ forked_bits slot.old) }
     ensures requests { Asks A.goes (A.state allot.old) (replicate (cond (is_forked slot.old) 1 0) want.Leaf) result (A.state allot.new) }
     ensures counts { Counts A.refused (A.state allot.old) result (A.state allot.new) }
     ensures held { A.out (A.state allot.new) + held_of slot.old.cell ≡ A.out (A.state allot.old) + held_of slot.new.cell }
@@ -185,6 +191,7 @@ fn drop_cells<A: Allot>(slots: &mut Vec<Slot>, number: u32, allot: &mut A)
     requires lent { frames_in slots.old.items ≤ A.out (A.state allot.old) }
     requires untold { A.grants allot.old ≡ None }
     ensures dropped { AllBecome (without_snapshot number) (dropped_state number) slots.old.items slots.new.items }
+    ensures bits { HaveBits same_bits slots.old.items slots.new.items }
     ensures returned { Returning A.goes (A.state allot.old) (A.state allot.new) slots.old.items slots.new.items }
     ensures unrefused { A.refused (A.state allot.new) ≡ A.refused (A.state allot.old) }
     ensures held { A.out (A.state allot.new) + frames_in slots.old.items ≡ A.out (A.state allot.old) + frames_in slots.new.items }
@@ -202,6 +209,7 @@ fn drop_slot<A: Allot>(slot: &mut Slot, number: u32, allot: &mut A)
     requires lent { held_of slot.old.cell ≤ A.out (A.state allot.old) }
     requires untold { A.grants allot.old ≡ None }
     ensures dropped { Becomes (without_snapshot number) (dropped_state number) slot.old slot.new }
+    ensures bits { slot.new.cell.writable ≡ same_bits slot.old }
     ensures returned { Returning A.goes (A.state allot.old) (A.state allot.new) (slot.old ∷ []) (slot.new ∷ []) }
     ensures unrefused { A.refused (A.state allot.new) ≡ A.refused (A.state allot.old) }
     ensures held { A.out (A.state allot.new) + held_of slot.old.cell ≡ A.out (A.state allot.old) + held_of slot.new.cell }

@@ -9,7 +9,7 @@ ghost use Rattle.kernel_meaning.specs.EventRequests.{page_version};
 ghost use Rattle.page_tables.specs.Sides.{Sides};
 ghost use Rattle.page_tables.specs.Standing.{TablesStandFor, slot_count};
 ghost use Rattle.page_tables.specs.Accesses.{IsReady};
-ghost use Rattle.page_tables.specs.Permissions.{may_write, is_alone, LetsWrite};
+ghost use Rattle.page_tables.specs.Permissions.{may_write, is_alone, is_there, StopsWritingAt, WritesAfterRange};
 ghost use Rattle.page_tables.specs.Held.{frames_of, frames_in, shares_in};
 ghost use Rattle.page_tables.specs.Ranges.{MadeRange, HasRoom, cells_of_pages, range_refusal, sides_without_pages, AreThere};
 
@@ -53,7 +53,7 @@ impl PageTables {
         ensures even { frames_in self.old.slots.items + shares_in self.new.slots.items ≡ shares_in self.old.slots.items + frames_in self.new.slots.items }
         ensures snapshot { self.new.snapshot ≡ self.old.snapshot }
         ensures noted { vec_capacity added.new ≡ vec_capacity added.old }
-        ensures writable { OnOk result (LetsWrite first count self.old self.new) }
+        ensures writable { WritesAfterRange first count result self.old self.new }
     {
         added.clear();
         for page in first..first + count {
@@ -79,6 +79,7 @@ impl PageTables {
         requires stands { ∥ ((sides : Sides) × TablesStandFor self.now sides) ∥₁ }
         ensures version { (sides : Sides) → TablesStandFor self.now sides → result ≡ is_some (page_version sides.leaves page) }
         ensures page { (sides : Sides) → TablesStandFor self.now sides → result ≡ is_some (get sides.pages page) }
+        ensures there { result ≡ is_there self.now page }
 
         // These two are about the tables and not about the answer: a page may be stored to exactly
         // where it is the parent's alone, and so it is where its entry tells that it may be written
@@ -131,6 +132,7 @@ impl PageTables {
         ensures unrefused { A.refused (A.state allot.new) ≡ A.refused (A.state allot.old) }
         ensures even { frames_in self.old.slots.items + shares_in self.new.slots.items ≡ shares_in self.old.slots.items + frames_in self.new.slots.items }
         ensures snapshot { self.new.snapshot ≡ self.old.snapshot }
+        ensures writable { StopsWritingAt added.now self.old self.new }
     {
         for &page in added {
             let (cell, index) = cell_and_index(page);

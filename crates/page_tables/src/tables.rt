@@ -30,6 +30,7 @@ impl PageTables {
     ghost use Rattle.page_tables.specs.Sides.{opening_sides};
     ghost use Rattle.page_tables.specs.Standing.{TablesStandFor, slot_count};
     ghost use Rattle.page_tables.specs.Held.{frames_of};
+    ghost use Rattle.page_tables.specs.Permissions.{LetsNoneWrite};
 
     /// No page, no snapshot, and so many free slots, 512 at most: each has room for one cell. It
     /// fails only for want of memory.
@@ -38,6 +39,7 @@ impl PageTables {
         ensures stands { IfOk result (λ tables. TablesStandFor tables opening_sides) }
         ensures slots { IfOk result (λ tables. slot_count tables ≡ slots) }
         ensures held { IfOk result (λ tables. frames_of tables ≡ 0) }
+        ensures unwritten { IfOk result (λ tables. LetsNoneWrite tables) }
     {
         let directory = Directory::new(alloc)?;
         let spare = Directory::new(alloc)?;

@@ -7,7 +7,7 @@ ghost use Rattle.kernel_meaning.specs.FrameLaw.{lacks_slots};
 ghost use Rattle.page_tables.specs.Sides.{Sides};
 ghost use Rattle.page_tables.specs.Standing.{TablesStandFor, HasSlotFor, IsSlotOf, IsSlotChosen, slot_count};
 ghost use Rattle.page_tables.specs.Held.{frames_of, frames_in, shares_in};
-ghost use Rattle.page_tables.specs.Permissions.{LetsWrite};
+ghost use Rattle.page_tables.specs.Permissions.{WritesAfterPage};
 ghost use Rattle.page_tables.specs.Making.{MadeTouch, page_refusal};
 
 use crate::pieces::cell_and_index;
@@ -38,7 +38,7 @@ impl PageTables {
         ensures slots { slot_count self.new ≡ slot_count self.old }
         ensures even { frames_in self.old.slots.items + shares_in self.new.slots.items ≡ shares_in self.old.slots.items + frames_in self.new.slots.items }
         ensures snapshot { self.new.snapshot ≡ self.old.snapshot }
-        ensures writable { OnOk result (LetsWrite page 1 self.old self.new) }
+        ensures writable { WritesAfterPage page result self.old self.new }
     {
         match slot {
             Some(slot) => self.touch_known(slot, page, allot),
@@ -63,7 +63,7 @@ impl PageTables {
         ensures slots { slot_count self.new ≡ slot_count self.old }
         ensures even { frames_in self.old.slots.items + shares_in self.new.slots.items ≡ shares_in self.old.slots.items + frames_in self.new.slots.items }
         ensures snapshot { self.new.snapshot ≡ self.old.snapshot }
-        ensures writable { OnOk result (LetsWrite page 1 self.old self.new) }
+        ensures writable { WritesAfterPage page result self.old self.new }
     {
         let (_, index) = cell_and_index(page);
         let home = &mut self.slots[slot as usize];
@@ -87,7 +87,7 @@ impl PageTables {
         ensures slots { slot_count self.new ≡ slot_count self.old }
         ensures even { frames_in self.old.slots.items + shares_in self.new.slots.items ≡ shares_in self.old.slots.items + frames_in self.new.slots.items }
         ensures snapshot { self.new.snapshot ≡ self.old.snapshot }
-        ensures writable { OnOk result (LetsWrite page 1 self.old self.new) }
+        ensures writable { WritesAfterPage page result self.old self.new }
     {
         let (cell, index) = cell_and_index(page);
         match self.directory.insert(cell, slot, allot) {

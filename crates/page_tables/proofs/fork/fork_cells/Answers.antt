@@ -1,4 +1,4 @@
-use Rattle.std.proofs.Common.{◌≡◌, ◌+◌, ◌<◌, ◌≤◌, ℕ, length, take, replicate, cond, Some, sym, ◌∙◌, ap, subst, refl, arith}
+use Rattle.std.proofs.Common.{◌≡◌, ◌+◌, ◌<◌, ◌≤◌, ℕ, length, take, replicate, cond, Some, sym, ◌∙◌, ap, subst, refl, arith, inr}
 use Rattle.std.specs.Prelude.{slice_set}
 use Rattle.std.specs.List.{slice_get}
 use Rattle.std.proofs.lemmas.List.{set-get_or, take_all}
@@ -9,17 +9,20 @@ use Rattle.table_levels.specs.Requests.{granted}
 use Rattle.table_levels.proofs.Copied.{grants_more, replicate-append}
 use Rattle.page_tables.specs.declared.slot.Slot.{Slot}
 use Rattle.page_tables.specs.Held.{frames_in, shares_in}
-use Rattle.page_tables.specs.Forking.{Becomes, AllBecome, HaveAccounts, is_forked, forked_count, forked_leaves, forked_state, same_leaves, same_state, dropped_state}
+use Rattle.page_tables.specs.Forking.{Becomes, AllBecome, HaveAccounts, HaveBits, HaveBitsBefore, same_bits, forked_bits, is_forked, forked_count, forked_leaves, forked_state, same_leaves, same_state, dropped_state}
 use Rattle.page_tables.proofs.Changing.{none-changed, one-changed, all-changed, accounts-now, undone, same-shares, count-next, shares-next, refused-behind}
 use Rattle.kernel_meaning.specs.Leaves.{share}
 use Rattle.page_tables.proofs.ClearedSlot.{shares-set}
 use Rattle.page_tables.proofs.OwnedSlots.{frames-set, read-slot, held-within}
+use Rattle.page_tables.proofs.KeptWriting.{asked-forked}
+use Rattle.std.proofs.lemmas.Option.{slice_get_within}
 use Rattle.std.proofs.Math.Logic.{∥∥₁_map}
 use Rattle.page_tables.proofs.fork.fork_cells.Goals as goal
 
 pub loop-i-init : goal.loop-i-init
 loop-i-init g c = record {
   changed = none-changed (Becomes (forked_leaves c.args.number) (forked_state c.args.number)) c.args.slots.now.items;
+  bits = none-changed (λ slot it. it.cell.writable ≡ forked_bits slot) c.args.slots.now.items;
   granted_so_far = refl;
   shares = omega arith;
   unrefused = refl;
@@ -73,6 +76,7 @@ loop-i-preserved g c =
     ≡ shares_in c.loop-i.slots.items + share c.fork_slot.new.slot.cell.leaves = shares-set c.loop-i.slots.items c.loop-i.i c.index_mut.result.now c.fork_slot.new.slot here in
     record {
       changed = one-changed (Becomes (forked_leaves c.args.number) (forked_state c.args.number)) i (i + 1) old now slot new c.loop-i.invariant.changed here c.in-Ok.ensures.forked refl;
+      bits = one-changed (λ slot it. it.cell.writable ≡ forked_bits slot) i (i + 1) old now slot new c.loop-i.invariant.bits here c.in-Ok.ensures.bits refl;
       granted_so_far = subst (λ wants. LeadsAlong g.A.Allot.goes (g.A.Allot.state c.args.allot.now) (granted wants) (g.A.Allot.state c.fork_slot.new.allot))
           (replicate-append want.Leaf (forked_count (take i old)) (cond (is_forked slot) 1 0) ∙ ap (λ n. replicate n want.Leaf) (sym next))
           (grants_more g.A.Allot.goes (replicate (forked_count (take i old)) want.Leaf)
@@ -134,3 +138,29 @@ returns-in-Err-clause-even g c =
     let frames : frames_in (slice_set c.loop-i.slots.items c.loop-i.i c.fork_slot.new.slot) ≡ frames_in c.loop-i.slots.items = ap frames_in same in
     let shares : shares_in (slice_set c.loop-i.slots.items c.loop-i.i c.fork_slot.new.slot) ≡ shares_in c.loop-i.slots.items = ap shares_in same in
     omega (arith, c.loop-i.invariant.even, c.drop_cells.ensures.even, frames, shares)
+
+pub returns-clause-bits : goal.returns-clause-bits
+returns-clause-bits g c = λ s slot found.
+    let within : s < length c.args.slots.now.items = slice_get_within c.args.slots.now.items s slot found in
+    c.loop-i.invariant.bits.done s slot (omega (arith, within, c.loop-i-test.false, c.len-i-end.ensures)) found
+
+pub returns-in-Err-clause-bits : goal.returns-in-Err-clause-bits
+returns-in-Err-clause-bits g c =
+    let old = c.args.slots.now.items in
+    let size : length c.loop-i.slots.items ≡ length c.args.slots.now.items = c.loop-i.invariant.changed.size in
+    let within : c.loop-i.i < length c.loop-i.slots.items = omega (arith, c.loop-i-test.true, c.len-i-end.ensures, size) in
+    let here : slice_get c.loop-i.slots.items c.loop-i.i ≡ Some c.index_mut.result.now = read-slot c.loop-i.slots.items c.loop-i.i c.index_mut.result.now within c.index_mut.ensures.value in
+    let was : slice_get old c.loop-i.i ≡ Some c.index_mut.result.now = sym (c.loop-i.invariant.changed.rest c.loop-i.i (omega arith)) ∙ here in
+    let same : slice_set c.loop-i.slots.items c.loop-i.i c.fork_slot.new.slot ≡ c.loop-i.slots.items =
+    ap (slice_set c.loop-i.slots.items c.loop-i.i) (c.in-Err.ensures.kept ∙ c.index_mut.ensures.value) ∙ set-get_or c.loop-i.slots.items c.loop-i.i c.index_mut.result.now in
+    let dropped : HaveBits same_bits c.loop-i.slots.items c.drop_cells.new.slots.items =
+    subst (λ slots. HaveBits same_bits slots c.drop_cells.new.slots.items) same c.drop_cells.ensures.bits in
+    let answer : HaveBitsBefore old c.drop_cells.new.slots.items = record {
+      slot = c.loop-i.i;
+      at = inr (c.index_mut.result.now, (was, asked-forked g.A.Allot.goes c.index_mut.result.now c.in-Err.refused.at _ _ c.in-Err.ensures.requests));
+      below = λ s it small found.
+          let to : (to : Slot) × ((slice_get c.loop-i.slots.items s ≡ Some to) × (to.cell.writable ≡ forked_bits it)) = c.loop-i.invariant.bits.done s it small found in
+          let last : (last : Slot) × ((slice_get c.drop_cells.new.slots.items s ≡ Some last) × (last.cell.writable ≡ to.0.cell.writable)) = dropped s to.0 to.1.0 in
+          (last.0, (last.1.0, last.1.1 ∙ to.1.1));
+      above = λ s it more found. dropped s it (c.loop-i.invariant.bits.rest s more ∙ found);
+    } in answer

@@ -1,4 +1,4 @@
-use Rattle.std.proofs.Common.{◌≡◌, replicate, sym, ◌∙◌, ap, arith}
+use Rattle.std.proofs.Common.{◌≡◌, replicate, refl, sym, ◌∙◌, ap, arith, inl}
 use Rattle.std.specs.FinMap.{keys}
 use Rattle.vm_base.specs.declared.frame_request.Want.TheVariants as want
 use Rattle.table_levels.specs.Cells.{tables_of}
@@ -30,3 +30,11 @@ returns-in-Err-fork_cells-clause-held g c =
     let none : tables_of c.release.new.self ≡ 0 = ap tables_of c.release.ensures.empty ∙ tables_of-empty in
     let copied : tables_of c.copy_from.new.self ≡ tables_of c.args.parent.now = ap tables_of c.in-Ok.ensures.copied in
     omega (arith, none, copied, c.in-Ok.ensures.out, c.in-Err-fork_cells.ensures.held, c.release.ensures.out)
+
+pub returns-in-Err-clause-bits : goal.returns-in-Err-clause-bits
+returns-in-Err-clause-bits g c = record {
+  slot = 0;
+  at = inl refl;
+  below = λ s it small found. absurd (omega (arith, small));
+  above = λ s it more found. (it, (found, refl));
+}

@@ -1,4 +1,4 @@
-use Rattle.std.proofs.Common.{◌≡◌, refl, sym, ◌∙◌, subst, cond, replicate, arith}
+use Rattle.std.proofs.Common.{◌≡◌, refl, sym, ◌∙◌, ap, subst, cond, replicate, arith}
 use Rattle.std.specs.Prelude.{true, false}
 use Rattle.vm_base.specs.declared.frame_request.Want.TheVariants as want
 use Rattle.vm_base.specs.Deals.{LeadsAlong}
@@ -8,6 +8,8 @@ use Rattle.page_tables.proofs.ForkSlots.{unforked-becomes, fork-becomes-ok, fork
 use Rattle.kernel_meaning.specs.Leaves.{share}
 use Rattle.leaf_cell.specs.CellView.{held_of}
 use Rattle.leaf_cell.proofs.HeldShare.{share-stands}
+use Rattle.leaf_cell.specs.Writable.{none_writable}
+use Rattle.page_tables.proofs.KeptWriting.{granted-so}
 use Rattle.page_tables.proofs.Known.{known-number}
 use Rattle.page_tables.proofs.fork.fork_slot.Goals as goal
 
@@ -45,3 +47,12 @@ returns-clause-even g c =
     let after : held_of c.fork_eager-answer.new.self ≡ share c.fork_eager-answer.new.self.leaves =
     c.tell_share-2.ensures _ takes.stands ∙ sym (share-stands c.fork_eager-answer.new.self _ takes.stands) in
     omega (arith, before, after))
+
+pub returns-then-not-has_pages-clause-bits : goal.returns-then-not-has_pages-clause-bits
+returns-then-not-has_pages-clause-bits g c =
+    sym (ap (λ b. cond b none_writable c.args.slot.now.cell.writable) (sym c.has_pages.ensures.pages ∙ c.if-not-has_pages.true))
+
+pub returns-clause-bits : goal.returns-clause-bits
+returns-clause-bits g c =
+    let there : has_pages c.args.slot.now.cell.leaves.parent ≡ true = sym c.has_pages.ensures.pages ∙ c.if-not-has_pages.false in
+    granted-so c.fork_eager-answer.result c.fork_eager-answer.ensures.writable (λ none. none ∙ sym (ap (λ b. cond b none_writable c.args.slot.now.cell.writable) there))

@@ -1,6 +1,7 @@
-use Rattle.std.proofs.Common.{◌≡◌, ℕ, ◌+◌, ◌-◌, ◌≤◌, ◌<◌, length, Some, sym, ◌∙◌, ap, subst, refl, arith}
+use Rattle.std.proofs.Common.{◌≡◌, ℕ, ◌+◌, ◌-◌, ◌≤◌, ◌<◌, length, Some, None, eqb, sym, ◌∙◌, ap, subst, refl, arith}
 use Rattle.std.specs.Prelude.{slice_set, true, false}
 use Rattle.std.specs.FinMap.{get, remove}
+use Rattle.std.specs.Vec.{with_item}
 use Rattle.std.specs.List.{slice_get}
 use Rattle.vm_base.specs.Deals.{Returned, LeadsAlong}
 use Rattle.vm_base.proofs.DealLemmas.{LeadsAlong-append}
@@ -18,6 +19,11 @@ use Rattle.page_tables.specs.Standing.{StandFor, TablesStandFor}
 use Rattle.page_tables.specs.Held.{frames_in, snapshot_frames}
 use Rattle.page_tables.proofs.OwnedSlots.{owned-within, held-within, frames-set, read-slot}
 use Rattle.page_tables.proofs.ClearedSlot.{present-here, HoldsShare, less-held, deals-are, freed-are, event-made, stays, leaves-cell, even-here}
+use Rattle.std.proofs.lemmas.Bool.{cond-true, cond-false, eq-eqb, ne_eqb, false≢true}
+use Rattle.table_levels.proofs.CellLemmas.{get_removed}
+use Rattle.leaf_cell.specs.Writable.{writable_at}
+use Rattle.page_tables.proofs.ClearedCell.{present-pages}
+use Rattle.page_tables.proofs.KeptWriting.{none-left, stops-here, stops-gone}
 use Rattle.page_tables.proofs.Known.{standing, known-owner, known-unjoined, known-number, known-below, known-test, known-deals}
 use Rattle.page_tables.proofs.tables.PageTables.clear_slot.Goals as goal
 
@@ -243,3 +249,34 @@ returns-else-not-has_pages-clause-even g c =
     let made = c.clear.ensures.made in
     known-number c.requires.stands (λ it. even-here old c.args.cell c.args.slot c.args.first c.args.count c.index_mut-home.result.now c.requires.known here c.requires.range c.clear.new.self made.deals made.follows before later it.0 it.1.0 it.1.1
     (record { owner = c.index_mut-home.result.now.owner; cell = c.clear.new.self }) refl)
+
+pub prove-unreachable-requires : goal.prove-unreachable-requires
+prove-unreachable-requires g c =
+    let none : has_pages c.clear.new.self.leaves.parent ≡ false = sym c.has_pages.ensures.pages ∙ c.if-not-has_pages.true in
+    false≢true (sym none ∙ present-pages c.clear.new.self.leaves.parent 0 512 (sym c.covers.ensures.covers ∙ c.if-prove.true))
+
+pub returns-then-not-has_pages-clause-writable : goal.returns-then-not-has_pages-clause-writable
+returns-then-not-has_pages-clause-writable g c = λ page.
+    let old : PageTables = c.args.self.now in
+    let within : c.args.slot < length old.slots.items = slot-within old c.args.cell c.args.first c.args.count c.requires.stands c.args.slot c.requires.known in
+    let home : Slot = c.index_mut-home.result.now in
+    let here : slice_get old.slots.items c.args.slot ≡ Some home = read-slot old.slots.items c.args.slot home within c.index_mut-home.ensures.value in
+    let none : has_pages c.clear.new.self.leaves.parent ≡ false = sym c.has_pages.ensures.pages ∙ c.if-not-has_pages.true in
+    let cell : c.leave_slot.new.home.cell ≡ c.clear.new.self = ap (λ it. it.cell) c.leave_slot.ensures in
+    let unwritten : (p : ℕ) → writable_at c.clear.new.self.writable p ≡ false = none-left c.clear.new.self c.covers.ensures.unshared none in
+    stops-gone old (record old { directory = c.remove.new.self; slots = with_item old.slots c.args.slot c.leave_slot.new.home }) c.args.cell c.args.slot c.args.first c.args.count home c.leave_slot.new.home c.requires.known here
+    (known-owner old (standing-here old c.args.cell c.args.first c.args.count c.requires.stands)) c.requires.range
+    (ap (λ it. it.writable) cell ∙ c.clear.ensures.writable) refl
+    (λ q apart. ap (λ d. get d q) c.remove.ensures.removed ∙ get_removed old.directory c.args.cell q ∙ cond-false (eqb q c.args.cell) None (get old.directory q) (ne_eqb q c.args.cell apart))
+    (ap (λ d. get d c.args.cell) c.remove.ensures.removed ∙ get_removed old.directory c.args.cell c.args.cell ∙ cond-true (eqb c.args.cell c.args.cell) None (get old.directory c.args.cell) (eq-eqb c.args.cell c.args.cell refl))
+    (λ p. ap (λ it. writable_at it.writable p) cell ∙ unwritten p) page
+
+pub returns-else-not-has_pages-clause-writable : goal.returns-else-not-has_pages-clause-writable
+returns-else-not-has_pages-clause-writable g c = λ page.
+    let old : PageTables = c.args.self.now in
+    let within : c.args.slot < length old.slots.items = slot-within old c.args.cell c.args.first c.args.count c.requires.stands c.args.slot c.requires.known in
+    let home : Slot = c.index_mut-home.result.now in
+    let here : slice_get old.slots.items c.args.slot ≡ Some home = read-slot old.slots.items c.args.slot home within c.index_mut-home.ensures.value in
+    stops-here old (record old { slots = with_item old.slots c.args.slot (record { owner = home.owner; cell = c.clear.new.self }) }) c.args.cell c.args.slot c.args.first c.args.count home (record { owner = home.owner; cell = c.clear.new.self }) c.requires.known here
+    (known-owner old (standing-here old c.args.cell c.args.first c.args.count c.requires.stands)) c.requires.range c.clear.ensures.writable refl
+    (λ q apart. refl) c.requires.known page

@@ -1,9 +1,14 @@
-use Rattle.std.proofs.Common.{◌≡◌, refl, sym, ◌∙◌, ap, arith}
+use Rattle.std.proofs.Common.{◌≡◌, Some, refl, sym, ◌∙◌, ap, arith}
 use Rattle.kernel_meaning.specs.Leaves.{share}
 use Rattle.leaf_cell.specs.CellView.{held_of}
 use Rattle.table_levels.specs.Cells.{tables_of}
 use Rattle.page_tables.specs.Held.{frames_in, shares_in, snapshot_frames}
 use Rattle.page_tables.proofs.StandingFacts.{known-slots}
+use Rattle.std.specs.List.{slice_get}
+use Rattle.page_tables.specs.declared.slot.Slot.{Slot}
+use Rattle.page_tables.specs.Forking.{owner_if_used}
+use Rattle.page_tables.proofs.KeptWriting.{keeps-writing}
+use Rattle.page_tables.proofs.Known.{known-owner}
 use Rattle.page_tables.proofs.DroppedTables.{drop-made, freed-sum}
 use Rattle.std.proofs.Math.Logic.{∥∥₁_map}
 use Rattle.page_tables.proofs.tables.PageTables.drop_snapshot.Goals as goal
@@ -32,3 +37,10 @@ returns-clause-even g c =
     let shares : shares_in c.free_unused.new.slots.items ≡ shares_in c.drop_cells.new.slots.items =
     freed-sum (λ slot. share slot.cell.leaves) (λ slot it e. ap (λ cell. share cell.leaves) e) c.drop_cells.new.slots.items c.free_unused.new.slots.items c.free_unused.ensures in
     omega (arith, frames, shares, c.drop_cells.ensures.even)
+
+pub returns-clause-writable : goal.returns-clause-writable
+returns-clause-writable g c =
+    keeps-writing c.args.self.now (record c.args.self.now { slots = c.free_unused.new.slots }) refl (known-owner c.args.self.now c.requires.stands) (λ s slot found.
+    let it : (it : Slot) × ((slice_get c.drop_cells.new.slots.items s ≡ Some it) × (it.cell.writable ≡ slot.cell.writable)) = c.drop_cells.ensures.bits s slot found in
+    let last : (last : Slot) × ((slice_get c.free_unused.new.slots.items s ≡ Some last) × ((last.cell ≡ it.0.cell) × (last.owner ≡ owner_if_used it.0))) = c.free_unused.ensures.each s it.0 it.1.0 in
+    (last.0, (last.1.0, ap (λ cell. cell.writable) last.1.1.0 ∙ it.1.1)))

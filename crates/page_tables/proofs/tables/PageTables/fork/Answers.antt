@@ -5,7 +5,8 @@ use Rattle.page_tables.specs.Standing.{StandFor}
 use Rattle.page_tables.proofs.StandingFacts.{alone-slots, known-slots}
 use Rattle.page_tables.proofs.ForkedTables.{fork-made, fork-refused}
 use Rattle.std.proofs.Math.Logic.{∥∥₁_map}
-use Rattle.page_tables.proofs.Known.{known-kept}
+use Rattle.page_tables.proofs.KeptWriting.{known-forked, none-written-then, stops-before}
+use Rattle.page_tables.proofs.Known.{known-kept, known-test, known-owner}
 use Rattle.page_tables.proofs.tables.PageTables.fork.Goals as goal
 
 pub fork_into-requires-clause-alone : goal.fork_into-requires-clause-alone
@@ -29,3 +30,13 @@ pub returns-in-Err-clause-held : goal.returns-in-Err-clause-held
 returns-in-Err-clause-held g c =
     let none : tables_of c.fork_into.new.child ≡ 0 = ap tables_of c.in-Err.ensures.kept ∙ tables_of-empty in
     omega (arith, none, c.in-Err.ensures.held)
+
+pub returns-in-Ok-clause-writable : goal.returns-in-Ok-clause-writable
+returns-in-Ok-clause-writable g c = λ page.
+    known-test c.requires.stands (λ it.
+    none-written-then c.args.self.now (record c.args.self.now { slots = c.fork_into.new.slots }) refl it.1.named (known-forked c.args.self.now it.0 it.1) c.in-Ok.ensures.bits page)
+
+pub returns-in-Err-clause-writable : goal.returns-in-Err-clause-writable
+returns-in-Err-clause-writable g c =
+    stops-before c.args.self.now _ refl (known-owner c.args.self.now c.requires.stands)
+    (λ q s slot there here. known-test c.requires.stands (λ it. known-forked c.args.self.now it.0 it.1 q s slot there here)) c.in-Err.ensures.bits

@@ -17,6 +17,7 @@ use Rattle.page_tables.specs.declared.tables.PageTables.{PageTables}
 use Rattle.page_tables.specs.Sides.{Sides}
 use Rattle.page_tables.specs.Standing.{TablesStandFor}
 use Rattle.page_tables.specs.Accesses.{IsReady}
+use Rattle.page_tables.proofs.KeptWriting.{keeps-writing, bits-set}
 use Rattle.page_tables.proofs.Known.{standing, known-owner, known-alone}
 use Rattle.page_tables.proofs.tables.PageTables.store_piece.Goals as goal
 
@@ -60,22 +61,23 @@ returns-clause-held c =
     let same : held_of c.store.new.self ≡ held_of c.index_mut.result.now.cell = c.store.ensures.held in
     omega (arith, sums, same)
 
-pub returns-clause-frames : goal.returns-clause-frames
-returns-clause-frames c =
+pub returns-clause-cells : goal.returns-clause-cells
+returns-clause-cells c =
     let known = ap (get c.args.self.now.directory) (sym c.location_of-location.ensures.cell) ∙ sym c.find.ensures ∙ c.in-Some.is in
     let here = owned-here c.args.self.now.slots.items c.in-Some.slot (cell_of (page_of c.args.addr)) c.index_mut.result.now (known-owner c.args.self.now (standing-ready c.args.self.now c.args.addr c.requires.stands) (cell_of (page_of c.args.addr)) c.in-Some.slot known) c.index_mut.ensures.value in
     let new : Slot = record { owner = c.index_mut.result.now.owner; cell = c.store.new.self } in
-    let sums : frames_in (slice_set c.args.self.now.slots.items c.in-Some.slot new) + held_of c.index_mut.result.now.cell ≡ frames_in c.args.self.now.slots.items + held_of c.store.new.self =
+    let frames : frames_in (slice_set c.args.self.now.slots.items c.in-Some.slot new) + held_of c.index_mut.result.now.cell ≡ frames_in c.args.self.now.slots.items + held_of c.store.new.self =
     frames-set c.args.self.now.slots.items c.in-Some.slot c.index_mut.result.now new here in
     let same : held_of c.store.new.self ≡ held_of c.index_mut.result.now.cell = c.store.ensures.held in
-    omega (arith, sums, same)
-
-pub returns-clause-shares : goal.returns-clause-shares
-returns-clause-shares c =
-    let known = ap (get c.args.self.now.directory) (sym c.location_of-location.ensures.cell) ∙ sym c.find.ensures ∙ c.in-Some.is in
-    let here = owned-here c.args.self.now.slots.items c.in-Some.slot (cell_of (page_of c.args.addr)) c.index_mut.result.now (known-owner c.args.self.now (standing-ready c.args.self.now c.args.addr c.requires.stands) (cell_of (page_of c.args.addr)) c.in-Some.slot known) c.index_mut.ensures.value in
-    let new : Slot = record { owner = c.index_mut.result.now.owner; cell = c.store.new.self } in
-    let sums : shares_in (slice_set c.args.self.now.slots.items c.in-Some.slot new) + share c.index_mut.result.now.cell.leaves ≡ shares_in c.args.self.now.slots.items + share c.store.new.self.leaves =
+    let parts : shares_in (slice_set c.args.self.now.slots.items c.in-Some.slot new) + share c.index_mut.result.now.cell.leaves ≡ shares_in c.args.self.now.slots.items + share c.store.new.self.leaves =
     shares-set c.args.self.now.slots.items c.in-Some.slot c.index_mut.result.now new here in
-    let same : share c.store.new.self.leaves ≡ share c.index_mut.result.now.cell.leaves = ap share c.store.ensures.leaves in
-    omega (arith, sums, same)
+    let alike : share c.store.new.self.leaves ≡ share c.index_mut.result.now.cell.leaves = ap share c.store.ensures.leaves in
+    record { frames = omega (arith, frames, same); shares = omega (arith, parts, alike) }
+
+pub returns-clause-writable : goal.returns-clause-writable
+returns-clause-writable c =
+    let stands = standing-ready c.args.self.now c.args.addr c.requires.stands in
+    let known = ap (get c.args.self.now.directory) (sym c.location_of-location.ensures.cell) ∙ sym c.find.ensures ∙ c.in-Some.is in
+    let here = owned-here c.args.self.now.slots.items c.in-Some.slot (cell_of (page_of c.args.addr)) c.index_mut.result.now (known-owner c.args.self.now stands (cell_of (page_of c.args.addr)) c.in-Some.slot known) c.index_mut.ensures.value in
+    keeps-writing c.args.self.now (record c.args.self.now { slots = with_item c.args.self.now.slots c.in-Some.slot (record { owner = c.index_mut.result.now.owner; cell = c.store.new.self }) }) refl (known-owner c.args.self.now stands)
+    (bits-set c.args.self.now.slots.items c.in-Some.slot c.index_mut.result.now (record { owner = c.index_mut.result.now.owner; cell = c.store.new.self }) here c.store.ensures.writable)

@@ -10,13 +10,14 @@ use Rattle.page_tables.specs.Sides.{Sides}
 use Rattle.page_tables.specs.Standing.{TablesStandFor, slot_count}
 use Rattle.page_tables.specs.Held.{frames_of}
 use Rattle.page_tables.specs.Ranges.{IsTouchedUpTo, cells_of_pages, sides_without_pages, AreThere}
-use Rattle.page_tables.specs.Permissions.{LetsWrite}
+use Rattle.page_tables.specs.Permissions.{LetsWrite, StopsWritingAt}
+use Rattle.page_tables.proofs.KeptWriting.{there-known, refused-writes}
 use Rattle.page_tables.proofs.WrittenPages.{none-written, one-more-written}
 use Rattle.page_tables.proofs.RangeRoom.{is_among, page-among, room-for}
 use Rattle.page_tables.proofs.RangeSteps.{none-touched, one-page-more, range-granted}
 use Rattle.page_tables.proofs.RangeEnds.{added-there, added-below, range-refused, few-absent}
 use Rattle.std.proofs.Math.Logic.{∥∥₁_map}
-use Rattle.page_tables.proofs.Known.{known-below, known-less}
+use Rattle.page_tables.proofs.Known.{known-below, known-less, known-test}
 use Rattle.page_tables.proofs.tables.PageTables.touch.Goals as goal
 
 -- src/range.rt:50:9
@@ -173,3 +174,13 @@ pub returns-clause-writable : goal.returns-clause-writable
 returns-clause-writable g c =
     let whole : c.loop-page.page - c.args.first ≡ c.args.count = omega (arith, c.loop-page.invariant.from, c.loop-page-test.false, c.loop-page.auto.page-end) in
     subst (λ n. LetsWrite c.args.first n c.args.self.now c.loop-page.self) whole c.loop-page.invariant.writable
+
+pub returns-in-Err-clause-writable : goal.returns-in-Err-clause-writable
+returns-in-Err-clause-writable g c = λ page.
+    known-test c.requires.stands (λ it.
+    let sides : Sides = it.0 in
+    let so_far = c.loop-page.invariant.touched.touched sides it.1.0 in
+    refused-writes c.args.first c.loop-page.page c.args.self.now c.loop-page.self c.touch_page.new.self c.take_back.new.self c.loop-page.added.items
+    c.loop-page.invariant.writable c.in-Err.ensures.writable
+    (subst (λ added. StopsWritingAt added c.touch_page.new.self c.take_back.new.self) c.deref.ensures.value c.take_back.ensures.writable)
+    sides.pages so_far.new (there-known c.args.self.now sides it.1.0) page)

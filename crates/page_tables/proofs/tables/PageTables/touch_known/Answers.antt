@@ -1,5 +1,6 @@
 use Rattle.std.proofs.Common.{◌≡◌, ◌+◌, ◌%◌, ◌≤◌, ◌<◌, ℕ, length, Some, sym, ◌∙◌, ap, subst, refl, arith}
 use Rattle.std.specs.Prelude.{slice_set, true, OnOk}
+use Rattle.std.specs.Vec.{with_item}
 use Rattle.std.specs.List.{slice_get}
 use Rattle.std.specs.Option.{option_and_then}
 use Rattle.vm_base.specs.Places.{cell_of}
@@ -20,7 +21,8 @@ use Rattle.page_tables.proofs.KnownTouch.{known-touches}
 use Rattle.page_tables.proofs.OwnedSlots.{owned-within, held-within, frames-set, read-slot}
 use Rattle.page_tables.specs.declared.tables.PageTables.{PageTables}
 use Rattle.page_tables.proofs.SlotLemmas.{slice_get-set-here, slice_get-set-apart}
-use Rattle.page_tables.proofs.WrittenPages.{bit-known, granted-both, page-written, other-slot, others-set}
+use Rattle.page_tables.proofs.WrittenPages.{bit-known, page-answered, page-written, other-slot, others-set}
+use Rattle.page_tables.proofs.KeptWriting.{keeps-writing, bits-set}
 use Rattle.page_tables.proofs.Known.{known-owner, known-unjoined, known-number}
 use Rattle.page_tables.proofs.tables.PageTables.touch_known.Goals as goal
 
@@ -102,9 +104,10 @@ returns-clause-writable g c =
     let within : c.args.slot < length old.slots.items = owned-within old.slots.items c.args.slot cell owned in
     let here : slice_get old.slots.items c.args.slot ≡ Some home = read-slot old.slots.items c.args.slot home within c.index_mut-home.ensures.value in
     let at = c.cell_and_index-index.ensures.index in
-    granted-both c.touch-answer.result c.touch-answer.ensures.writable c.touch-answer.ensures.allowed (λ set allowed.
+    page-answered c.args.page c.touch-answer.result old _ c.touch-answer.ensures.writable c.touch-answer.ensures.allowed c.touch-answer.ensures.refused (λ set allowed.
     page-written c.args.page c.args.slot old _ it c.requires.known (slice_get-set-here old.slots.items c.args.slot it within) (λ q apart. refl)
     (λ t apart. slice_get-set-apart old.slots.items c.args.slot t it apart)
     (λ q t apart is. other-slot old.slots.items c.args.slot t cell q owned (known-owner old c.requires.stands q t is) apart) (subst (λ i. writable_at c.touch-answer.new.self.writable i ≡ true) at allowed)
     (λ q same apart. others-set home.cell.writable c.touch-answer.new.self.writable (c.args.page % 512) (q % 512)
     (subst (λ i. c.touch-answer.new.self.writable ≡ slice_set home.cell.writable i true) at set) apart ∙ sym (bit-known old cell c.args.slot home c.requires.known here q same)))
+    (λ same. keeps-writing old (record old { slots = with_item old.slots c.args.slot it }) refl (known-owner old c.requires.stands) (bits-set old.slots.items c.args.slot home it here (ap (λ cell. cell.writable) same)))

@@ -1,6 +1,7 @@
 use Rattle.std.proofs.Common.{◌≡◌, ◌+◌, ◌-◌, ◌%◌, ◌≤◌, ◌<◌, ℕ, length, List, [], ◌++◌, Some, None, sym, ◌∙◌, ap, subst, refl, arith}
 use Rattle.std.specs.Prelude.{slice_set, true, false}
 use Rattle.std.specs.FinMap.{get, insert, remove, keys}
+use Rattle.std.specs.Vec.{with_item}
 use Rattle.std.specs.List.{slice_get}
 use Rattle.vm_base.specs.Places.{cell_of}
 use Rattle.vm_base.specs.Deals.{LeadsAlong}
@@ -31,7 +32,8 @@ use Rattle.vm_base.proofs.NumberedMaps.{get_inserted_here, get_inserted_apart}
 use Rattle.page_tables.proofs.SlotLemmas.{slice_get-set-here, slice_get-set-apart}
 use Rattle.page_tables.proofs.Permissions.{never-written}
 use Rattle.page_tables.proofs.WrittenPages.{page-written, other-home, others-set}
-use Rattle.page_tables.proofs.Known.{standing, known-home, known-fits, known-unjoined, known-less, known-number, known-test, known-impossible}
+use Rattle.page_tables.proofs.KeptWriting.{keeps-writing, bits-set}
+use Rattle.page_tables.proofs.Known.{standing, known-owner, known-home, known-fits, known-unjoined, known-less, known-number, known-test, known-impossible}
 use Rattle.page_tables.proofs.tables.PageTables.touch_new.Goals as goal
 
 -- src/touch.rt:72:15
@@ -216,3 +218,21 @@ prove-unreachable-requires g c =
     false≢true (sym (c.covers.ensures.account (account old known.0 known.1.0 c.args.page c.args.slot home c.requires.new here fits)
     (stood old known.0 known.1.0 c.args.page c.args.slot home c.requires.new here fits)
     ∙ none-present old known.0 known.1.0 c.args.page c.args.slot home c.requires.new here fits 0 512) ∙ c.if-prove.true))
+
+pub returns-in-Err-clause-writable : goal.returns-in-Err-clause-writable
+returns-in-Err-clause-writable g c = λ page.
+    let old : PageTables = c.args.self.now in
+    keeps-writing old (record old { directory = c.insert.new.self }) c.in-Err.ensures.kept (known-owner old (standing old (λ sides. HasSlotFor old sides.leaves (cell_of c.args.page) c.args.slot) c.requires.stands))
+    (λ s slot found. (slot, (found, refl))) page
+
+pub returns-in-Err-touch-clause-writable : goal.returns-in-Err-touch-clause-writable
+returns-in-Err-touch-clause-writable g c = λ page.
+    let old : PageTables = c.args.self.now in
+    let cell : ℕ = cell_of c.args.page in
+    let home : Slot = c.index_mut-home.result.now in
+    let within : c.args.slot < length old.slots.items = known-home old cell c.args.slot c.requires.stands in
+    let here : slice_get old.slots.items c.args.slot ≡ Some home = read-slot old.slots.items c.args.slot home within c.index_mut-home.ensures.value in
+    let added : c.insert.new.self ≡ insert old.directory cell c.args.slot = c.in-Ok.ensures.added ∙ ap (λ q. insert old.directory q c.args.slot) c.cell_and_index-cell.ensures.cell in
+    let gone : c.remove.new.self ≡ old.directory = c.remove.ensures.removed ∙ ap (remove c.insert.new.self) c.cell_and_index-cell.ensures.cell ∙ ap (λ d. remove d cell) added ∙ added-removed old.directory cell c.args.slot c.requires.new in
+    keeps-writing old (record old { directory = c.remove.new.self; slots = with_item old.slots c.args.slot (record { owner = home.owner; cell = c.touch.new.self }) }) gone (known-owner old (standing old (λ sides. HasSlotFor old sides.leaves cell c.args.slot) c.requires.stands))
+    (bits-set old.slots.items c.args.slot home (record { owner = home.owner; cell = c.touch.new.self }) here (ap (λ cell. cell.writable) c.in-Err-touch.ensures.refused)) page

@@ -8,6 +8,9 @@ use Rattle.page_tables.specs.Clearing.{has_some, IsOutOf}
 use Rattle.page_tables.specs.Standing.{TablesStandFor}
 use Rattle.page_tables.specs.Held.{frames_of, frames_in, shares_in}
 use Rattle.page_tables.proofs.FirstCell.{IsFirstFrom, first-none, first-some}
+use Rattle.kernel_meaning.specs.EventRequests.{first_in_cell, count_in_cell}
+use Rattle.page_tables.specs.Permissions.{StopsWriting}
+use Rattle.page_tables.proofs.KeptWriting.{none-stopped, one-stopped, stopped-to-end, stopped-all}
 use Rattle.page_tables.proofs.UnmapSteps.{GoesOnFrom, unmap-begins, unmap-goes-on, unmap-ends}
 use Rattle.std.proofs.Math.Logic.{∥∥₁_map}
 use Rattle.page_tables.proofs.tables.PageTables.unmap.Goals as goal
@@ -18,7 +21,7 @@ evener frames shares mid-frames mid-shares new-frames new-shares first then = om
 
 pub loop-cell-init : goal.loop-cell-init
 loop-cell-init g c =
-    (refl, (omega arith, omega (arith, c.requires.range)), unmap-begins g.A.Allot.goes (g.A.Allot.state c.args.allot.now) c.args.first c.args.count c.args.self.now, refl, c.requires.untold, refl, refl, omega arith, refl)
+    (refl, (omega arith, omega (arith, c.requires.range)), unmap-begins g.A.Allot.goes (g.A.Allot.state c.args.allot.now) c.args.first c.args.count c.args.self.now, refl, c.requires.untold, refl, refl, omega arith, refl, none-stopped c.args.first c.args.count c.args.self.now)
 
 pub unmap_cell-requires-clause-within : goal.unmap_cell-requires-clause-within
 unmap_cell-requires-clause-within g c =
@@ -69,6 +72,8 @@ loop-cell-preserved g c =
       evener (frames_in c.args.self.now.slots.items) (shares_in c.args.self.now.slots.items) (frames_in now.slots.items) (shares_in now.slots.items) (frames_in new.slots.items) (shares_in new.slots.items)
           c.loop-cell.invariant.7 c.unmap_cell.ensures.even,
       c.unmap_cell.ensures.snapshot ∙ c.loop-cell.invariant.8,
+      one-stopped c.args.first c.args.count c.loop-cell.next c.args.self.now now c.loop-cell.invariant.9 c.in-Some.cell c.in-Some.slot is_first new c.loop-cell.invariant.1.0
+          (subst (λ n. StopsWriting (c.in-Some.cell * 512 + first_in_cell c.in-Some.cell c.args.first) (count_in_cell c.in-Some.cell c.args.first n) now new) count c.unmap_cell.ensures.writable),
     )
 
 pub returns-then-from-end-clause-made : goal.returns-then-from-end-clause-made
@@ -86,3 +91,15 @@ pub returns-in_default-clause-made : goal.returns-in_default-clause-made
 returns-in_default-clause-made g c =
     unmap-ends g.A.Allot.goes (g.A.Allot.state c.args.allot.now) (g.A.Allot.state c.loop-cell.allot) c.args.first c.args.count c.loop-cell.next c.args.self.now c.loop-cell.self c.loop-cell.invariant.2
     (λ q le. inl (first-none c.loop-cell.self.directory c.loop-cell.next (sym c.at_or_after.ensures ∙ c.in_default.is) q le))
+
+pub returns-then-from-end-clause-writable : goal.returns-then-from-end-clause-writable
+returns-then-from-end-clause-writable g c =
+    let found : first_from c.loop-cell.self.directory c.loop-cell.next ≡ Some (c.in-Some.cell, c.in-Some.slot) = sym c.at_or_after.ensures ∙ c.in-Some.is in
+    let is_first : IsFirstFrom c.loop-cell.self.directory c.loop-cell.next c.in-Some.cell c.in-Some.slot = first-some c.loop-cell.self.directory c.loop-cell.next c.in-Some.cell c.in-Some.slot found in
+    stopped-to-end c.args.first c.args.count c.loop-cell.next c.args.self.now c.loop-cell.self c.loop-cell.invariant.9 c.in-Some.cell c.in-Some.slot is_first
+    (omega (arith, c.if-from-end.true, c.from.ensures))
+
+pub returns-in_default-clause-writable : goal.returns-in_default-clause-writable
+returns-in_default-clause-writable g c =
+    stopped-all c.args.first c.args.count c.loop-cell.next c.args.self.now c.loop-cell.self c.loop-cell.invariant.9
+    (first-none c.loop-cell.self.directory c.loop-cell.next (sym c.at_or_after.ensures ∙ c.in_default.is))

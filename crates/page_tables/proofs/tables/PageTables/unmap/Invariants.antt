@@ -2,6 +2,7 @@ use Rattle.std.proofs.Common.{◌≡◌, ◌+◌, ◌-◌, ◌/◌, ◌≤◌, �
 use Rattle.page_tables.specs.Standing.{slot_count}
 use Rattle.page_tables.specs.Held.{frames_of, frames_in, shares_in}
 use Rattle.page_tables.proofs.UnmapSteps.{IsUnmappedUpTo}
+use Rattle.page_tables.proofs.KeptWriting.{AreStopped}
 use Rattle.page_tables.proofs.tables.PageTables.unmap.Given as goal
 
 abbrev pub invariant-loop-cell : goal.invariant-loop-cell
@@ -15,6 +16,7 @@ invariant-loop-cell g l =
     × (g.A.Allot.refused (g.A.Allot.state l.allot) ≡ g.A.Allot.refused (g.A.Allot.state l.fn.allot))
     × (frames_in l.fn.self.slots.items + shares_in l.self.slots.items ≡ shares_in l.fn.self.slots.items + frames_in l.self.slots.items)
     × (l.self.snapshot ≡ l.fn.self.snapshot)
+    × AreStopped l.fn.first l.fn.count l.next l.fn.self l.self
 
 abbrev pub decreases-loop-cell : goal.decreases-loop-cell
 decreases-loop-cell g l = 2 ^ 27 - l.next
