@@ -4,6 +4,7 @@ use Rattle.std.proofs.lemmas.List.{append_assoc, take_all, length-take-le, take-
 use Rattle.std.proofs.Math.Seq.{take-append-add}
 use Rattle.resp_text.specs.Grammar.{IsStream, IsBegun, IsWhole, IsUnfinished}
 use Rattle.resp_text.specs.Reading.{Reading, StandsFor, BreaksAt}
+use Rattle.resp_text.specs.Breaks.{IsPartBehind}
 use Rattle.resp_text.specs.Pieces.{EndsFor, Reads}
 use Rattle.resp_text.specs.declared.requests.Reached.{Reached}
 use Rattle.resp_text.specs.declared.fault.ProtocolKind.{ProtocolKind}
@@ -81,7 +82,7 @@ stands_for_all old new taken piece given r none f s =
 -- the byte behind those that were read breaks the stream
 pub breaks_at : (old new : Reading) (taken piece : List ℕ) (given : List (List (List ℕ)))
     (r : Reached) (kind : ProtocolKind) → r.kind ≡ Some kind → Follows old new piece r →
-    StandsFor old taken given → BreaksAt (taken ++ piece) (old.before + r.end)
+    StandsFor old taken given → BreaksAt (taken ++ piece) (old.before + r.end) kind
 breaks_at old new taken piece given r kind some f s =
     let all : List ℕ = old.rest ++ piece in
     let ends : EndsFor all r.whole r.end (Some kind) = subst
@@ -120,4 +121,13 @@ breaks_at old new taken piece given r kind some f s =
           (λ tail whole. ends.1 tail (subst IsWhole (sym (append_assoc new.rest
           (byte ∷ []) tail) ∙ ap (λ (t : List ℕ). t ++ tail) (sym longer)) whole))
           (subst IsBegun text h);
+      part = record {
+        whole = after.whole;
+        rest = new.rest;
+        requests = given ++ new.waiting;
+        is = after.is;
+        stream = after.stream;
+        unfinished = after.unfinished;
+        part = subst (λ (t : List ℕ). IsPartBehind t kind) (sym f.rest) ends.2;
+      };
     }

@@ -45,7 +45,7 @@ one_line s t m n ds es x y e a b =
     }
 
 -- a line with more behind it
-line_longer : (text : List ℕ) (n : ℕ) (digits more x : List ℕ) → HasLine text n digits more →
+pub line_longer : (text : List ℕ) (n : ℕ) (digits more x : List ℕ) → HasLine text n digits more →
     HasLine (text ++ x) n digits (more ++ x)
 line_longer text n digits more x line = record {
   first = line.first;
@@ -53,6 +53,23 @@ line_longer text n digits more x line = record {
   is = ap (λ (t : List ℕ). t ++ x) line.is ∙ ap (λ (t : List ℕ). line.first ∷ t)
       (append_assoc digits (13 ∷ 10 ∷ more) x);
 }
+
+-- one word stands at the front of a text
+pub one_first : (a b x y w v : List ℕ) (ws vs : List (List ℕ)) (p : AreWords a (w ∷ ws))
+    (q : AreWords b (v ∷ vs)) → a ++ x ≡ b ++ y →
+    (w ≡ v) × ((word_first a w ws p).after ++ x ≡ (word_first b v vs q).after ++ y)
+one_first a b x y w v ws vs p q e =
+    let f = word_first a w ws p in
+    let g = word_first b v vs q in
+    let one = one_line (a ++ x) (b ++ y) (length w) (length v) _ _ _ _ e
+    (line_longer a _ _ _ x f.line) (line_longer b _ _ _ y g.line) in
+    let same : w ++ (13 ∷ 10 ∷ (f.after ++ x)) ≡ v ++ (13 ∷ 10 ∷ (g.after ++ y)) =
+    sym (append_assoc w (13 ∷ 10 ∷ f.after) x) ∙ one.more ∙ append_assoc v (13 ∷ 10 ∷ g.after) y in
+    let word : w ≡ v = sym (take_at w _ (length w) refl) ∙ ap (take (length w)) same
+    ∙ take_at v _ (length w) (sym one.number) in
+    let behind : 13 ∷ 10 ∷ (f.after ++ x) ≡ 13 ∷ 10 ∷ (g.after ++ y) = sym (drop_at w _
+    (length w) refl) ∙ ap (drop (length w)) same ∙ drop_at v _ (length w) (sym one.number) in
+    (word, tail_is 10 10 _ _ (tail_is 13 13 _ _ behind))
 
 -- as many words at the front of a text are the same words
 pub one_words : (a b x y : List ℕ) (ws vs : List (List ℕ)) → AreWords a ws → AreWords b vs →
@@ -65,18 +82,10 @@ one_words a b x y [] [] p q n e = (
 one_words a b x y [] (v ∷ vs) p q n e = absurd (omega (arith, n))
 one_words a b x y (w ∷ ws) [] p q n e = absurd (omega (arith, n))
 one_words a b x y (w ∷ ws) (v ∷ vs) p q n e =
-    let f = word_first a w ws p in
-    let g = word_first b v vs q in
-    let one = one_line (a ++ x) (b ++ y) (length w) (length v) _ _ _ _ e
-    (line_longer a _ _ _ x f.line) (line_longer b _ _ _ y g.line) in
-    let same : w ++ (13 ∷ 10 ∷ (f.after ++ x)) ≡ v ++ (13 ∷ 10 ∷ (g.after ++ y)) =
-    sym (append_assoc w (13 ∷ 10 ∷ f.after) x) ∙ one.more ∙ append_assoc v (13 ∷ 10 ∷ g.after) y in
-    let word : w ≡ v = sym (take_at w _ (length w) refl) ∙ ap (take (length w)) same
-    ∙ take_at v _ (length w) (sym one.number) in
-    let behind : 13 ∷ 10 ∷ (f.after ++ x) ≡ 13 ∷ 10 ∷ (g.after ++ y) = sym (drop_at w _
-    (length w) refl) ∙ ap (drop (length w)) same ∙ drop_at v _ (length w) (sym one.number) in
-    let rest = one_words f.after g.after x y ws vs f.more g.more (omega (arith, n))
-    (tail_is 10 10 _ _ (tail_is 13 13 _ _ behind)) in
+    let first = one_first a b x y w v ws vs p q e in
+    let rest = one_words (word_first a w ws p).after (word_first b v vs q).after x y ws vs
+    (word_first a w ws p).more (word_first b v vs q).more (omega (arith, n)) first.1 in
+    let word : w ≡ v = first.0 in
     let words : ws ≡ vs = rest.0 in
     (cc, rest.1)
 

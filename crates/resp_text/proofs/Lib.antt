@@ -2,6 +2,7 @@
 pub mod Buffers
 pub mod Residuals
 pub mod Steps
+pub mod Histories
 pub mod Scans
 pub mod Texts
 pub mod Grammars
@@ -10,4 +11,5 @@ pub mod PieceLaws
 pub mod Feeds
 pub mod Fronts
 pub mod Spellings
+pub mod Breaks
 pub mod Readings

@@ -3,7 +3,8 @@ use Rattle.std.proofs.Common.{◌≡◌, ℕ, ◌+◌, ◌<◌, ◌≤◌, List,
 use Rattle.std.proofs.lemmas.List.{append_assoc, append-nil, take_all, drop-take, length-drop, length-take-le, take-append-drop}
 use Rattle.std.proofs.Math.Seq.{take-add, take-append-add, drop-append-add}
 use Rattle.resp_text.specs.Grammar.{IsItem, IsStream, IsWhole}
-use Rattle.resp_text.specs.Residual.{IsSound, Finishes, Leads}
+use Rattle.resp_text.specs.Breaks.{IsPartBehind}
+use Rattle.resp_text.specs.Residual.{IsSound, Finishes, Leads, ReadsOn}
 use Rattle.resp_text.specs.Pieces.{StandsBehind, EndsFor, Reads}
 use Rattle.resp_text.specs.declared.scan.Scan.{Scan}
 use Rattle.resp_text.specs.declared.requests.Reached.{Reached}
@@ -60,39 +61,43 @@ pub reads_broken : (old new : List (List (List ℕ))) (bytes behind : List ℕ) 
     (kind : ProtocolKind) (whole at : ℕ) → whole ≤ length bytes → behind ≡ drop whole bytes →
     Came old new (take whole bytes) →
     at < length behind → StandsBehind scan (take at behind) → ((tail : List ℕ) →
-    IsWhole (take (at + 1) behind ++ tail) → ⊥) →
+    IsWhole (take (at + 1) behind ++ tail) → ⊥) → IsPartBehind (take at behind) kind →
     Reads old new bytes (record { scan = scan; whole = whole; end = whole + at; kind = Some kind })
 reads_broken old new bytes behind scan kind whole at fits e
-    (came, stream, is) within stands broken =
+    (came, stream, is) within stands broken part =
     let inside : whole + at < length bytes = omega
     (arith, within, ap length e, length-drop whole bytes) in
     let byte : drop whole (take (whole + at + 1) bytes) ≡ take (at + 1) behind =
     ap (λ (n : ℕ). drop whole (take n bytes)) (omega arith) ∙ drop-take whole (at + 1) bytes
     ∙ ap (take (at + 1)) (sym e) in
+    let before : take at behind ≡ drop whole (take (whole + at) bytes) = ap (take at) e
+    ∙ sym (drop-take whole at bytes) in
     record {
       came = came;
       stream = stream;
       waiting = is;
       order = omega arith;
       within = omega (arith, inside);
-      stands = subst (StandsBehind scan) (ap (take at) e ∙ sym (drop-take whole at bytes)) stands;
+      stands = subst (StandsBehind scan) before stands;
       ends = (
         inside,
         λ tail h. broken tail (subst IsWhole (ap (λ
             (t : List ℕ). t ++ tail) byte) h),
+        subst (λ (t : List ℕ). IsPartBehind t kind) before part,
       );
     }
 
 -- a reader that stood behind some bytes stands behind those that follow
 pub stands_on : (scan next : Scan) (rest x : List ℕ) → StandsBehind scan rest → IsSound next →
-    Leads scan x next → StandsBehind next (rest ++ x)
-stands_on scan next rest x stands sound leads = record {
+    Leads scan x next → ReadsOn scan x next → StandsBehind next (rest ++ x)
+stands_on scan next rest x stands sound leads reads = record {
   sound = sound;
   leads = λ tail. (
     λ h. (leads tail).0 ((stands.leads (x ++ tail)).0 (subst IsWhole (append_assoc rest x tail) h)),
     λ h. subst IsWhole (sym (append_assoc rest x tail)) ((stands.leads (x ++ tail)).1
         ((leads tail).1 h)),
   );
+  read = reads rest stands.read;
 }
 
 -- what finishes the item
@@ -118,11 +123,12 @@ ends_after : (kind : Option ProtocolKind) (text more : List ℕ) (n whole end : 
     n ≡ length text → EndsFor more whole end kind →
     EndsFor (text ++ more) (n + whole) (n + end) kind
 ends_after None text more n whole end len e = omega (arith, e, len, length-append text more)
-ends_after (Some kind) text more n whole end len (within, broken) = (
+ends_after (Some kind) text more n whole end len (within, broken, part) = (
   omega (arith, within, len, length-append text more),
   λ tail h. broken tail (subst IsWhole (ap (λ (t : List ℕ). t ++ tail) (ap (λ (k : ℕ). drop
       (n + whole) (take k (text ++ more))) (omega arith)
       ∙ between text more n whole (end + 1) len)) h),
+  subst (λ (t : List ℕ). IsPartBehind t kind) (sym (between text more n whole end len)) part,
 )
 
 pub reads_after : (old mid new : List (List (List ℕ))) (text more : List ℕ) (n : ℕ)
@@ -168,8 +174,9 @@ pub reads_broken_first : (old new : List (List (List ℕ))) (rest piece : List �
     (kind : ProtocolKind) (at end : ℕ) → new ≡ old → end ≡ length rest + at → at < length piece →
     StandsBehind scan (rest ++ take at piece) →
     ((tail : List ℕ) → IsWhole ((rest ++ take (at + 1) piece) ++ tail) → ⊥) →
+    IsPartBehind (rest ++ take at piece) kind →
     Reads old new (rest ++ piece) (record { scan = scan; whole = 0; end = end; kind = Some kind })
-reads_broken_first old new rest piece scan kind at end same len within stands broken =
+reads_broken_first old new rest piece scan kind at end same len within stands broken part =
     subst (λ (k : ℕ). Reads old new (rest ++ piece)
     (record { scan = scan; whole = 0; end = k; kind = Some kind })) (omega (arith, len))
     (reads_broken old new (rest ++ piece) (rest ++ piece) scan kind 0 (length rest + at)
@@ -178,7 +185,8 @@ reads_broken_first old new rest piece scan kind at end same len within stands br
     (omega (arith, within, length-append rest piece))
     (subst (StandsBehind scan) (sym (take-append-add rest piece at)) stands)
     (λ tail h. broken tail (subst IsWhole (ap (λ (t : List ℕ). t ++ tail) (ap (λ (k : ℕ). take k
-    (rest ++ piece)) (omega arith) ∙ take-append-add rest piece (at + 1))) h)))
+    (rest ++ piece)) (omega arith) ∙ take-append-add rest piece (at + 1))) h))
+    (subst (λ (t : List ℕ). IsPartBehind t kind) (sym (take-append-add rest piece at)) part))
 
 -- the bytes of the item in which the reader then stands
 pub rest_after : (rest piece : List ℕ) (taken from to n : ℕ) → taken ≤ length piece →

@@ -1,9 +1,12 @@
 -- Bytes have one reading, and a break is final.
-use Rattle.std.proofs.Common.{◌≡◌, ℕ, ◌+◌, ◌↔◌, List, [], ◌∷◌, ◌++◌, length, take, drop, refl, sym, ap, subst, ◌∙◌, inl, None}
-use Rattle.std.proofs.lemmas.List.{append_assoc, append-nil, take-append-drop, nil_from_length}
-use Rattle.resp_text.specs.Grammar.{IsStream, IsUnfinished, requests_of}
+use Rattle.std.proofs.Common.{◌≡◌, ℕ, ◌+◌, ◌<◌, ◌≤◌, ◌↔◌, List, [], ◌∷◌, ◌++◌, length, take, drop, refl, sym, ap, subst, ◌∙◌, arith, inl, None}
+use Rattle.std.proofs.lemmas.List.{append_assoc, append-nil, take-append-drop, take-take, nil_from_length}
+use Rattle.resp_text.specs.Grammar.{IsStream, IsBegun, IsUnfinished, requests_of}
+use Rattle.resp_text.specs.Breaks.{EndsIn, IsPartBehind}
 use Rattle.resp_text.specs.Reading.{Reading, StandsFor, BreaksAt}
+use Rattle.resp_text.specs.declared.fault.ProtocolKind.{ProtocolKind}
 use Rattle.resp_text.proofs.Grammars.{one_reading}
+use Rattle.resp_text.proofs.Breaks.{one_part}
 
 -- no bytes begin an item
 pub nothing_unfinished : IsUnfinished []
@@ -34,8 +37,8 @@ all_whole reader taken given s = (
 
 -- no bytes behind a break mend it
 pub break_is_final : (bytes more : List ℕ) (place : ℕ) (requests : List (List (List ℕ))) →
-    BreaksAt bytes place → IsStream (bytes ++ more) requests → ⊥
-break_is_final bytes more place requests b stream =
+    (kind : ProtocolKind) → BreaksAt bytes place kind → IsStream (bytes ++ more) requests → ⊥
+break_is_final bytes more place requests kind b stream =
     b.broken (
       drop (place + 1) bytes ++ more,
       requests,
@@ -43,4 +46,42 @@ break_is_final bytes more place requests b stream =
           (t : List ℕ). IsStream t requests) (ap (λ (t : List ℕ). t ++ more) (sym (take-append-drop
           (place + 1) bytes)) ∙ append_assoc (take (place + 1) bytes) (drop
           (place + 1) bytes) more) stream,
+    )
+
+-- what begins a stream begins one at each place before
+begun_before : (bytes : List ℕ) (n m : ℕ) → n ≤ m → IsBegun (take m bytes) →
+    IsBegun (take n bytes)
+begun_before bytes n m order (more, requests, stream) = (
+  drop n (take m bytes) ++ more,
+  requests,
+  subst (λ (t : List ℕ). IsStream t requests) (ap (λ (t : List ℕ). t ++ more)
+      (sym (take-append-drop n (take m bytes))
+      ∙ ap (λ (t : List ℕ). t ++ drop n (take m bytes)) (take-take n m bytes order))
+      ∙ append_assoc (take n bytes) (drop n (take m bytes)) more) stream,
+)
+
+no_later : (bytes : List ℕ) (place other : ℕ) (kind second : ProtocolKind) →
+    BreaksAt bytes place kind → BreaksAt bytes other second → place < other → ⊥
+no_later bytes place other kind second b o later = b.broken (begun_before bytes (place + 1) other
+    (omega (arith, later)) o.begun)
+
+-- the bytes end in one part
+ends_in_one : (bytes : List ℕ) (kind second : ProtocolKind) → EndsIn bytes kind →
+    EndsIn bytes second → kind ≡ second
+ends_in_one bytes kind second a b =
+    let one = one_stream a.whole b.whole a.rest b.rest _ _ a.stream b.stream a.unfinished
+    b.unfinished (sym a.is ∙ b.is) in
+    one_part a.rest kind second a.part (subst (λ (t : List ℕ). IsPartBehind t second)
+    (sym one.2) b.part)
+
+-- bytes break at one place at most, and in one part
+pub one_break : (bytes : List ℕ) (place other : ℕ) (kind second : ProtocolKind) →
+    BreaksAt bytes place kind → BreaksAt bytes other second → (place ≡ other) × (kind ≡ second)
+one_break bytes place other kind second b o =
+    let not_before : place < other → ⊥ = no_later bytes place other kind second b o in
+    let not_behind : other < place → ⊥ = no_later bytes other place second kind o b in
+    let same : place ≡ other = omega (arith, not_before, not_behind) in (
+      same,
+      ends_in_one (take other bytes) kind second (subst (λ (n : ℕ). EndsIn (take n bytes) kind)
+          same b.part) o.part,
     )

@@ -1,18 +1,22 @@
 -- How several bytes change what may follow.
 use Rattle.std.proofs.Common.{◌≡◌, ℕ, ◌+◌, ◌-◌, ◌<◌, ◌≤◌, min, List, [], ◌∷◌, ◌++◌, length, take, drop, get_or, refl, sym, ap, subst, ◌∙◌, arith, length-append}
-use Rattle.std.proofs.lemmas.List.{append_assoc, drop_at, drop-append-le, length-drop, length-take-le, take_more, take_all, nil_from_length}
+use Rattle.std.proofs.lemmas.List.{append_assoc, append-nil, drop_at, drop-append-le, length-drop, length-take-le, take_more, take_all, nil_from_length}
 use Rattle.std.proofs.Math.Seq.{take-add}
-use Rattle.resp_text.specs.Residual.{FinishesBody, Finishes, IsSound, IsAtByte, StepMeans, Leads, PassesOver}
+use Rattle.resp_text.specs.Residual.{FinishesBody, Finishes, IsSound, IsAtByte, StepMeans, StepReads, Leads, HasRead, ReadsOn, PassesOver}
 use Rattle.resp_text.specs.declared.scan.Scan.{Scan}
 use Rattle.resp_text.specs.declared.scan.Run.{Run}
 use Rattle.resp_text.specs.declared.scan.Part.{Part}
 use Rattle.resp_text.specs.declared.scan.Part.TheVariants.{Body}
 use Rattle.resp_text.specs.declared.scan.Step.TheVariants.{Go, Whole, Break}
 use Rattle.resp_text.specs.declared.fault.ProtocolKind.{ProtocolKind}
+use Rattle.resp_text.proofs.Histories.{body_longer}
 
 -- no bytes lead nowhere else
 pub Leads-nil : (scan : Scan) → Leads scan [] scan
 Leads-nil scan tail = (λ h. h, λ h. h)
+
+pub ReadsOn-nil : (scan : Scan) → ReadsOn scan [] scan
+ReadsOn-nil scan front h = subst (HasRead scan) (sym (append-nil front)) h
 
 -- one list of bytes behind another
 pub Leads-append : (a b c : Scan) (x y : List ℕ) → Leads a x b → Leads b y c → Leads a (x ++ y) c
@@ -20,6 +24,11 @@ Leads-append a b c x y first second tail = (
   λ h. (second tail).0 ((first (y ++ tail)).0 (subst (Finishes a) (append_assoc x y tail) h)),
   λ h. subst (Finishes a) (sym (append_assoc x y tail)) ((first (y ++ tail)).1 ((second tail).1 h)),
 )
+
+pub ReadsOn-append : (a b c : Scan) (x y : List ℕ) → ReadsOn a x b → ReadsOn b y c →
+    ReadsOn a (x ++ y) c
+ReadsOn-append a b c x y first second front h = subst (HasRead c) (append_assoc front x y)
+    (second (front ++ x) (first front h))
 
 -- some bytes of a word
 pub body_leads : (left words room : ℕ) (bytes : List ℕ) → length bytes ≤ left →
@@ -76,6 +85,16 @@ passes_over scan left available taken is least = record {
       (subst (λ (n : ℕ). Leads (record { part = Body left; words = scan.words; room = scan.room })
       bytes (record { part = Body (left - n); words = scan.words; room = scan.room })) len
       (body_leads left scan.words scan.room bytes (omega (arith, len, least))));
+  reads = λ bytes len. subst (λ (part : Part). ReadsOn
+      (record { part = part; words = scan.words; room = scan.room }) bytes (record {
+        part = Body
+            (left - taken);
+        words = scan.words;
+        room = scan.room;
+      })) (sym is)
+      (subst (λ (n : ℕ). ReadsOn (record { part = Body left; words = scan.words; room = scan.room })
+      bytes (record { part = Body (left - n); words = scan.words; room = scan.room })) len
+      (λ front h. body_longer front bytes left scan.words (omega (arith, len, least)) h));
   due = λ more. omega (arith, least, more);
 }
 
@@ -87,6 +106,8 @@ passes_none scan available sound due = record {
   sound = sound;
   leads = λ bytes none. subst (λ (bs : List ℕ). Leads scan bs scan) (sym
       (nil_from_length bytes none)) (Leads-nil scan);
+  reads = λ bytes none. subst (λ (bs : List ℕ). ReadsOn scan bs scan) (sym
+      (nil_from_length bytes none)) (ReadsOn-nil scan);
   due = λ _. due;
 }
 
@@ -101,6 +122,16 @@ leads_over first scan run available at bytes fits leads over =
     (Leads-append first scan run.scan _ _ leads (over.leads (take run.taken
     (drop at bytes)) passed))
 
+pub reads_over : (first scan : Scan) (run : Run) (available at : ℕ) (bytes : List ℕ) →
+    at + run.taken ≤ length bytes → ReadsOn first (take at bytes) scan →
+    PassesOver scan available run → ReadsOn first (take (at + run.taken) bytes) run.scan
+reads_over first scan run available at bytes fits reads over =
+    let passed : length (take run.taken (drop at bytes)) ≡ run.taken = length-take-le run.taken
+    (drop at bytes) (omega (arith, length-drop at bytes, fits)) in
+    subst (λ (bs : List ℕ). ReadsOn first bs run.scan) (sym (take-add at run.taken bytes))
+    (ReadsOn-append first scan run.scan _ _ reads (over.reads (take run.taken
+    (drop at bytes)) passed))
+
 -- one byte behind a front
 pub leads_step : (first scan next : Scan) (at : ℕ) (bytes : List ℕ) → at < length bytes →
     Leads first (take at bytes) scan → StepMeans scan (get_or bytes at 0) (Go next) →
@@ -108,6 +139,13 @@ pub leads_step : (first scan next : Scan) (at : ℕ) (bytes : List ℕ) → at <
 leads_step first scan next at bytes fits leads step =
     subst (λ (bs : List ℕ). Leads first bs next) (sym (take_more bytes at 0 fits))
     (Leads-append first scan next (take at bytes) (get_or bytes at 0 ∷ []) leads step.1)
+
+pub reads_step : (first scan next : Scan) (at : ℕ) (bytes : List ℕ) → at < length bytes →
+    ReadsOn first (take at bytes) scan → StepReads scan (get_or bytes at 0) (Go next) →
+    ReadsOn first (take (at + 1) bytes) next
+reads_step first scan next at bytes fits reads step =
+    subst (λ (bs : List ℕ). ReadsOn first bs next) (sym (take_more bytes at 0 fits))
+    (ReadsOn-append first scan next (take at bytes) (get_or bytes at 0 ∷ []) reads step)
 
 -- a byte that ends the item
 pub ends_step : (first scan : Scan) (at : ℕ) (bytes : List ℕ) → at < length bytes →
@@ -132,3 +170,8 @@ pub leads_all : (first scan : Scan) (at : ℕ) (bytes : List ℕ) → length byt
     Leads first (take at bytes) scan → Leads first bytes scan
 leads_all first scan at bytes all leads = subst (λ (bs : List ℕ). Leads first bs scan)
     (take_all at bytes all) leads
+
+pub reads_all : (first scan : Scan) (at : ℕ) (bytes : List ℕ) → length bytes ≤ at →
+    ReadsOn first (take at bytes) scan → ReadsOn first bytes scan
+reads_all first scan at bytes all reads = subst (λ (bs : List ℕ). ReadsOn first bs scan)
+    (take_all at bytes all) reads

@@ -14,11 +14,11 @@ use Rattle.resp_text.specs.declared.fault.ProtocolKind.TheVariants as kind
 use Rattle.resp_text.proofs.Residuals.{GoesOn-le, head_is, tail_is, whole_begins, star_follows, star_followed, words_begin, sign_follows, sign_followed}
 
 -- a reader at a part
-abbrev at : Part → ℕ → ℕ → Scan
+abbrev pub at : Part → ℕ → ℕ → Scan
 at part words room = record { part = part; words = words; room = room }
 
 -- both sides of a choice
-on_test : (t : Bool) (P : Step → Type 0) (x y : Step) → (t ≡ true → P x) → (t ≡ false → P y) →
+pub on_test : (t : Bool) (P : Step → Type 0) (x y : Step) → (t ≡ true → P x) → (t ≡ false → P y) →
     P (cond t x y)
 on_test true P x y holds fails = holds refl
 on_test false P x y holds fails = fails refl
@@ -33,7 +33,7 @@ on_due scan byte due next what holds fails =
     (λ t tail h. eqb-false byte due t (fails tail h))
 
 -- the byte is a digit, and the number with it is within the limit
-abbrev GivesDigit : ℕ → ℕ → ℕ → Type 0
+abbrev pub GivesDigit : ℕ → ℕ → ℕ → Type 0
 GivesDigit high byte most = (48 ≤ byte) × (byte ≤ 57) × (high * 10 + (byte - 48) ≤ most)
 
 on_three : (a b c : Bool) (P : Option ℕ → Type 0) (n : ℕ) → (a ≡ true → b ≡ true → c ≡ true →
@@ -52,7 +52,7 @@ le-leb a b h = elim (leb a b) as (λ t. leb a b ≡ t →
           (arith, h, leb-false a b e)))
     ] refl
 
-on_digit : (high byte most : ℕ) (P : Option ℕ → Type 0) → (GivesDigit high byte most →
+pub on_digit : (high byte most : ℕ) (P : Option ℕ → Type 0) → (GivesDigit high byte most →
     P (Some (high * 10 + (byte - 48)))) → ((GivesDigit high byte most → ⊥) → P None) →
     P (digit_behind high byte most)
 on_digit high byte most P holds fails =

@@ -1,7 +1,9 @@
 -- What a reader of requests has, and what it says of the bytes that it was fed.
 use Rattle.std.specs.Prelude.{◌≡◌, ℕ, ◌+◌, ◌<◌, List, [], ◌++◌, length, take, Option, Some, None, Result, Ok, Err}
 use Rattle.resp_text.specs.Grammar.{IsStream, IsBegun, IsUnfinished}
+use Rattle.resp_text.specs.Breaks.{EndsIn}
 use Rattle.resp_text.specs.declared.fault.FeedFault.{FeedFault}
+use Rattle.resp_text.specs.declared.fault.ProtocolKind.{ProtocolKind}
 use Rattle.resp_text.specs.declared.fault.FeedFault.TheVariants.{Protocol, NoMemory}
 
 -- the requests that are whole and were not given yet, the bytes behind the last whole item, how
@@ -26,11 +28,13 @@ pub record StandsFor (reader : Reading) (taken : List ℕ)
   pub before : reader.before ≡ length whole
   pub unfinished : IsUnfinished reader.rest
 
--- the bytes before the place begin a stream, and with the byte at the place they begin none
-pub record BreaksAt (bytes : List ℕ) (place : ℕ) : Type 0 where
+-- the bytes before the place begin a stream, with the byte at the place they begin none, and it
+-- stands in this part of an item
+pub record BreaksAt (bytes : List ℕ) (place : ℕ) (kind : ProtocolKind) : Type 0 where
   pub within : place < length bytes
   pub begun : IsBegun (take place bytes)
   pub broken : IsBegun (take (place + 1) bytes) → ⊥
+  pub part : EndsIn (take place bytes) kind
 
 -- what a feed of a piece leaves of a reader that stood for these bytes: at `Ok` it stands for the
 -- piece too, at a break for the bytes before it, and without memory nothing has changed
@@ -38,5 +42,5 @@ abbrev pub FeedsOn : Reading → Reading → List ℕ → List (List (List ℕ))
     Result (Unit {0}) FeedFault → Type 0
 FeedsOn old new fed given (Ok x) = StandsFor new fed given × (new.fault ≡ None)
 FeedsOn old new fed given (Err NoMemory) = new ≡ old
-FeedsOn old new fed given (Err (Protocol place kind)) = BreaksAt fed place
+FeedsOn old new fed given (Err (Protocol place kind)) = BreaksAt fed place kind
     × StandsFor new (take place fed) given × (new.fault ≡ Some (Protocol place kind))

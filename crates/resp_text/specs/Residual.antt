@@ -1,6 +1,8 @@
--- How a reader stands in an item: what may still follow, and how one byte moves it on.
+-- How a reader stands in an item: what was read of it, what may still follow, and how one byte
+-- moves it on.
 use Rattle.std.specs.Prelude.{◌≡◌, ℕ, ◌+◌, ◌-◌, ◌*◌, ◌<◌, ◌≤◌, ◌↔◌, List, [], ◌∷◌, ◌++◌, length, take, min, Option, Some, None, if◌then◌else◌, ◌&&◌, nat_le, ◌==◌}
-use Rattle.resp_text.specs.Grammar.{line_end, GoesOn, AreWords, total_bytes, IsWhole}
+use Rattle.resp_text.specs.Grammar.{line_end, GoesOn, IsNumber, IsLine, AreWords, total_bytes, IsWhole}
+use Rattle.resp_text.specs.Breaks.{HasNoLineFeed, HasWords, IsPartBehind}
 use Rattle.resp_text.specs.declared.scan.Scan.{Scan}
 use Rattle.resp_text.specs.declared.scan.Part.{Part}
 use Rattle.resp_text.specs.declared.scan.Part.TheVariants.{Start, Star, Zero, Minus, MinusOne, SkipEnd, Count, CountEnd, Dollar, Sign, Length, LengthEnd, Body, Ending}
@@ -56,6 +58,37 @@ FinishesPart Ending words room tail = (rest : List ℕ) × (tail ≡ 10 ∷ rest
 -- the bytes that finish the item in which a reader stands
 abbrev pub Finishes : Scan → List ℕ → Type 0
 Finishes scan tail = FinishesPart scan.part scan.words scan.room tail
+
+-- the bytes of an item before this part of it
+abbrev pub HasReadPart : Part → ℕ → List ℕ → Type 0
+HasReadPart Start words bytes = bytes ≡ []
+HasReadPart Star words bytes = bytes ≡ 42 ∷ []
+HasReadPart (Count n) words bytes = (digits : List ℕ) × IsNumber digits n × (bytes ≡ 42 ∷ digits)
+HasReadPart (CountEnd n) words bytes = (digits : List ℕ) × IsNumber digits n
+    × (bytes ≡ 42 ∷ (digits ++ 13 ∷ []))
+HasReadPart Dollar words bytes = HasWords bytes words []
+HasReadPart Sign words bytes = HasWords bytes words (36 ∷ [])
+HasReadPart (Length n) words bytes = (digits : List ℕ) × IsNumber digits n
+    × HasWords bytes words (36 ∷ digits)
+HasReadPart (LengthEnd n) words bytes = (digits : List ℕ) × IsNumber digits n
+    × HasWords bytes words (36 ∷ (digits ++ 13 ∷ []))
+HasReadPart (Body left) words bytes = (line word : List ℕ) × IsLine 36 line (length word + left)
+    × (length word + left ≤ 1048576) × HasWords bytes (words + 1) (line ++ word)
+HasReadPart Ending words bytes = (line word : List ℕ) × IsLine 36 line (length word)
+    × (length word ≤ 1048576) × HasWords bytes (words + 1) (line ++ (word ++ 13 ∷ []))
+HasReadPart _ words bytes = (more : List ℕ) × (bytes ≡ 42 ∷ more) × HasNoLineFeed more
+
+-- the bytes of the item in which a reader stands, up to there
+abbrev pub HasRead : Scan → List ℕ → Type 0
+HasRead scan bytes = HasReadPart scan.part scan.words bytes
+
+-- these bytes behind what was read up to one place are what is read up to the other
+abbrev pub ReadsOn : Scan → List ℕ → Scan → Type 0
+ReadsOn scan bytes next = (front : List ℕ) → HasRead scan front → HasRead next (front ++ bytes)
+
+-- a byte behind what was read stands in this part of the item
+abbrev pub Tells : Scan → ProtocolKind → Type 0
+Tells scan kind = (front : List ℕ) → HasRead scan front → IsPartBehind front kind
 
 -- numbers that are still within the limits
 abbrev pub IsSoundPart : Part → ℕ → ℕ → Type 0
@@ -124,6 +157,12 @@ StepMeans scan byte (Go next) = IsSound next
 StepMeans scan byte Whole = (tail : List ℕ) → Finishes scan (byte ∷ tail) ↔ (tail ≡ [])
 StepMeans scan byte (Break kind) = (tail : List ℕ) → Finishes scan (byte ∷ tail) → ⊥
 
+-- what a step says of the bytes that were read
+abbrev pub StepReads : Scan → ℕ → Step → Type 0
+StepReads scan byte (Go next) = ReadsOn scan (byte ∷ []) next
+StepReads scan byte Whole = Unit {0}
+StepReads scan byte (Break kind) = Tells scan kind
+
 -- only the line end of a word is due
 abbrev pub IsAtByte : Part → Type 0
 IsAtByte (Body left) = left ≡ 0
@@ -138,13 +177,16 @@ pub record PassesOver (scan : Scan) (available : ℕ) (run : Run) : Type 0 where
   pub within : run.taken ≤ available
   pub sound : IsSound run.scan
   pub leads : (bytes : List ℕ) → length bytes ≡ run.taken → Leads scan bytes run.scan
+  pub reads : (bytes : List ℕ) → length bytes ≡ run.taken → ReadsOn scan bytes run.scan
   pub due : run.taken < available → IsAtByte run.scan.part
 
 -- what a scan of these bytes says of the item
 abbrev pub OutcomeMeans : Scan → List ℕ → Outcome → Type 0
 OutcomeMeans scan bytes (Open next) = IsSound next × Leads scan bytes next
+    × ReadsOn scan bytes next
 OutcomeMeans scan bytes (End taken) = (0 < taken) × (taken ≤ length bytes)
     × Finishes scan (take taken bytes)
 OutcomeMeans scan bytes (Broken at next kind) = (at < length bytes) × IsSound next
     × Leads scan (take at bytes) next
     × ((tail : List ℕ) → Finishes scan (take (at + 1) bytes ++ tail) → ⊥)
+    × ReadsOn scan (take at bytes) next × Tells next kind

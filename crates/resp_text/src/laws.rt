@@ -2,6 +2,7 @@
 ghost use Rattle.std.specs.Prelude.{◌≡◌, ◌++◌, ℕ, List};
 ghost use Rattle.resp_text.specs.Grammar.{IsRequest, IsStream, IsUnfinished};
 ghost use Rattle.resp_text.specs.Reading.{BreaksAt};
+ghost use Rattle.resp_text.specs.declared.fault.ProtocolKind.{ProtocolKind};
 
 /// Each request has one spelling.
 pub fn one_spelling()
@@ -19,6 +20,14 @@ pub fn one_reading()
 
 /// No bytes behind a break make the bytes a stream.
 pub fn break_is_final()
-    ensures { (bytes more : List ℕ) (place : ℕ) (requests : List (List (List ℕ))) →
-        BreaksAt bytes place → IsStream (bytes ++ more) requests → ⊥ }
+    ensures { (bytes more : List ℕ) (place : ℕ) (requests : List (List (List ℕ)))
+        (kind : ProtocolKind) → BreaksAt bytes place kind →
+        IsStream (bytes ++ more) requests → ⊥ }
+{}
+
+/// Bytes break at one place at most, and in one part of an item.
+pub fn one_break()
+    ensures { (bytes : List ℕ) (place other : ℕ) (kind second : ProtocolKind) →
+        BreaksAt bytes place kind → BreaksAt bytes other second →
+        (place ≡ other) × (kind ≡ second) }
 {}

@@ -1,6 +1,6 @@
 //! Where a reader stands in an item, and how one byte moves it on.
 ghost use Rattle.std.specs.Prelude.{◌≡◌, ◌≤◌, ◌==◌, if◌then◌else◌, min};
-ghost use Rattle.resp_text.specs.Residual.{IsSound, IsAtByte, StepMeans, step_if, digit_behind, number_step, step_of, PassesOver, Leads, OutcomeMeans};
+ghost use Rattle.resp_text.specs.Residual.{IsSound, IsAtByte, StepMeans, StepReads, step_if, digit_behind, number_step, step_of, PassesOver, Leads, ReadsOn, OutcomeMeans};
 
 use crate::fault::ProtocolKind;
 
@@ -100,7 +100,8 @@ impl Scan {
     pub(crate) fn step(self, byte: u8) -> Step
         requires sound { IsSound self }
         requires at_byte { IsAtByte self.part }
-        ensures { StepMeans self byte result }
+        ensures means { StepMeans self byte result }
+        ensures reads { StepReads self byte result }
     {
         self.step_by(byte)
     }

@@ -4,6 +4,7 @@ use Rattle.std.specs.List.{AllByRecursion}
 use Rattle.std.proofs.lemmas.List.{append-nil, take-append-drop}
 use Rattle.resp_text.specs.Grammar.{IsRequest, IsStream, AreItems, AreWords, requests_of}
 use Rattle.resp_text.specs.Reading.{Reading, StandsFor, BreaksAt}
+use Rattle.resp_text.specs.declared.fault.ProtocolKind.{ProtocolKind}
 use Rattle.server_top.specs.ReplayPromise.{IsNoStream}
 use Rattle.server_top.specs.ReplayRun.{IsServable}
 
@@ -41,8 +42,8 @@ pub few_requests : (text : List ℕ) (requests : List (List (List ℕ))) → IsS
 few_requests text requests stream = omega (arith, few_items text stream.0 stream.1, ap length stream.2)
 
 -- a text that breaks is no stream
-pub broken_text : (text : List ℕ) (place : ℕ) → BreaksAt text place → IsNoStream text
-broken_text text place breaks requests stream =
+pub broken_text : (text : List ℕ) (place : ℕ) (kind : ProtocolKind) → BreaksAt text place kind → IsNoStream text
+broken_text text place kind breaks requests stream =
     breaks.broken (drop (place + 1) text, requests, subst (λ whole. IsStream whole requests) (sym (take-append-drop (place + 1) text)) stream)
 
 no_bytes : (rest : List ℕ) → length rest ≡ 0 → rest ≡ []

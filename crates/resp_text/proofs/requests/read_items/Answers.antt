@@ -1,4 +1,4 @@
-use Rattle.std.proofs.Common.{◌≤◌, ◌+◌, length, take, ap, ◌∙◌, arith}
+use Rattle.std.proofs.Common.{◌≤◌, ◌+◌, [], length, take, refl, ap, ◌∙◌, arith}
 use Rattle.resp_text.proofs.PieceLaws.{came_more, reads_open, reads_broken}
 use Rattle.std.proofs.lemmas.List.{length-drop}
 use Rattle.resp_text.proofs.requests.read_items.Goals as goal
@@ -25,12 +25,18 @@ pub returns-in-Open-clause-read : goal.returns-in-Open-clause-read
 returns-in-Open-clause-read c =
     reads_open _ _ c.args.bytes.now c.split_at.result.1.now c.in-Open.scan c.items.whole
     c.items.invariant.within c.split_at.ensures.back c.items.invariant.read
-    (record { sound = c.in-Open.ensures.0; leads = c.in-Open.ensures.1 })
+    (record {
+      sound = c.in-Open.ensures.0;
+      leads = c.in-Open.ensures.1;
+      read = c.in-Open.ensures.2 [] refl;
+    })
 
 pub returns-in-Broken-clause-read : goal.returns-in-Broken-clause-read
 returns-in-Broken-clause-read c =
+    let read = c.in-Broken.ensures.4 [] refl in
     reads_broken _ _ c.args.bytes.now c.split_at.result.1.now c.in-Broken.scan c.in-Broken.kind
     c.items.whole c.in-Broken.at c.items.invariant.within c.split_at.ensures.back
     c.items.invariant.read
-    c.in-Broken.ensures.0 (record { sound = c.in-Broken.ensures.1; leads = c.in-Broken.ensures.2 })
-    c.in-Broken.ensures.3
+    c.in-Broken.ensures.0
+    (record { sound = c.in-Broken.ensures.1; leads = c.in-Broken.ensures.2; read = read })
+    c.in-Broken.ensures.3 (c.in-Broken.ensures.5 _ read)

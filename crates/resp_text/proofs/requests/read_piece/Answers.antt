@@ -1,9 +1,18 @@
 use Rattle.std.proofs.Common.{◌≡◌, ◌+◌, ℕ, List, ◌++◌, length, take, drop, subst, sym, ap, ◌∙◌, arith}
 use Rattle.std.proofs.Math.Seq.{take-append-add}
+use Rattle.resp_text.specs.Breaks.{IsPartBehind}
 use Rattle.resp_text.specs.Pieces.{StandsBehind, Reads, EndsItem}
 use Rattle.resp_text.specs.declared.scan.Outcome.{Outcome}
-use Rattle.resp_text.proofs.PieceLaws.{ItemCame, reads_broken_first, reads_behind_item, rest_after}
+use Rattle.resp_text.proofs.PieceLaws.{ItemCame, reads_open_first, reads_broken_first, reads_behind_item, rest_after}
 use Rattle.resp_text.proofs.requests.read_piece.Goals as goal
+
+pub returns-in-Open-clause-read : goal.returns-in-Open-clause-read
+returns-in-Open-clause-read c =
+    let e = subst (λ (o : Outcome). EndsItem c.args.waiting.now.items c.end_item.new.waiting.items
+    c.args.rest.now.items c.end_item.new.rest.items c.args.piece.now o) c.in-Open.is
+    c.in_ok-scan.ensures.ended in
+    reads_open_first _ _ c.args.rest.now.items c.args.piece.now c.in-Open.scan _ e.0 (omega
+    (arith, c.len-had.ensures, c.args.rest.now.ok.0)) (subst (StandsBehind c.in-Open.scan) e.1 e.2)
 
 pub returns-in-Broken-clause-read : goal.returns-in-Broken-clause-read
 returns-in-Broken-clause-read c =
@@ -13,6 +22,7 @@ returns-in-Broken-clause-read c =
     reads_broken_first _ _ c.args.rest.now.items c.args.piece.now c.in-Broken.scan c.in-Broken.kind
     c.in-Broken.at _ e.0 (omega (arith, c.len-had.ensures, c.args.rest.now.ok.0)) e.1 (subst
     (StandsBehind c.in-Broken.scan) e.2 e.3) e.4
+    (subst (λ (t : List ℕ). IsPartBehind t c.in-Broken.kind) e.2 e.5)
 
 pub returns-in-Broken-clause-kept : goal.returns-in-Broken-clause-kept
 returns-in-Broken-clause-kept c =

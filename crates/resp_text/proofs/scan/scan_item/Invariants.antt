@@ -1,5 +1,5 @@
 use Rattle.std.proofs.Common.{◌-◌, ◌≤◌, length, take}
-use Rattle.resp_text.specs.Residual.{IsSound, Leads}
+use Rattle.resp_text.specs.Residual.{IsSound, Leads, ReadsOn}
 use Rattle.resp_text.proofs.scan.scan_item.Given as goal
 
 abbrev pub decreases-loop-at : goal.decreases-loop-at
@@ -10,4 +10,5 @@ invariant-loop-at l = record {
   within : l.at ≤ length l.bytes;
   sound : IsSound l.scan;
   leads : Leads l.fn.scan (take l.at l.bytes) l.scan;
+  reads : ReadsOn l.fn.scan (take l.at l.bytes) l.scan;
 }

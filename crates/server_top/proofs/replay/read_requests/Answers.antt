@@ -8,7 +8,7 @@ use Rattle.server_top.proofs.replay.read_requests.Goals as goal
 pub returns-in-Err-Protocol-clause-broken : goal.returns-in-Err-Protocol-clause-broken
 returns-in-Err-Protocol-clause-broken c =
     let fed = c.in-Err-Protocol.ensures.fed [] [] (ap (λ reader. reader.fault) c.new-requests.ensures.nothing) c.new-requests.ensures.stands in
-    λ _. subst IsNoStream c.as_slice.ensures (broken_text c.as_slice.result.now c.in-Err-Protocol.field-0-0 (rw c.in-Err-Protocol.field-0-is at fed).0)
+    λ _. subst IsNoStream c.as_slice.ensures (broken_text c.as_slice.result.now c.in-Err-Protocol.field-0-0 _ (rw c.in-Err-Protocol.field-0-is at fed).0)
 
 pub returns-then-rest-eq0-clause-stream : goal.returns-then-rest-eq0-clause-stream
 returns-then-rest-eq0-clause-stream c =
