@@ -1,3 +1,5 @@
 pub mod Worked
 pub mod Shares
 pub mod NeverRefused
+pub mod CellLog
+pub mod PoolLog
