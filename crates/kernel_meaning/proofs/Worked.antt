@@ -1,5 +1,6 @@
 -- Small cases of the definitions, worked out.
-use Rattle.std.proofs.Common.{◌≡◌, ℕ, List, [], ◌∷◌, ◌++◌, map, replicate, take, inr, lit<, refl}
+use Rattle.std.proofs.Common.{◌≡◌, ℕ, List, [], ◌∷◌, ◌++◌, map, replicate, take, inl, inr, lit<, refl, sym, arith}
+use mathlib.Core.Bool.{true≢false}
 use Rattle.std.specs.Prelude.{Some, None, true, false}
 use Rattle.vm_base.specs.declared.fork_mode.Mode.{Mode}
 use Rattle.vm_base.specs.declared.fork_mode.Mode.TheVariants.{Eager, OnDemand, Async}
@@ -7,14 +8,14 @@ use Rattle.vm_base.specs.declared.frame_request.Want.TheVariants as want
 use Rattle.vm_base.specs.declared.frame_request.Asker.TheVariants.{Parent}
 use Rattle.vm_base.specs.Deals.{Granted, Denied, Returned}
 use Rattle.vm_base.specs.TwoSides.{Loss}
-use Rattle.kernel_meaning.specs.Requests.{Answer, Yes, No, opening_requests}
+use Rattle.kernel_meaning.specs.Requests.{Answer, Yes, No, opening_requests, answers_of}
 use Rattle.kernel_meaning.specs.Leaves.{Leaf, Own, Lost, CellLeaves, unused_cell, version_at, share}
 use Rattle.kernel_meaning.specs.CellActs.{Course, opening_course, touched, cleared, protected, forked, copied, dropped, unmarked, Copied, NothingToCopy, FoundLost, CopyRefused, copy_end}
 use Rattle.kernel_meaning.specs.FrameLaw.{Leaves, held_frames, losses_of, lacks_slots}
 use Rattle.kernel_meaning.specs.EventRequests.{Progress, opening_progress, pages_touched, snapshot_forked, snapshot_copied, snapshot_dropped, pages_unmapped, pages_protected}
 use Rattle.kernel_meaning.specs.RefusedRequests.{answers_from, refused_numbers, requests_of, out_after, is_forced}
-use Rattle.kernel_meaning.specs.CellAccount.{CellAct, CellEntry, Touch, Fork, Copy, Drop, account_of, account_share, AreEntries}
-use Rattle.kernel_meaning.specs.PoolAccount.{PoolAct, PoolEntry, Take, Give, Allow, Parted, Reaped, Lent, NoneFree, pool_account_of, frames_out, load, ArePoolEntries}
+use Rattle.kernel_meaning.specs.CellAccount.{CellAct, CellEntry, Touch, Store, Fork, Copy, Unmark, Drop, account_of, account_share, entry_course, seat_of, AllowsAct, MayStandBehind, AreEntries}
+use Rattle.kernel_meaning.specs.PoolAccount.{PoolAct, PoolEntry, Take, Give, Allow, Parted, Reaped, Lent, NoneFree, DeniedBy, pool_account_of, frames_out, load, ArePoolEntries}
 
 -- ---- one cell, act after act
 
@@ -185,9 +186,45 @@ log = entry (Touch 0) 0 (Yes ∷ Yes ∷ []) ∷ entry (Fork 1 Async 3) 0 [] ∷
 the_account_of_a_cell : (account_share (account_of log) ≡ 2) × ((account_of log).made ≡ 4) × (account_share (account_of (take 4 log)) ≡ 4)
 the_account_of_a_cell = (refl, refl, refl)
 
--- each of these entries may stand where it stands
-the_log_is_one : AreEntries log
-the_log_is_one = (record { seat = refl; answers = refl }, (record { seat = refl; answers = refl }, (record { seat = refl; answers = refl }, (record { seat = refl; answers = refl }, (record { seat = refl; answers = refl }, tt)))))
+-- an entry whose act the cell allows however it is
+abbrev plainly : {before : List CellEntry} {it : CellEntry} → seat_of before it.act ≡ Some it.seat → AllowsAct (account_of before).state.leaves it.act → answers_of (entry_course (account_of before) it).requests.deals ≡ it.answers → MayStandBehind before it
+plainly seat allowed answers = record { seat = seat; allowed = allowed; answers = answers }
+
+-- each of these entries may stand where it stands, and the number may be forked again behind its drop
+the_log_is_one : AreEntries (log ++ entry (Fork 1 Eager 5) 0 (Yes ∷ []) ∷ [])
+the_log_is_one = (plainly refl tt refl, (plainly refl refl refl, (plainly refl refl refl, (plainly refl tt refl, (plainly refl refl refl, (plainly refl refl refl, tt))))))
+
+-- behind a page and an async fork of number 1 for seat 3
+abbrev forked_once : List CellEntry
+forked_once = take 2 log
+
+-- a number that is kept is not forked again
+a_second_fork : MayStandBehind forked_once (entry (Fork 1 Async 3) 0 []) → ⊥
+a_second_fork may = true≢false may.allowed
+
+-- another number may be
+a_fork_of_another_number : MayStandBehind forked_once (entry (Fork 2 Async 4) 0 [])
+a_fork_of_another_number = plainly refl refl refl
+
+-- what was dropped is not dropped again, nor copied
+a_second_drop : (MayStandBehind log (entry (Drop 1) 3 []) → ⊥) × (MayStandBehind log (entry (Copy 1) 3 []) → ⊥)
+a_second_drop = (λ may. true≢false (sym may.allowed), λ may. true≢false (sym may.allowed))
+
+-- a mark goes where the leaf is joined, and not where it was copied
+a_mark_goes : (MayStandBehind forked_once (entry (Unmark 1) 3 [])) × (MayStandBehind (take 3 log) (entry (Unmark 1) 3 []) → ⊥)
+a_mark_goes = (plainly refl refl refl, λ may. true≢false (sym may.allowed))
+
+abbrev stored : CellEntry
+stored = entry (Store 0 7 (1 ∷ [])) 0 []
+
+-- bytes are stored to a page that is there and the parent's alone: not to one that is absent, not behind a fork, and again behind the touch that copies it
+a_store : (MayStandBehind [] stored → ⊥) × (MayStandBehind (take 1 log) stored) × (MayStandBehind forked_once stored → ⊥) × (MayStandBehind (take 4 log) stored)
+a_store = (
+  λ may. true≢false (sym may.allowed.present),
+  plainly refl (record { present = refl; unnamed = λ version is named. named }) refl,
+  λ may. may.allowed.unnamed 2 refl (inl (refl, refl)),
+  plainly refl (record { present = refl; unnamed = λ version is named. elim named as (λ _. ⊥) [ inl old ↦ absurd (grind (arith, is, old.1)) | inr none ↦ none ] }) refl,
+)
 
 abbrev dealt : PoolAct → ℕ → PoolEntry
 dealt act seat = record { act = act; seat = seat }
@@ -203,6 +240,88 @@ out_and_load n = (frames_out (pool_account_of (take n pool_log)), load (pool_acc
 the_load_of_a_pool : (out_and_load 8 ≡ (8, 8)) × (out_and_load 9 ≡ (8, 9)) × (out_and_load 10 ≡ (9, 9)) × (out_and_load 15 ≡ (5, 9)) × (out_and_load 17 ≡ (5, 5))
 the_load_of_a_pool = (refl, refl, refl, refl, refl)
 
--- a snapshot takes within its allowance and parts, and is reaped then
-the_pool_log_is_one : ArePoolEntries (dealt (Allow 1 2 1) 0 ∷ dealt (Take want.Leaf Lent) 2 ∷ dealt Give 2 ∷ dealt (Parted 1) 2 ∷ dealt (Reaped 1) 0 ∷ [])
-the_pool_log_is_one = ((refl, lit< tt, refl), (inr ((refl, lit< tt), refl), (inr ((refl, tt), refl), (((refl, refl), refl), ((refl, refl, refl), tt)))))
+-- of nine frames all are out as none is free; a snapshot takes within its allowance and parts, and is reaped then
+the_pool_log_is_one : ArePoolEntries 9 pool_log
+the_pool_log_is_one = (
+  (lit< tt, inl refl),
+  (
+    (lit< tt, inl refl),
+    (
+      (lit< tt, inl refl),
+      (
+        (lit< tt, inl refl),
+        (
+          (lit< tt, inl refl),
+          (
+            (lit< tt, inl refl),
+            (
+              (lit< tt, inl refl),
+              (
+                (lit< tt, inl refl),
+                (
+                  (refl, lit< tt, refl, refl),
+                  (
+                    (lit< tt, inr ((refl, lit< tt), refl)),
+                    (
+                      (refl, inl refl),
+                      (
+                        (lit< tt, inr ((refl, tt), refl)),
+                        (
+                          (lit< tt, inr ((refl, tt), refl)),
+                          (
+                            (lit< tt, inr ((refl, tt), refl)),
+                            (
+                              (lit< tt, inr ((refl, tt), refl)),
+                              (
+                                ((refl, refl), refl),
+                                (
+                                  (refl, refl, refl),
+                                  tt,
+                                ),
+                              ),
+                            ),
+                          ),
+                        ),
+                      ),
+                    ),
+                  ),
+                ),
+              ),
+            ),
+          ),
+        ),
+      ),
+    ),
+  ),
+)
+
+-- nothing is given back while nothing is out
+a_give_with_nothing_out : ArePoolEntries 9 (dealt Give 0 ∷ []) → ⊥
+a_give_with_nothing_out are = absurd (omega (arith, are.0.0))
+
+-- no frame is lent that was not made
+a_frame_too_many : ArePoolEntries 1 (dealt (Take want.Page Lent) 0 ∷ dealt (Take want.Page Lent) 0 ∷ []) → ⊥
+a_frame_too_many are = absurd (omega (arith, are.1.0.0))
+
+-- while a frame is free the pool does not tell that none is, and once none is it asks no policy
+answers_at_the_wrong_time : (ArePoolEntries 1 (dealt (Take want.Page NoneFree) 0 ∷ []) → ⊥) × (ArePoolEntries 0 (dealt (Take want.Page (DeniedBy 0)) 0 ∷ []) → ⊥)
+answers_at_the_wrong_time = (λ are. absurd (omega (arith, are.0.0)), λ are. absurd (omega (arith, are.0.0)))
+
+-- a policy denies while a frame is free
+a_denial : ArePoolEntries 1 (dealt (Take want.Page (DeniedBy 0)) 0 ∷ [])
+a_denial = ((lit< tt, inl refl), tt)
+
+-- a number is in one stretch at a time, and so is a seat
+two_stretches : (ArePoolEntries 9 (dealt (Allow 1 2 1) 0 ∷ dealt (Allow 1 3 1) 0 ∷ []) → ⊥) × (ArePoolEntries 9 (dealt (Allow 1 2 1) 0 ∷ dealt (Allow 2 2 1) 0 ∷ []) → ⊥)
+two_stretches = (λ are. true≢false are.1.0.3, λ are. true≢false are.1.0.2)
+
+-- behind its reaping a number may be allowed anew, by the same seat
+a_stretch_anew : ArePoolEntries 9 (dealt (Allow 1 2 1) 0 ∷ dealt (Parted 1) 2 ∷ dealt (Reaped 1) 0 ∷ dealt (Allow 1 2 1) 0 ∷ [])
+a_stretch_anew = ((refl, lit< tt, refl, refl), (((refl, refl), refl), ((refl, refl, refl), ((refl, lit< tt, refl, refl), tt))))
+
+-- no snapshot takes above its amount, behind its parting or outside a stretch
+a_take_outside : (ArePoolEntries 9 (dealt (Allow 1 2 0) 0 ∷ dealt (Take want.Leaf Lent) 2 ∷ []) → ⊥) × (ArePoolEntries 9 (dealt (Take want.Leaf Lent) 2 ∷ []) → ⊥)
+a_take_outside = (
+  λ are. elim are.1.0.1 as (λ _. ⊥) [ inl parents ↦ absurd (omega (arith, parents)) | inr here ↦ absurd (omega (arith, here.0.1)) ],
+  λ are. elim are.0.1 as (λ _. ⊥) [ inl parents ↦ absurd (omega (arith, parents)) | inr here ↦ true≢false (sym here.1) ],
+)

@@ -1,5 +1,5 @@
 -- The account of a cell: what the entries that were told under its lock leave. It is two sides, leaves and versions, and the frame law, for one cell alone.
-use Rattle.std.specs.Prelude.{◌≡◌, ℕ, ◌+◌, ◌*◌, ◌==◌, if◌then◌else◌, List, [], ◌∷◌, ◌++◌, Option, Some, None}
+use Rattle.std.specs.Prelude.{◌≡◌, ℕ, ◌+◌, ◌*◌, ◌==◌, if◌then◌else◌, true, List, [], ◌∷◌, ◌++◌, Option, Some, None, IsSome, IsNone}
 use Rattle.std.specs.Ordering.{nat_cmp}
 use Rattle.std.specs.FinMap.{FinMap, empty, insert, remove, retain_keys}
 use Rattle.vm_base.specs.declared.fork_mode.Mode.{Mode}
@@ -7,7 +7,7 @@ use Rattle.vm_base.specs.declared.permission.Perm.{Perm}
 use Rattle.vm_base.specs.FlatMemory.{PageMap}
 use Rattle.vm_base.specs.FlatStep.{with_page, with_bytes, is_beyond}
 use Rattle.kernel_meaning.specs.Requests.{Answer, opening_requests, answers_of}
-use Rattle.kernel_meaning.specs.Leaves.{CellLeaves, unused_cell, share}
+use Rattle.kernel_meaning.specs.Leaves.{CellLeaves, unused_cell, share, kept_by, has_joined, IsAlone}
 use Rattle.kernel_meaning.specs.CellActs.{Course, opening_course, touched, cleared, protected, forked, copied, unmarked, dropped}
 
 -- one act at a cell. Pages are counted from the first of the cell
@@ -151,9 +151,21 @@ seat_of before (Copy n) = fork_seat_behind None before n
 seat_of before (Unmark n) = fork_seat_behind None before n
 seat_of before (Drop n) = fork_seat_behind None before n
 
--- an entry may stand behind these: its seat may make it, and it has an answer for each request that it made, and no other
+-- the leaves of a cell allow an act: a store to a page that is the parent's alone, a fork of a number that the cell does not keep, copy and drop of one that it keeps, and that a mark goes where the leaf is joined
+abbrev pub AllowsAct : CellLeaves → CellAct → Type 0
+AllowsAct cell (Touch page) = Unit {0}
+AllowsAct cell (Store page at bytes) = IsAlone cell page
+AllowsAct cell (Clear first n) = Unit {0}
+AllowsAct cell (Protect first n perm) = Unit {0}
+AllowsAct cell (Fork n mode seat) = IsNone (kept_by cell.kept n)
+AllowsAct cell (Copy n) = IsSome (kept_by cell.kept n)
+AllowsAct cell (Unmark n) = has_joined (kept_by cell.kept n) ≡ true
+AllowsAct cell (Drop n) = IsSome (kept_by cell.kept n)
+
+-- an entry may stand behind these: its seat may make it, the leaves that they left allow it, and it has an answer for each request that it made, and no other
 pub record MayStandBehind (before : List CellEntry) (entry : CellEntry) : Type 0 where
   pub seat : seat_of before entry.act ≡ Some entry.seat
+  pub allowed : AllowsAct (account_of before).state.leaves entry.act
   pub answers : answers_of (entry_course (account_of before) entry).requests.deals ≡ entry.answers
 
 -- each of the entries may stand behind those before it

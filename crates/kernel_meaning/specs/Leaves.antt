@@ -1,6 +1,6 @@
 -- Leaves and versions at one cell: which page is whose, and what each snapshot has there. Pages are counted from the first of the cell.
-use Rattle.std.specs.Prelude.{ℕ, ◌+◌, ◌==◌, Bool, true, false, not, ◌&&◌, if◌then◌else◌, List, [], ◌∷◌, ◌++◌, map, length, take, drop, replicate, filter, count_by, flat_map, slice_index_or, slice_set, nat_lt, Option, Some, None, is_some}
-use Rattle.std.specs.List.{list_any}
+use Rattle.std.specs.Prelude.{◌≡◌, ℕ, ◌+◌, ◌<◌, ◌⊎◌, ◌==◌, Bool, true, false, not, ◌&&◌, if◌then◌else◌, List, [], ◌∷◌, ◌++◌, map, length, take, drop, replicate, filter, count_by, flat_map, slice_index_or, slice_set, nat_lt, Option, Some, None, is_some, IsSome}
+use Rattle.std.specs.List.{list_any, AllByRecursion}
 use Rattle.vm_base.specs.declared.fork_mode.Mode.{Mode}
 use Rattle.vm_base.specs.declared.fork_mode.Mode.TheVariants.{Eager, OnDemand, Async}
 
@@ -99,6 +99,17 @@ names_version page version kept = is_own kept.leaf && holds_number (version_at k
 abbrev pub is_named : CellLeaves → ℕ → ℕ → Bool
 is_named cell page version = list_any (names_version page version) cell.kept
 
+-- a leaf that is not lost names this version of the page
+abbrev pub IsNamedBy : ℕ → ℕ → List Kept → Type 0
+IsNamedBy page version [] = ⊥
+IsNamedBy page version (it ∷ others) =
+    ((is_lost it.leaf ≡ false) × (version_at it.versions page ≡ Some version)) ⊎ IsNamedBy page version others
+
+-- the page is the parent's alone, so that it may be stored to: it is present, and no leaf that is not lost names its version
+pub record IsAlone (cell : CellLeaves) (page : ℕ) : Type 0 where
+  pub present : IsSome (version_at cell.parent page)
+  pub unnamed : (version : ℕ) → version_at cell.parent page ≡ Some version → IsNamedBy page version cell.kept → ⊥
+
 -- the pairs of page and version, where the first of these pages has this number
 abbrev pub pairs_from : ℕ → Versions → List (ℕ × ℕ)
 pairs_from page [] = []
@@ -139,6 +150,28 @@ share cell = parent_leaves cell + own_leaves cell + length (named_pairs cell)
 abbrev pub kept_by : List Kept → ℕ → Option Kept
 kept_by [] n = None
 kept_by (kept ∷ others) n = if kept.number == n then Some kept else kept_by others n
+
+-- a snapshot has the cell, with a leaf that passes a test
+abbrev pub has_leaf_where : (Leaf → Bool) → Option Kept → Bool
+has_leaf_where test None = false
+has_leaf_where test (Some kept) = test kept.leaf
+
+-- it has not lost the cell
+abbrev pub has_leaf : Option Kept → Bool
+has_leaf kept = has_leaf_where (λ leaf. not (is_lost leaf)) kept
+
+-- its leaf table is the parent's
+abbrev pub has_joined : Option Kept → Bool
+has_joined kept = has_leaf_where is_joined kept
+
+-- the number of each of these snapshots is above this one
+abbrev pub AreAbove : ℕ → List Kept → Type 0
+AreAbove n kept = AllByRecursion (λ it. n < it.number) kept
+
+-- snapshots are in rising order of their numbers, so that each number is there once
+abbrev pub AreRising : List Kept → Type 0
+AreRising [] = Unit {0}
+AreRising (kept ∷ others) = AreAbove kept.number others × AreRising others
 
 -- a snapshot at its place in rising order
 abbrev pub with_kept : Kept → List Kept → List Kept

@@ -1,6 +1,6 @@
 -- The account of the pool: what the entries that were told under its lock leave, and the load that they put on it.
-use Rattle.std.specs.Prelude.{◌≡◌, ℕ, ◌+◌, ◌-◌, ◌<◌, ◌==◌, ◌⊎◌, if◌then◌else◌, Bool, true, false, not, List, [], ◌∷◌, ◌++◌, map, sum_by, filter, Option, IfSome, IsSome, IsNone}
-use Rattle.std.specs.List.{find}
+use Rattle.std.specs.Prelude.{◌≡◌, ℕ, ◌+◌, ◌-◌, ◌<◌, ◌≤◌, ◌==◌, ◌⊎◌, if◌then◌else◌, Bool, true, false, not, List, [], ◌∷◌, ◌++◌, map, sum_by, count_by, filter, Option, IfSome, IsSome, IsNone}
+use Rattle.std.specs.List.{find, AllByRecursion}
 use Rattle.vm_base.specs.declared.frame_request.Want.{Want}
 
 -- what the pool answers to a take: a frame; that none is free; or that the policy at this place of its list denied
@@ -166,21 +166,46 @@ IsInStretch account seat condition =
 abbrev pub MayDeal : PoolAccount → ℕ → (Stretch → Type 0) → Type 0
 MayDeal account seat condition = (seat ≡ 0) ⊎ IsInStretch account seat condition
 
--- an act of a seat may stand behind an account
-abbrev pub MayStandIn : PoolAccount → PoolAct → ℕ → Type 0
-MayStandIn account (Take want answer) seat = MayDeal account seat (FitsAmount answer)
-MayStandIn account Give seat = MayDeal account seat (λ it. Unit {0})
-MayStandIn account (Allow n other amount) seat = (seat ≡ 0) × (0 < other) × IsNone (stretch_at account other)
-MayStandIn account (Parted n) seat = IsInStretch account seat (λ it. it.number ≡ n)
-MayStandIn account (Reaped n) seat =
+-- the frames out fit an answer, where so many were made: a frame is lent and a policy asked only while one is free, and none is free only once all are out
+abbrev pub FitsFrames : ℕ → ℕ → PoolAnswer → Type 0
+FitsFrames made out Lent = out < made
+FitsFrames made out NoneFree = out ≡ made
+FitsFrames made out (DeniedBy place) = out < made
+
+-- an act of a seat may stand behind an account, where the pool made so many frames: a give only while a frame is out, an allowance only of a number and a seat that are in no stretch
+abbrev pub MayStandIn : ℕ → PoolAccount → PoolAct → ℕ → Type 0
+MayStandIn made account (Take want answer) seat =
+    FitsFrames made (frames_out account) answer × MayDeal account seat (FitsAmount answer)
+MayStandIn made account Give seat = (0 < frames_out account) × MayDeal account seat (λ it. Unit {0})
+MayStandIn made account (Allow n other amount) seat =
+    (seat ≡ 0) × (0 < other) × IsNone (stretch_at account other) × IsNone (stretch_of account n)
+MayStandIn made account (Parted n) seat = IsInStretch account seat (λ it. it.number ≡ n)
+MayStandIn made account (Reaped n) seat =
     (seat ≡ 0) × IfSome (stretch_of account n) (λ it. it.has_parted ≡ true) × IsSome (stretch_of account n)
 
 -- each of the entries may stand behind those before it
-abbrev pub ArePoolEntriesBehind : PoolAccount → List PoolEntry → Type 0
-ArePoolEntriesBehind account [] = Unit {0}
-ArePoolEntriesBehind account (entry ∷ log) =
-    MayStandIn account entry.act entry.seat × ArePoolEntriesBehind (pool_account_after account entry) log
+abbrev pub ArePoolEntriesBehind : ℕ → PoolAccount → List PoolEntry → Type 0
+ArePoolEntriesBehind made account [] = Unit {0}
+ArePoolEntriesBehind made account (entry ∷ log) =
+    MayStandIn made account entry.act entry.seat × ArePoolEntriesBehind made (pool_account_after account entry) log
 
--- a list of entries of the pool's lock
-abbrev pub ArePoolEntries : List PoolEntry → Type 0
-ArePoolEntries log = ArePoolEntriesBehind empty_pool_account log
+-- a list of entries of the lock of a pool that made so many frames
+abbrev pub ArePoolEntries : ℕ → List PoolEntry → Type 0
+ArePoolEntries made log = ArePoolEntriesBehind made empty_pool_account log
+
+-- how many stretches of snapshot n are open
+abbrev pub times_open : ℕ → List Stretch → ℕ
+times_open n stretches = count_by (λ it. it.number == n) stretches
+
+-- how many stretches a seat is in
+abbrev pub times_seated : ℕ → List Stretch → ℕ
+times_seated seat stretches = count_by (λ it. it.seat == seat) stretches
+
+-- what holds of the account of a pool that made so many frames: no more was given than taken, no more is out than was made or than the load, each number is open and each seat in a stretch at most once, and each stretch has taken its amount at most
+pub record IsPoolAccount (made : ℕ) (account : PoolAccount) : Type 0 where
+  pub given : all_given account ≤ all_taken account
+  pub out : frames_out account ≤ made
+  pub loaded : frames_out account ≤ load account
+  pub numbers : (n : ℕ) → times_open n account.stretches ≤ 1
+  pub seats : (seat : ℕ) → times_seated seat account.stretches ≤ 1
+  pub amounts : AllByRecursion (λ it. it.traffic.taken ≤ it.amount) account.stretches

@@ -1,8 +1,10 @@
 //! Laws of the definitions, for whatever cells, pages and answers.
-ghost use Rattle.std.specs.Prelude.{◌≡◌, ℕ, ◌+◌, sum_by, IsSome};
+ghost use Rattle.std.specs.Prelude.{◌≡◌, ℕ, ◌+◌, sum_by, IsSome, List};
 ghost use Rattle.vm_base.specs.Places.{directory_frames};
-ghost use Rattle.kernel_meaning.specs.Leaves.{share, version_at};
+ghost use Rattle.kernel_meaning.specs.Leaves.{share, version_at, AreRising};
 ghost use Rattle.kernel_meaning.specs.CellActs.{Course, touched};
+ghost use Rattle.kernel_meaning.specs.CellAccount.{CellEntry, account_of, AreEntries};
+ghost use Rattle.kernel_meaning.specs.PoolAccount.{PoolEntry, pool_account_of, ArePoolEntries, IsPoolAccount};
 ghost use Rattle.kernel_meaning.specs.FrameLaw.{Leaves, held_frames, parent_cells, snapshot_tables};
 
 /// The frames that are out are the directories of both sides and the share of each cell.
@@ -15,4 +17,15 @@ pub fn frames_lie_in_directories_and_cells()
 pub fn a_present_page_is_touched()
     ensures { (page : ℕ) (course : Course) →
         IsSome (version_at course.cell.parent page) → (touched page course).refused ≡ course.refused }
+{}
+
+/// In a log of a cell's lock the snapshots that the cell keeps are in rising order, each once.
+pub fn a_cell_log_keeps_each_number_once()
+    ensures { (entries : List CellEntry) → AreEntries entries → AreRising (account_of entries).state.leaves.kept }
+{}
+
+/// In a log of the pool's lock no more is given than taken, and no more is out than was made or than
+/// the load; each number is open and each seat in a stretch at most once.
+pub fn a_pool_log_keeps_its_account()
+    ensures { (made : ℕ) (log : List PoolEntry) → ArePoolEntries made log → IsPoolAccount made (pool_account_of log) }
 {}

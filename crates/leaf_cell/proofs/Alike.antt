@@ -26,7 +26,7 @@ kept-with_name name page version place (it ∷ others) (meant ∷ rest) fresh al
 )
 
 -- what lives among snapshots lives under its name
-named-alike : (name : ℕ → ℕ → ℕ) (page version : ℕ) (view meant : List Kept) → AreKeptAlike name view meant → IsNamedBy page version meant → IsNamedBy page (name page version) view
+pub named-alike : (name : ℕ → ℕ → ℕ) (page version : ℕ) (view meant : List Kept) → AreKeptAlike name view meant → IsNamedBy page version meant → IsNamedBy page (name page version) view
 named-alike name page version [] [] alike named = absurd named
 named-alike name page version [] (it ∷ others) alike named = absurd alike
 named-alike name page version (it ∷ others) [] alike named = absurd alike

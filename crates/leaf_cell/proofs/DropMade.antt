@@ -23,6 +23,7 @@ use Rattle.leaf_cell.specs.Renaming.{AreKeptAlike, IsNamedBy, IsLive, IsRenaming
 use Rattle.leaf_cell.specs.Releasing.{IsLeafReleased, own_if}
 use Rattle.leaf_cell.specs.Standing.{IsWhole, StandsFor, TakesAccount, MadeAct}
 use Rattle.leaf_cell.proofs.NewCell.{none_is_not_some}
+use Rattle.leaf_cell.proofs.AllowedActs.{allowed-stands}
 use Rattle.leaf_cell.proofs.AbsentPages.{version_at-none}
 use Rattle.leaf_cell.proofs.Renamed.{eqb-refl}
 use Rattle.leaf_cell.proofs.SameShare.{share-alike}
@@ -107,6 +108,7 @@ takes-dropped old new account n count stands leaves pages kept less whole =
     let shrunk : share account.state.leaves - share (without_snapshot n account.state.leaves) ≡ count =
     omega (arith, less, share-alike stands.name old.leaves account.state.leaves stands.leaves, share-alike stands.name new.leaves (without_snapshot n account.state.leaves) alike) in
     record {
+      allowed = allowed-stands old account stands (Drop n);
       stands = record {
         name = stands.name;
         leaves = alike;

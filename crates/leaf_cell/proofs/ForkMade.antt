@@ -22,6 +22,7 @@ use Rattle.leaf_cell.specs.Inside.{AreInside, table_of, table_places, table_writ
 use Rattle.leaf_cell.specs.Renaming.{AreKeptAlike, IsLive, IsRenaming}
 use Rattle.leaf_cell.specs.Standing.{StandsFor, TakesAccount}
 use Rattle.leaf_cell.proofs.NewCell.{none_is_not_some}
+use Rattle.leaf_cell.proofs.AllowedActs.{allowed-stands}
 use Rattle.leaf_cell.proofs.AbsentPages.{version_at-none}
 use Rattle.leaf_cell.proofs.Renamed.{eqb-refl}
 use Rattle.leaf_cell.proofs.TouchActs.{stands-made}
@@ -110,15 +111,15 @@ view_of_fork mode leaf n view = record view {
 
 module _ (view : CellView) (account : CellAccount) (stands : StandsFor view account) (n : ℕ) where
   pub fork-granted : view.leaves.kept ≡ [] → (seat : ℕ) → TakesAccount (Fork n Eager seat) view (view_of_fork Eager Own n view) (Granted want.Leaf ∷ []) None account
-  fork-granted alone seat = record { stands = stands_forked Eager Own view account stands n alone (account.made + 1) (omega arith); asked = refl; ended = refl }
+  fork-granted alone seat = record { allowed = allowed-stands view account stands (Fork n Eager seat); stands = stands_forked Eager Own view account stands n alone (account.made + 1) (omega arith); asked = refl; ended = refl }
 
   pub fork-denied : (seat at : ℕ) → TakesAccount (Fork n Eager seat) view view (Denied want.Leaf at ∷ []) (Some at) account
-  fork-denied seat at = record { stands = stands-made view account (account.made + 1) stands (omega arith); asked = refl; ended = refl }
+  fork-denied seat at = record { allowed = allowed-stands view account stands (Fork n Eager seat); stands = stands-made view account (account.made + 1) stands (omega arith); asked = refl; ended = refl }
 
   pub fork-lazy : view.leaves.kept ≡ [] → (mode : Mode) → (mode ≡ Eager → ⊥) → (seat : ℕ) → TakesAccount (Fork n mode seat) view (view_of_fork mode Joined n view) [] None account
   fork-lazy alone Eager lazy seat = absurd (lazy refl)
-  fork-lazy alone OnDemand lazy seat = record { stands = stands_forked OnDemand Joined view account stands n alone account.made (omega arith); asked = refl; ended = refl }
-  fork-lazy alone Async lazy seat = record { stands = stands_forked Async Joined view account stands n alone account.made (omega arith); asked = refl; ended = refl }
+  fork-lazy alone OnDemand lazy seat = record { allowed = allowed-stands view account stands (Fork n OnDemand seat); stands = stands_forked OnDemand Joined view account stands n alone account.made (omega arith); asked = refl; ended = refl }
+  fork-lazy alone Async lazy seat = record { allowed = allowed-stands view account stands (Fork n Async seat); stands = stands_forked Async Joined view account stands n alone account.made (omega arith); asked = refl; ended = refl }
 
 -- the order of a cell whose one snapshot has the parent's table
 pub inside-lazy : (parent : Option TableView) (snapshot : Option Snapshot) (frames : List (Option FrameView)) (n : ℕ) (mode : Mode) → AreInside parent snapshot frames

@@ -28,6 +28,7 @@ pub mod SameReads
 pub mod Without
 pub mod ClearMade
 pub mod WritableViews
+pub mod AllowedActs
 pub mod AllowedPages
 pub mod ProtectMade
 pub mod LeafLost

@@ -46,7 +46,7 @@ module _ (view : CellView) (account : CellAccount) (stands : StandsFor view acco
   present-stands first n = ap (λ versions. has_present versions first n) stands.leaves.parent ∙ has_present-renamed stands.name account.state.leaves.parent first n
 
 -- the same snapshots are there
-found-alike : (name : ℕ → ℕ → ℕ) (n : ℕ) (view meant : List Kept) → AreKeptAlike name view meant → is_some (kept_by view n) ≡ is_some (kept_by meant n)
+pub found-alike : (name : ℕ → ℕ → ℕ) (n : ℕ) (view meant : List Kept) → AreKeptAlike name view meant → is_some (kept_by view n) ≡ is_some (kept_by meant n)
 found-alike name n [] [] alike = refl
 found-alike name n [] (o ∷ os) alike = absurd alike
 found-alike name n (i ∷ is) [] alike = absurd alike

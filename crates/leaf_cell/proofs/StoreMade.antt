@@ -23,6 +23,7 @@ use Rattle.leaf_cell.specs.Inside.{AreInside, IsPlaceOf, table_places, own_place
 use Rattle.leaf_cell.specs.Adding.{stored_in, IsWholeFrame}
 use Rattle.leaf_cell.specs.Renaming.{IsNamedBy, IsLive}
 use Rattle.leaf_cell.specs.Standing.{StandsFor, TakesAccount}
+use Rattle.leaf_cell.proofs.AllowedActs.{allowed-stands}
 use Rattle.leaf_cell.proofs.NewVersion.{named-kept}
 use Rattle.leaf_cell.proofs.InsideFacts.{page_below, parent_filled}
 use Rattle.leaf_cell.proofs.WholeCells.{whole-inside}
@@ -167,6 +168,7 @@ module _ (parent : Option TableView) (snapshot : Option Snapshot) (frames : List
 
     pub takes-stored : TakesAccount (Store page at bytes) (cell_value parent snapshot frames) (cell_value parent snapshot new) [] None account
     takes-stored = record {
+      allowed = allowed-stands (cell_value parent snapshot frames) account stands (Store page at bytes);
       stands = record {
         name = stands.name;
         leaves = stands.leaves;

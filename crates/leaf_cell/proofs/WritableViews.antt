@@ -3,7 +3,7 @@ use Rattle.std.proofs.Common.{ℕ, List, Option}
 use Rattle.std.specs.Prelude.{Bool}
 use Rattle.vm_base.specs.Deals.{Deal}
 use Rattle.kernel_meaning.specs.CellActs.{Course}
-use Rattle.kernel_meaning.specs.CellAccount.{CellAct, CellAccount}
+use Rattle.kernel_meaning.specs.CellAccount.{CellAct, CellAccount, AllowsAct}
 use Rattle.leaf_cell.specs.CellView.{CellView}
 use Rattle.leaf_cell.specs.Standing.{StandsFor, TakesAccount, MadeAct, TakesPart}
 use Rattle.leaf_cell.specs.Touching.{IsTouched}
@@ -27,12 +27,12 @@ made-writable goes from to act old new refused writable made = record {
   led = made.led;
   follows = λ account stands.
       let takes : TakesAccount act old new made.deals refused account = made.follows account stands in
-      record { stands = stands-writable new writable _ takes.stands; asked = takes.asked; ended = takes.ended };
+      record { allowed = takes.allowed; stands = stands-writable new writable _ takes.stands; asked = takes.asked; ended = takes.ended };
 }
 
 -- and from such a cell
-pub takes-from : (act : CellAct) (old other new : CellView) (deals : List Deal) (refused : Option ℕ) (account : CellAccount) → TakesAccount act other new deals refused account → TakesAccount act old new deals refused account
-takes-from act old other new deals refused account takes = record { stands = takes.stands; asked = takes.asked; ended = takes.ended }
+pub takes-from : (act : CellAct) (old other new : CellView) (deals : List Deal) (refused : Option ℕ) (account : CellAccount) → (AllowsAct old.leaves act → AllowsAct other.leaves act) → TakesAccount act other new deals refused account → TakesAccount act old new deals refused account
+takes-from act old other new deals refused account same takes = record { allowed = λ it. takes.allowed (same it); stands = takes.stands; asked = takes.asked; ended = takes.ended }
 
 pub takes_part-from : (part : Course → Course) (old other new : CellView) (deals : List Deal) (account : CellAccount) → TakesPart part other new deals account → TakesPart part old new deals account
 takes_part-from part old other new deals account takes = record { stands = takes.stands; asked = takes.asked; ended = takes.ended }

@@ -1,6 +1,7 @@
 -- Two cells that are alike but for the names of versions: those that live at one moment correspond one to one, page by page.
 use Rattle.std.specs.Prelude.{◌≡◌, ℕ, ◌+◌, ◌≤◌, ◌⊎◌, false, List, [], ◌∷◌, Some, None}
 use Rattle.kernel_meaning.specs.Leaves.{Versions, version_at, is_lost, Kept, CellLeaves}
+pub use Rattle.kernel_meaning.specs.Leaves.{IsNamedBy}
 
 -- versions under other names, where the first of these pages has this number
 abbrev pub renamed_from : (ℕ → ℕ → ℕ) → ℕ → Versions → Versions
@@ -25,12 +26,6 @@ AreKeptAlike name [] [] = Unit {0}
 AreKeptAlike name [] (it ∷ others) = ⊥
 AreKeptAlike name (it ∷ others) [] = ⊥
 AreKeptAlike name (it ∷ others) (meant ∷ rest) = IsKeptAlike name it meant × AreKeptAlike name others rest
-
--- a leaf that is not lost names this version of the page
-abbrev pub IsNamedBy : ℕ → ℕ → List Kept → Type 0
-IsNamedBy page version [] = ⊥
-IsNamedBy page version (it ∷ others) =
-    ((is_lost it.leaf ≡ false) × (version_at it.versions page ≡ Some version)) ⊎ IsNamedBy page version others
 
 -- the parent or a leaf that is not lost names this version of the page
 abbrev pub IsLive : CellLeaves → ℕ → ℕ → Type 0

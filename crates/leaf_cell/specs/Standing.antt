@@ -7,7 +7,7 @@ use Rattle.vm_base.specs.Deals.{Deal, LeadsAlong}
 use Rattle.kernel_meaning.specs.Requests.{answers_of, opening_requests}
 use Rattle.kernel_meaning.specs.Leaves.{Kept, is_lost, kept_by}
 use Rattle.kernel_meaning.specs.CellActs.{Course, opening_course}
-use Rattle.kernel_meaning.specs.CellAccount.{CellAct, CellAccount, course_of, state_after}
+use Rattle.kernel_meaning.specs.CellAccount.{CellAct, CellAccount, AllowsAct, course_of, state_after}
 use Rattle.leaf_cell.specs.declared.snapshot.LeafState.TheVariants as state
 use Rattle.leaf_cell.specs.CellView.{CellView, parent_page, kept_page, part_of}
 use Rattle.leaf_cell.specs.Renaming.{IsLive, IsRenaming, AreMade}
@@ -49,8 +49,9 @@ account_behind_act act account deals = record {
   made = (course_behind act account deals).requests.made;
 }
 
--- an act took an account that the cell stood for to the one that it stands for: it made these deals, and was refused at this count, or not
+-- an act took an account that the cell stood for to the one that it stands for: the account's leaves allow it where the cell's do, it made these deals, and was refused at this count, or not
 pub record TakesAccount (act : CellAct) (old new : CellView) (deals : List Deal) (refused : Option ℕ) (account : CellAccount) : Type 0 where
+  pub allowed : AllowsAct old.leaves act → AllowsAct account.state.leaves act
   pub stands : StandsFor new (account_behind_act act account deals)
   pub asked : (course_behind act account deals).requests.deals ≡ deals
   pub ended : (course_behind act account deals).refused ≡ refused

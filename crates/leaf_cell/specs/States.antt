@@ -1,10 +1,11 @@
 -- What is read of a cell's snapshots.
-use Rattle.std.specs.Prelude.{ℕ, Bool, false, not, if◌then◌else◌, List, Option, Some, None, Result, Ok, Err}
+use Rattle.std.specs.Prelude.{ℕ, if◌then◌else◌, List, Option, Some, None, Result, Ok, Err}
 use Rattle.std.specs.Option.{option_map}
 use Rattle.std.specs.List.{slice_get}
 use Rattle.vm_base.specs.declared.fork_mode.Mode.{Mode}
 use Rattle.vm_base.specs.declared.refusals.Refused.{Refused as RefusedRequest}
-use Rattle.kernel_meaning.specs.Leaves.{Leaf, Own, Joined, Lost, Kept, kept_by, is_async, is_joined, is_lost}
+use Rattle.kernel_meaning.specs.Leaves.{Leaf, Own, Joined, Lost, Kept, kept_by, is_async}
+pub use Rattle.kernel_meaning.specs.Leaves.{has_leaf_where, has_leaf, has_joined}
 use Rattle.leaf_cell.specs.declared.snapshot.LeafState.{LeafState}
 use Rattle.leaf_cell.specs.declared.snapshot.LeafState.TheVariants as state
 use Rattle.leaf_cell.specs.declared.snapshot.Snapshot.{Snapshot}
@@ -46,19 +47,6 @@ snapshot_part view number page at n = kept_part view (kept_by view.leaves.kept n
 abbrev pub refused_count : Result (Unit {0}) RefusedRequest → Option ℕ
 refused_count (Ok done) = None
 refused_count (Err refused) = Some refused.at
-
--- a snapshot has the cell, with a leaf that passes a test
-abbrev pub has_leaf_where : (Leaf → Bool) → Option Kept → Bool
-has_leaf_where test None = false
-has_leaf_where test (Some kept) = test kept.leaf
-
--- it has not lost the cell
-abbrev pub has_leaf : Option Kept → Bool
-has_leaf kept = has_leaf_where (λ leaf. not (is_lost leaf)) kept
-
--- its leaf table is the parent's
-abbrev pub has_joined : Option Kept → Bool
-has_joined kept = has_leaf_where is_joined kept
 
 -- a snapshot whose leaf table is this one, its own
 abbrev pub with_own : TableView → Snapshot → Snapshot

@@ -1,9 +1,9 @@
 -- What a touch of a page leaves, and what a clear of some pages does.
-use Rattle.std.specs.Prelude.{◌≡◌, ℕ, ◌+◌, ◌<◌, ◌≤◌, ◌⊎◌, Bool, true, false, List, [], ◌∷◌, Option, Some, None, is_some, IsSome}
+use Rattle.std.specs.Prelude.{◌≡◌, ℕ, ◌+◌, ◌<◌, ◌≤◌, ◌⊎◌, Bool, true, false, List, [], ◌∷◌, Option, Some, None, is_some}
 use Rattle.vm_base.specs.Counts.{next_count}
 use Rattle.kernel_meaning.specs.Leaves.{version_at, without_versions, is_named, Lost, Kept, CellLeaves}
 use Rattle.leaf_cell.specs.CellView.{CellView, AreUnjoined, parent_page, page_or_zeros}
-use Rattle.leaf_cell.specs.Renaming.{IsNamedBy}
+pub use Rattle.kernel_meaning.specs.Leaves.{IsAlone}
 
 -- a version, where there is one, that a snapshot's own leaf names
 abbrev pub is_named_too : CellLeaves → ℕ → Option ℕ → Bool
@@ -13,11 +13,6 @@ is_named_too cell page (Some version) = is_named cell page version
 -- a touch of the page needs a copy: a snapshot's own leaf names the version that the parent has
 abbrev pub needs_copy : CellLeaves → ℕ → Bool
 needs_copy cell page = is_named_too cell page (version_at cell.parent page)
-
--- the page is the parent's alone, so that it may be stored to: it is present, and no leaf that is not lost names its version
-pub record IsAlone (cell : CellLeaves) (page : ℕ) : Type 0 where
-  pub present : IsSome (version_at cell.parent page)
-  pub unnamed : (version : ℕ) → version_at cell.parent page ≡ Some version → IsNamedBy page version cell.kept → ⊥
 
 -- a snapshot is as it was; or it has lost the cell, since a copy was needed and refused, and `after` counts that refusal
 abbrev pub IsKeptOrLost : Bool → ℕ → ℕ → Kept → Kept → Type 0
