@@ -64,3 +64,4 @@ pub mod ReachedEvents
 pub mod KernelProcesses
 pub mod WentCalls
 pub mod HeldAlone
+pub mod Waiting

@@ -219,7 +219,7 @@ module _ (parts : KernelParts) (notes : KernelNotes) (number : ℕ) (known : ∥
   nest-keeps = record {
     goes_on = goes_on-none (nest_of parts notes number);
     cells = λ c at e. holds.cells c (∥∥₁_elim known (test-prop (is_some (slot_in parts.tables.snapshot c)) true) (λ it. slot-of-lost parts it.0 it.1.0 it.1.1.stands number c at e));
-    unskipped = λ whole. refl;
+    unskipped = λ whole. whole;
   }
 
   -- what it has lost it lost behind its fork

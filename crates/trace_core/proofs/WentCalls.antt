@@ -1,6 +1,6 @@
 -- What each call makes of a kernel: no number is used again, what is told of a snapshot that lives goes on, and each request was answered as it may be.
 use Rattle.std.proofs.Common.{◌≡◌, ◌⊎◌, ℕ, ◌+◌, ◌<◌, ◌≤◌, ◌^◌, List, [], ◌∷◌, ◌++◌, length, Option, Some, None, Result, Ok, Err, refl, sym, ◌∙◌, ap, subst, arith}
-use Rattle.std.specs.Prelude.{false, true, IsTrue, OnOk, IfErr}
+use Rattle.std.specs.Prelude.{false, ◌==◌, IsTrue}
 use Rattle.std.specs.FinMap.{get}
 use Rattle.std.proofs.lemmas.Bool.{false≢true}
 use Rattle.std.proofs.lemmas.List.{append-nil}
@@ -29,18 +29,19 @@ use Rattle.trace_core.specs.EventMeaning.{EventEnd, begun, touch_judged, fork_en
 use Rattle.trace_core.specs.KernelState.{Machine, KernelState}
 use Rattle.trace_core.specs.KernelStanding.{KernelParts, KernelStands, EventRan, sides_of, copies_refused_in}
 use Rattle.trace_core.specs.KernelSeen.{KernelNotes, IsKernelNoted, live_numbers, kept_in, nest_of}
-use Rattle.trace_core.specs.TablesSeen.{lost_in}
+use Rattle.trace_core.specs.TablesSeen.{lost_in, waiting_in}
 use Rattle.trace_core.specs.TouchAnswers.{touch_outcome, with_stored}
 use Rattle.trace_core.specs.KernelWent.{IsStretch, HasDealt, KeepsChildren, KernelWent, AreGiven}
 use Rattle.trace_core.specs.WentOn.{goes_on-none, went-none}
 use Rattle.trace_core.proofs.AnswerLemmas.{deals_lead_on, no_request_has_led}
 use Rattle.trace_core.proofs.AreaCalls.{HasMapped, HasUnmapped, HasProtected}
-use Rattle.trace_core.proofs.ClauseProps.{option-prop}
+use Rattle.trace_core.proofs.ClauseProps.{number-prop, option-prop}
 use Rattle.trace_core.proofs.EventCounts.{HasCounted, counted-touch, parent_counts}
 use Rattle.trace_core.proofs.KeptEvents.{EndKeeps, lost-stay, map-keeps-leaves, unmap-keeps-leaves, protect-keeps-leaves, touch-keeps-leaves}
 use Rattle.trace_core.proofs.KeptLeaves.{same-keeps}
 use Rattle.trace_core.proofs.KernelProcesses.{Forked, HasDropped, IsNext, fork-children, drop-children}
 use Rattle.trace_core.proofs.KernelTouches.{TouchRan}
+use Rattle.trace_core.proofs.Waiting.{stands-waiting}
 
 -- ---- the requests
 
@@ -106,8 +107,9 @@ listed-still : (old new : KernelParts) → new.snapshot ≡ old.snapshot → (n 
 listed-still old new same n lives = subst (λ snapshot. IsListed n (live_numbers snapshot)) same lives
 
 module _ (old new : KernelParts) (notes later : KernelNotes) (snapshot : new.snapshot ≡ old.snapshot) (last : new.last ≡ old.last) (forked : later.forked ≡ notes.forked)
-    (stays : (n c at : ℕ) → get (lost_in n old.tables.slots.items) c ≡ Some at → get (lost_in n new.tables.slots.items) c ≡ Some at) where
-  -- a call that loses no number and keeps what was lost
+    (stays : (n c at : ℕ) → get (lost_in n old.tables.slots.items) c ≡ Some at → get (lost_in n new.tables.slots.items) c ≡ Some at)
+    (none : (n : ℕ) → waiting_in n new.tables.slots.items ≡ 0) where
+  -- a call that loses no number, keeps what was lost, and leaves no cell to be copied
   pub keeps-children : KeepsChildren old notes new later
   keeps-children = record {
     last = omega (arith, last);
@@ -116,9 +118,9 @@ module _ (old new : KernelParts) (notes later : KernelNotes) (snapshot : new.sna
       mem = λ i. kept_in (snapshot i) (forked i);
       found = λ c at lost. stays n c at lost;
       counted = copies-still;
-      todo = omega arith;
-      passed = λ passed. passed;
-      whole = λ whole. whole;
+      todo = let still : waiting_in n new.tables.slots.items ≡ 0 = none n in omega (arith, still);
+      passed = λ passed. ap (λ waiting. waiting == 0) (none n);
+      whole = λ whole. ap (λ waiting. waiting == 0) (none n);
     };
   }
     where
@@ -155,7 +157,10 @@ module _ (old new : KernelParts) (notes later : KernelNotes) (its : IsParents ol
       → ((machine : Machine) (state : KernelState) (answers : List Answer) → HasCounted state (end machine state answers))
       → ((machine : Machine) (state : KernelState) (answers : List Answer) → EndKeeps state (end machine state answers)) → KernelWent old notes new later
   parents-went outcome end ran counts keeps = record {
-    children = keeps-children old new notes later its.snapshot its.last its.forked (ran-stays old new notes its.known outcome end ran keeps);
+    children = keeps-children old new notes later its.snapshot its.last its.forked (ran-stays old new notes its.known outcome end ran keeps)
+        (λ n. ∥∥₁_elim its.known (number-prop (waiting_in n new.tables.slots.items) 0) (λ it.
+        let then : EventRan old new it.0 (end it.0 it.1.0) outcome = ran it.0 it.1.0 it.1.1.stands in
+        stands-waiting new.tables (sides_of then.after then.stands.pages) then.stands.tables n));
     dealt = ran-dealt old new outcome end ran counts its.copied still-copied;
   }
 
@@ -181,7 +186,7 @@ pub store-went : (old new : KernelParts) (notes : KernelNotes) (addr : ℕ) (byt
     → ((machine : Machine) (state : KernelState) → KernelStands old machine state → KernelStands new machine (with_stored state addr bytes)) → new ≡ record old { tables = new.tables }
     → AreGiven old → KernelWent old notes new notes
 store-went old new notes addr bytes known stored others given = record {
-  children = keeps-children old new notes notes snapshot (ap (λ parts. parts.last) others) refl stays;
+  children = keeps-children old new notes notes snapshot (ap (λ parts. parts.last) others) refl stays none;
   dealt = λ machine state st. ([], record {
     after = with_stored state addr bytes;
     led = λ opening earlier led. subst (λ requests. HaveLed machine.frames opening requests new.supply.policies) (sym (append-nil earlier))
@@ -199,6 +204,11 @@ store-went old new notes addr bytes known stored others given = record {
   where
     snapshot : new.snapshot ≡ old.snapshot
     snapshot = ap (λ parts. parts.snapshot) others
+
+    none : (n : ℕ) → waiting_in n new.tables.slots.items ≡ 0
+    none n = ∥∥₁_elim known (number-prop (waiting_in n new.tables.slots.items) 0) (λ it.
+        let then : KernelStands new it.0 (with_stored it.1.0 addr bytes) = stored it.0 it.1.0 it.1.1.stands in
+        stands-waiting new.tables (sides_of (with_stored it.1.0 addr bytes) then.pages) then.tables n)
 
     none-fresh : (n : ℕ) → old.last < n → IsListed n (live_numbers new.snapshot) → ⊥
     none-fresh n above lives = let below : n ≤ old.last = given n (listed-still old new snapshot n lives) in omega (arith, above, below)

@@ -25,7 +25,7 @@ use Rattle.trace_core.specs.TouchAnswers.{touch_outcome}
 use Rattle.trace_core.specs.KernelState.{Machine, KernelState}
 use Rattle.trace_core.specs.KernelStanding.{KernelParts, KernelStands, KeptAreas, areas_in, copies_refused_in}
 use Rattle.trace_core.specs.SupplyState.{state_of}
-use Rattle.trace_core.specs.TablesSeen.{pages_in, used_in, ready_in, lost_in}
+use Rattle.trace_core.specs.TablesSeen.{pages_in, used_in, ready_in, lost_in, waiting_in}
 use Rattle.trace_core.specs.declared.parts.Parts.{Parts}
 use Rattle.trace_core.specs.declared.notes.Notes.{Notes}
 
@@ -170,15 +170,15 @@ pub record BesideChild : Type 0 where
   pub beside : BesideMemory
   pub number : ℕ
 
--- the snapshot of this number, with the memory at its fork and the cells that it has lost; an eager fork leaves none to be copied
+-- the snapshot of this number, with the memory at its fork, the cells that it has lost, and as many steps of copying to come as cells of it wait
 abbrev pub nest_of : KernelParts → KernelNotes → ℕ → SnapshotState
 nest_of parts notes number = record {
   mem = kept_in parts.snapshot notes.forked;
   found = lost_in number parts.tables.slots.items;
   refused = copies_refused_in parts.snapshot;
-  todo = 0;
-  passed = true;
-  whole = true;
+  todo = waiting_in number parts.tables.slots.items;
+  passed = waiting_in number parts.tables.slots.items == 0;
+  whole = waiting_in number parts.tables.slots.items == 0;
 }
 
 -- ---- what holds of a kernel

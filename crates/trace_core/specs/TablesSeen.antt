@@ -8,7 +8,7 @@ use Rattle.vm_base.specs.FlatMemory.{Area, PageMap, area_of}
 use Rattle.vm_base.specs.FlatStep.{is_read_only}
 use Rattle.vm_base.specs.MemoryState.{Numbers}
 use Rattle.vm_base.specs.ProcessState.{Found}
-use Rattle.kernel_meaning.specs.Leaves.{CellLeaves, Kept, Leaf, Own, Joined, Lost, version_at, is_lost, kept_by}
+use Rattle.kernel_meaning.specs.Leaves.{CellLeaves, Kept, Leaf, Own, Joined, Lost, version_at, is_lost, is_marked, kept_by}
 use Rattle.leaf_cell.specs.CellView.{CellView, parent_page}
 use Rattle.page_tables.specs.declared.slot.Slot.{Slot}
 
@@ -84,3 +84,18 @@ with_lost (Some c) (Some kept) found = with_leaf c kept.leaf found
 abbrev pub lost_in : ℕ → List Slot → Found
 lost_in n [] = empty
 lost_in n (slot ∷ slots) = with_lost slot.owner (kept_by slot.cell.leaves.kept n) (lost_in n slots)
+
+-- what a snapshot has at a cell waits to be copied by it
+abbrev pub is_waiting : Option Kept → Bool
+is_waiting None = false
+is_waiting (Some kept) = is_marked kept
+
+-- a cell more, where a slot has one that waits
+abbrev pub with_waiting : Option ℕ → Bool → ℕ → ℕ
+with_waiting None waits n = n
+with_waiting (Some c) waits n = if waits then n + 1 else n
+
+-- how many cells of snapshot n wait to be copied by it
+abbrev pub waiting_in : ℕ → List Slot → ℕ
+waiting_in n [] = 0
+waiting_in n (slot ∷ slots) = with_waiting slot.owner (is_waiting (kept_by slot.cell.leaves.kept n)) (waiting_in n slots)

@@ -1,5 +1,6 @@
 use Rattle.std.proofs.Common.{refl}
 use Rattle.trace_core.specs.KernelSeen.{parts_of, notes_of}
+use Rattle.trace_core.proofs.Waiting.{all-copied}
 use Rattle.trace_core.proofs.SeenNests.{copy-lost, copy-lowest, copy-none, nest-keeps}
 use Rattle.trace_core.specs.WentOn.{went-none}
 use Rattle.trace_core.proofs.nest.KernelNest.child_copy.Goals as goal
@@ -8,7 +9,7 @@ use Rattle.trace_core.proofs.nest.KernelNest.child_copy.Goals as goal
 pub returns-in-Some-clause-fault : goal.returns-in-Some-clause-fault
 returns-in-Some-clause-fault g c = (
   record { found = refl; refused = refl },
-  refl,
+  all-copied (parts_of c.args.self.now.parts) (notes_of c.args.self.now.notes) c.args.self.now.stood c.args.child.now.number,
   record {
     cell = c.in-Some.lost.cell;
     lost = copy-lost (parts_of c.args.self.now.parts) (notes_of c.args.self.now.notes) c.args.child.now.number c.args.self.now.stood c.lowest_loss.result c.lowest_loss.ensures.loss c.in-Some.lost c.in-Some.is;
@@ -24,7 +25,7 @@ returns-in-Some-clause-keeps g c = nest-keeps (parts_of c.args.self.now.parts) (
 pub returns-in-None-clause-step : goal.returns-in-None-clause-step
 returns-in-None-clause-step g c = (
   record { found = refl; refused = refl },
-  refl,
+  all-copied (parts_of c.args.self.now.parts) (notes_of c.args.self.now.notes) c.args.self.now.stood c.args.child.now.number,
   copy-none (parts_of c.args.self.now.parts) (notes_of c.args.self.now.notes) c.args.child.now.number c.args.self.now.stood c.lowest_loss.result c.lowest_loss.ensures.loss c.in-None.is,
 )
 
