@@ -1,5 +1,5 @@
 -- Sources and sinks in memory, as their callers see them.
-use Rattle.std.specs.Prelude.{◌≡◌, ◌⊎◌, ℕ, ◌<◌, List, [], ◌∷◌, ◌++◌, length, drop, min, max, Option, None, Some, IsSomeAnd, unwrap_or, reverse, zero, suc, ◌-◌}
+use Rattle.std.specs.Prelude.{◌≡◌, ◌⊎◌, ℕ, ◌<◌, List, [], ◌∷◌, ◌++◌, length, drop, min, max, ◌≤◌, Option, None, Some, IfSome, IsSomeAnd, unwrap_or, reverse, zero, suc, ◌-◌}
 use Rattle.std.specs.declared.string.String.{String}
 use Rattle.std.specs.declared.vec.Vec.{Vec}
 use Rattle.std.specs.String.{string_bytes}
@@ -107,6 +107,13 @@ after_load old name = record old {
   buffer = buffer_after old.buffer (text_of old.entries name);
   calls = after_call old.calls;
 }
+
+-- a file that was just loaded into the buffer: no read of it is cut short or is to fail, none was
+-- made, and it has all the room that the buffer had
+pub record IsLoaded (buffer : Option ℕ) (input : SourceState) : Type 0 where
+  pub cuts : input.cuts ≡ []
+  pub calls : input.calls ≡ record { fails = []; made = 0; faults = 0 }
+  pub room : IfSome buffer (λ size. size ≤ input.room)
 
 -- the folder after a create that succeeded
 abbrev pub after_create : Shelf → Shelf

@@ -32,6 +32,7 @@ pub trait Folder {
         ensures fresh { IfOk result (λ found. IfSome found (λ input. Self.In.faults input ≡ 0)) }
         ensures files { files self.new ≡ files self.old }
         ensures faults { faults self.old ≤ faults self.new }
+        ensures quiet { OnOk result (faults self.new ≡ faults self.old) }
         ensures cause { OnErr result (Rose (faults self.old) (faults self.new)) };
 
     /// Begins an empty file that is to be published under this name.
@@ -41,21 +42,24 @@ pub trait Folder {
         ensures fresh { IfOk result (λ out. Self.Out.faults out ≡ 0) }
         ensures files { files self.new ≡ files self.old }
         ensures faults { faults self.old ≤ faults self.new }
+        ensures quiet { OnOk result (faults self.new ≡ faults self.old) }
         ensures cause { OnErr result (Rose (faults self.old) (faults self.new)) };
 
     /// Lets the name stand for what was written. After `Failed` it stands for what it did, and
-    /// the file is gone.
+    /// the file is gone. Whether the faults of the file are counted is left open.
     fn publish(&mut self, out: Self::Out, name: &str) -> Result<(), Failed>
         ensures ok { OnOk result
             (Publishes (files self.old) (files self.new) name.now (Self.Out.written out)) }
         ensures failed { OnErr result (files self.new ≡ files self.old) }
         ensures faults { faults self.old ≤ faults self.new }
+        ensures quiet { OnOk result (Self.Out.faults out ≡ 0 → faults self.new ≡ faults self.old) }
         ensures cause { OnErr result (Rose (faults self.old) (faults self.new)) };
 
     /// Takes a read file back.
     fn close(&mut self, input: Self::In)
         ensures files { files self.new ≡ files self.old }
         ensures faults { faults self.old ≤ faults self.new }
+        ensures quiet { Self.In.faults input ≡ 0 → faults self.new ≡ faults self.old }
         ensures counted { 0 < Self.In.faults input → Rose (faults self.old) (faults self.new) };
 
     /// Takes a file back that is not to be published.

@@ -6,7 +6,7 @@ ghost use Rattle.std.specs.FinMap.{from_entries};
 ghost use Rattle.io_face.specs.Faults.{Rose};
 ghost use Rattle.io_face.specs.Folder.{Loads, Publishes};
 ghost use Rattle.std.specs.VecDeque.{deque_len, deque_capacity};
-ghost use Rattle.io_face.specs.Memory.{text_of, entry_of, opened, longest, empty_record, IsLoadRefused, IsCreateRefused, IsPublishRefused, after_refusal, after_load, after_create, after_publish, after_close, after_abandon};
+ghost use Rattle.io_face.specs.Memory.{text_of, entry_of, opened, IsLoaded, longest, empty_record, IsLoadRefused, IsCreateRefused, IsPublishRefused, after_refusal, after_load, after_create, after_publish, after_close, after_abandon};
 
 use crate::calls::Calls;
 use crate::failed::Failed;
@@ -218,6 +218,8 @@ impl Folder for MemFolder {
         ensures found { IfOk result
             (λ found. option_map (λ input. input.left) found ≡ text_of self.old.entries name.now) }
         ensures fresh { IfOk result (λ found. IfSome found (λ input. input.calls.faults ≡ 0)) }
+        ensures loaded { IfOk result
+            (λ found. IfSome found (λ input. IsLoaded self.old.buffer input)) }
         ensures ok { OnOk result (self.new ≡ after_load self.old name.now) }
         ensures refused { IsErr result ↔ IsLoadRefused self.old name.now }
         ensures err { OnErr result (self.new ≡ after_refusal self.old) }

@@ -21,9 +21,11 @@ pub trait Sink {
         ensures added { IfOk result
             (λ n. Adds (written self.old) (written self.new) (take n piece.now)) }
 
-        // A failed write adds nothing, and comes only where the count rose.
+        // A failed write adds nothing. It comes only where the count rose, and no other write
+        // counts.
         ensures failed { OnErr result (written self.new ≡ written self.old) }
         ensures faults { faults self.old ≤ faults self.new }
+        ensures quiet { OnOk result (faults self.new ≡ faults self.old) }
         ensures cause { OnErr result (Rose (faults self.old) (faults self.new)) };
 }
 
@@ -33,6 +35,7 @@ pub fn write_all<K: Sink>(sink: &mut K, text: &[u8]) -> Result<(), Failed>
     ensures ok { OnOk result (Adds (K.written sink.old) (K.written sink.new) text.now) }
     ensures failed { OnErr result (AddsPrefix (K.written sink.old) (K.written sink.new) text.now) }
     ensures faults { K.faults sink.old ≤ K.faults sink.new }
+    ensures quiet { OnOk result (K.faults sink.new ≡ K.faults sink.old) }
     ensures cause { OnErr result (Rose (K.faults sink.old) (K.faults sink.new)) }
 {
     let mut done = 0;

@@ -1,7 +1,8 @@
 //! Where bytes come from.
-ghost use Rattle.std.specs.Prelude.{◌≡◌, ℕ, ◌+◌, ◌<◌, ◌≤◌, ◌↔◌, List, Option, None, [], length, take, IfOk, IfSome, OnErr, IsErrOf, vec_len};
+ghost use Rattle.std.specs.Prelude.{◌≡◌, ℕ, ◌<◌, ◌≤◌, ◌↔◌, List, Option, None, [], length, take, IfOk, IfErr, IfSome, OnOk, OnErr, vec_len};
 ghost use Rattle.io_face.specs.Faults.{Rose};
-ghost use Rattle.io_face.specs.Told.{Takes, TakesAtMost, TakesCount, TakesSome, IsAtEnd};
+ghost use Rattle.io_face.specs.Reads.{CountedBefore, TakenBefore};
+ghost use Rattle.io_face.specs.Told.{Takes, TakesSome, IsAtEnd};
 
 use crate::failed::Failed;
 use std::alloc::{AllocError, Global};
@@ -29,9 +30,11 @@ pub trait Source {
         ensures taken { IfOk result (λ n. Takes (left self.old) (left self.new) (take n buf.new)) }
         ensures end { IfOk result (λ n. IfSome (left self.old) (λ bytes. (n ≡ 0) ↔ (bytes ≡ []))) }
 
-        // A failed read leaves the bytes, and comes only where the count rose.
+        // A failed read leaves the bytes. It comes only where the count rose, and no other read
+        // counts.
         ensures failed { OnErr result (left self.new ≡ left self.old) }
         ensures faults { faults self.old ≤ faults self.new }
+        ensures quiet { OnOk result (faults self.new ≡ faults self.old) }
         ensures cause { OnErr result (Rose (faults self.old) (faults self.new)) };
 }
 
@@ -80,18 +83,16 @@ pub fn read_all<S: Source>(
     ensures end { IfOk result (λ _. IsAtEnd (S.left source.new)) }
     ensures within { IfOk result (λ text. length text ≤ limit) }
 
-    // Too long is exactly where one byte past the limit was taken.
-    ensures too_long { IsErrOf result ReadAllError.TooLong
-        → TakesCount (S.left source.old) (S.left source.new) (limit + 1) }
+    // One byte past the limit was taken where it is too long, and none before any other error.
+    ensures taken { IfErr result
+        (λ error. TakenBefore error limit (S.left source.old) (S.left source.new)) }
     ensures part { OnErr result (TakesSome (S.left source.old) (S.left source.new)) }
 
-    // No byte past the limit was taken before a fault.
-    ensures limited { IsErrOf result ReadAllError.ReadFault
-        → TakesAtMost (S.left source.old) (S.left source.new) limit }
-
+    // The count rose where a read failed, and only there.
     ensures faults { S.faults source.old ≤ S.faults source.new }
-    ensures read_fault { IsErrOf result ReadAllError.ReadFault
-        → Rose (S.faults source.old) (S.faults source.new) }
+    ensures quiet { OnOk result (S.faults source.new ≡ S.faults source.old) }
+    ensures counted { IfErr result
+        (λ error. CountedBefore error (S.faults source.old) (S.faults source.new)) }
 {
     let mut piece = empty_piece(alloc)?;
     let mut text = Bytes::new(alloc);

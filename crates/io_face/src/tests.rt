@@ -1,6 +1,6 @@
 //! Reads and writes through the traits' bounds, with cuts and faults at each place.
 use crate::{
-    Failed, Folder, MemFolder, MemSink, MemSource, ReadAllError, Sink, read_all, write_all,
+    Failed, Folder, MemFolder, MemSink, MemSource, ReadAllError, Sink, Source, read_all, write_all,
 };
 use std::alloc::Global;
 use std::test::Fail;
@@ -25,6 +25,33 @@ impl Sink for OneByOne {
             return Err(Failed);
         }
         self.writes_left -= 1;
+        Ok(1)
+    }
+}
+
+// A source that tells nothing, gives one byte at a time and counts its reads.
+#[derive(Drop)]
+struct CountedReads {
+    bytes_left: u64,
+    failing_read: u64,
+    reads: u64,
+    faults: u64,
+}
+
+impl Source for CountedReads {
+    ghost faults = { λ s. s.faults };
+
+    fn read(&mut self, buf: &mut [u8]) -> Result<usize, Failed> {
+        self.reads = self.reads.saturating_add(1);
+        if self.reads == self.failing_read {
+            self.faults = self.faults.saturating_add(1);
+            return Err(Failed);
+        }
+        if self.bytes_left == 0 {
+            return Ok(0);
+        }
+        self.bytes_left -= 1;
+        buf[0] = b'a';
         Ok(1)
     }
 }
@@ -54,6 +81,36 @@ fn a_source_is_read_to_its_end_or_to_what_stops_it(rt: HostRuntime) -> Result<()
         }
         assert_eq!(rt; source.left().len(), left, "limit {limit}");
         assert_eq!(rt; source.faults() == 1, answer == fault, "limit {limit}");
+    }
+    Ok(())
+}
+
+#[test]
+fn nothing_is_read_behind_the_end_or_an_error(rt: HostRuntime) -> Result<(), Fail> {
+    let too_long = Err(ReadAllError::TooLong);
+    let fault = Err(ReadAllError::ReadFault);
+    let cases: [(u64, u64, usize, Result<usize, ReadAllError>, u64); 7] = [
+        (0, 0, 4, Ok(0), 1),
+        (3, 0, 4, Ok(3), 4),
+        (3, 0, 3, Ok(3), 4),
+        (5, 0, 3, too_long, 4),
+        (1, 0, 0, too_long, 1),
+        (5, 1, 9, fault, 1),
+        (5, 6, 9, fault, 6),
+    ];
+    for (bytes_left, failing_read, limit, answer, reads) in cases {
+        let mut source = CountedReads {
+            bytes_left,
+            failing_read,
+            reads: 0,
+            faults: 0,
+        };
+        let text = read_all(rt.alloc(), &mut source, limit);
+        assert!(rt;
+            text.map(|text| text.as_slice().len()) == answer,
+            "limit {limit}"
+        );
+        assert_eq!(rt; source.reads, reads, "limit {limit}");
     }
     Ok(())
 }

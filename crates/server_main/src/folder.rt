@@ -1,17 +1,22 @@
 //! The folder that the program runs in. A file is written under its name with `.part` added, and
 //! renamed where it is published. The folder tells no bytes, and counts its faults.
-ghost use Rattle.std.specs.Prelude.{◌≡◌, ◌↔◌, ◌<◌, ◌≤◌, None, Some, Ok, Err, IfOk, IfErr, IfSome, OnOk, OnErr, IsErrAnd};
+ghost use Rattle.std.specs.Prelude.{◌≡◌, ◌↔◌, ◌<◌, ◌≤◌, length, None, Some, Ok, Err, IfOk, IfErr, IfSome, OnOk, OnErr, IsErrAnd};
 ghost use Rattle.std.specs.Result.{result_ok};
+ghost use Rattle.std.specs.Io.Buffered.{writer_contents};
+ghost use Rattle.std.specs.Io.KnownBytes.{Keeps, WriteAppends};
 ghost use Rattle.std.specs.IoError.{error_kind};
 ghost use Rattle.io_face.specs.Faults.{Rose};
 ghost use Rattle.std.specs.String.{string_bytes};
 ghost use Rattle.server_main.specs.Folder.{count_after, part_name};
 
+#[cfg(test)]
+mod tests;
+
 use crate::streams::{InputStream, OutputStream};
 use io_face::{Failed, Folder, Sink};
 use std::alloc::{AllocError, Global};
 use std::fs::{Files, OpenFile};
-use std::io::{BufReader, BufWriter, ErrorKind};
+use std::io::{BufReader, BufWriter, ErrorKind, Write};
 use std::{fs, io};
 
 /// The room of an open file's buffer, in bytes.
@@ -30,7 +35,16 @@ pub struct PartFile<R: Files> {
 impl<R: Files> Sink for PartFile<R> {
     ghost faults = { λ part. part.stream.faults };
 
-    fn write(&mut self, piece: &[u8]) -> Result<usize, Failed> {
+    // What the file and its buffer hold, where that is known, grows by just what is told.
+    fn write(&mut self, piece: &[u8]) -> Result<usize, Failed>
+        ensures count { IfOk result (λ n. n ≤ length piece.now) }
+        ensures some { IfOk result (λ n. 0 < length piece.now → 0 < n) }
+        ensures bytes { WriteAppends (writer_contents R.File.contents self.old.stream.writer)
+            (writer_contents R.File.contents self.new.stream.writer) result piece.now }
+        ensures faults { self.old.stream.faults ≤ self.new.stream.faults }
+        ensures quiet { OnOk result (self.new.stream.faults ≡ self.old.stream.faults) }
+        ensures cause { OnErr result (Rose self.old.stream.faults self.new.stream.faults) }
+    {
         self.stream.write(piece)
     }
 }
@@ -59,6 +73,7 @@ impl<R: Files + Drop> CurrentFolder<R> {
     fn count(&mut self, more: u64)
         ensures sum { self.new.faults ≡ count_after self.old.faults more }
         ensures faults { self.old.faults ≤ self.new.faults }
+        ensures quiet { more ≡ 0 → self.new.faults ≡ self.old.faults }
         ensures counted { 0 < more → Rose self.old.faults self.new.faults }
     {
         self.faults = self.faults.saturating_add(more);
@@ -114,9 +129,23 @@ impl<R: Files + Drop> CurrentFolder<R> {
 
     // The bytes are on the disk before the name stands for them.
     fn settle(&self, writer: BufWriter<R::File>, path: &str, name: &str) -> io::Result<()> {
-        let file = writer.into_inner()?;
+        let file = whole_file(writer)?;
         file.sync_all()?;
         fs::rename(&self.rt, path, name)
+    }
+}
+
+// The file, with all that was written to the writer. After an error nothing more is written.
+fn whole_file<W: Write + Drop>(writer: BufWriter<W>) -> io::Result<W>
+    ensures { IfOk result (λ file. Keeps (writer_contents W.contents writer) (W.contents file)) }
+{
+    match writer.into_inner() {
+        Ok(file) => Ok(file),
+        Err(failed) => {
+            let (error, writer) = failed.into_parts();
+            let _parts = writer.into_parts();
+            Err(error)
+        }
     }
 }
 
@@ -186,6 +215,8 @@ impl<R: Files + Drop> Folder for CurrentFolder<R> {
         ensures err { OnErr result
             (self.new.faults ≡ count_after (count_after self.old.faults out.stream.faults) 1) }
         ensures faults { self.old.faults ≤ self.new.faults }
+        ensures quiet { OnOk result
+            (out.stream.faults ≡ 0 → self.new.faults ≡ self.old.faults) }
         ensures cause { OnErr result (Rose self.old.faults self.new.faults) }
     {
         let PartFile { stream, path } = out;
@@ -201,6 +232,7 @@ impl<R: Files + Drop> Folder for CurrentFolder<R> {
     fn close(&mut self, input: Self::In)
         ensures sum { self.new.faults ≡ count_after self.old.faults input.faults }
         ensures faults { self.old.faults ≤ self.new.faults }
+        ensures quiet { input.faults ≡ 0 → self.new.faults ≡ self.old.faults }
         ensures counted { 0 < input.faults → Rose self.old.faults self.new.faults }
     {
         self.count(input.faults());
@@ -220,131 +252,5 @@ impl<R: Files + Drop> Folder for CurrentFolder<R> {
         let _parts = stream.into_writer().into_parts();
         let removed = fs::remove_file(&self.rt, path.as_str());
         let _ = self.told(removed);
-    }
-}
-
-#[cfg(test)]
-mod tests {
-    use super::*;
-    use io_face::{Source, read_all, write_all};
-    use std::os::unix::fs::symlink;
-    use std::test::Fail;
-
-    // Makes an empty folder, in the one that the tests run in.
-    fn begin_in(rt: &(impl Files + Alloc), name: &str) -> io::Result<()> {
-        let _ = fs::remove_dir_all(rt, name);
-        fs::create_dir(rt, name)
-    }
-
-    fn save<F: Folder>(folder: &mut F, name: &str, text: &[u8]) -> Result<(), Failed> {
-        let mut out = folder.create(name)?;
-        match write_all(&mut out, text) {
-            Ok(()) => folder.publish(out, name),
-            Err(failed) => {
-                folder.abandon(out);
-                Err(failed)
-            }
-        }
-    }
-
-    // Whether a file of this name is there and holds just this text.
-    fn has<F: Folder>(alloc: Global, folder: &mut F, name: &str, text: &[u8]) -> bool {
-        let Ok(Some(mut input)) = folder.load(name) else {
-            return false;
-        };
-        let read = read_all(alloc, &mut input, 1 << 20);
-        folder.close(input);
-        read.is_ok_and(|bytes| bytes.as_slice() == text)
-    }
-
-    // Whether no file of this name is there.
-    fn lacks<F: Folder>(folder: &mut F, name: &str) -> bool {
-        match folder.load(name) {
-            Ok(Some(input)) => {
-                folder.close(input);
-                false
-            }
-            Ok(None) => true,
-            Err(Failed) => false,
-        }
-    }
-
-    #[test]
-    fn a_published_file_is_loaded_again(rt: HostRuntime) -> Result<(), Fail> {
-        begin_in(&rt, "published")?;
-        let mut folder = CurrentFolder::new(rt, rt.alloc());
-        let long = vec![in rt.alloc(); b'x'; 3 * ROOM]?;
-        let cases: [(&str, &[u8]); 4] = [
-            ("published/save-1.img", b"saved"),
-            ("published/save-2.img", b""),
-            ("published/save-1.img", b"saved again"),
-            ("published/save-3.img", &long),
-        ];
-        for (name, text) in cases {
-            assert!(rt; save(&mut folder, name, text).is_ok());
-            assert!(rt; has(rt.alloc(), &mut folder, name, text));
-        }
-        for name in ["published/save-1.img.part", "published/save-4.img"] {
-            assert!(rt; lacks(&mut folder, name));
-        }
-        assert_eq!(rt; folder.faults, 0);
-        fs::remove_dir_all(&rt, "published")?;
-        Ok(())
-    }
-
-    #[test]
-    fn an_abandoned_file_leaves_no_name(rt: HostRuntime) -> Result<(), Fail> {
-        begin_in(&rt, "abandoned")?;
-        let mut folder = CurrentFolder::new(rt, rt.alloc());
-        let begun = folder.create("abandoned/save-1.img");
-        assert!(rt; begun.is_ok());
-        if let Ok(mut out) = begun {
-            assert!(rt; write_all(&mut out, b"half").is_ok());
-            folder.abandon(out);
-        }
-        // Only an empty folder is removed so.
-        fs::remove_dir(&rt, "abandoned")?;
-        assert_eq!(rt; folder.faults, 0);
-        Ok(())
-    }
-
-    #[test]
-    fn a_file_that_cannot_be_saved_is_a_counted_fault(rt: HostRuntime) -> Result<(), Fail> {
-        begin_in(&rt, "refused")?;
-        fs::create_dir(&rt, "refused/taken")?;
-        let long = vec![in rt.alloc(); b'x'; 2 * ROOM]?;
-        let cases: [(&str, &[u8]); 5] = [
-            ("missing/save-1.img", b"saved"),
-            ("refused/save-\0.img", b"saved"),
-            ("refused/taken", b"saved"),
-            ("refused/full", b"saved"),
-            ("refused/full", &long),
-        ];
-        for (name, text) in cases {
-            // A device without room, under the name that is written to.
-            let _ = symlink(&rt, "/dev/full", "refused/full.part");
-            let mut folder = CurrentFolder::new(rt, rt.alloc());
-            assert!(rt; save(&mut folder, name, text).is_err());
-            assert_eq!(rt; folder.faults, 1);
-        }
-        fs::remove_dir(&rt, "refused/taken")?;
-        fs::remove_dir(&rt, "refused")?;
-        Ok(())
-    }
-
-    #[test]
-    fn a_folder_under_the_name_is_a_fault_of_the_file(rt: HostRuntime) -> Result<(), Fail> {
-        begin_in(&rt, "folder")?;
-        let mut folder = CurrentFolder::new(rt, rt.alloc());
-        let opened = folder.load("folder");
-        assert!(rt; matches!(opened, Ok(Some(_))));
-        assert_eq!(rt; folder.faults, 0);
-        if let Ok(Some(mut input)) = opened {
-            assert!(rt; input.read(&mut [0; 8]).is_err());
-            folder.close(input);
-        }
-        assert_eq!(rt; folder.faults, 1);
-        fs::remove_dir(&rt, "folder")?;
-        Ok(())
     }
 }

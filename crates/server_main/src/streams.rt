@@ -1,5 +1,5 @@
 //! Readers and writers of std as a source and a sink. They tell no bytes, and count their faults.
-ghost use Rattle.std.specs.Prelude.{◌≡◌, ◌<◌, ◌≤◌, length, IfOk, OnErr};
+ghost use Rattle.std.specs.Prelude.{◌≡◌, ◌<◌, ◌≤◌, length, IfOk, OnOk, OnErr};
 ghost use Rattle.std.specs.Io.KnownBytes.{ReadConsumes, WriteAppends};
 ghost use Rattle.io_face.specs.Faults.{Rose};
 
@@ -40,6 +40,7 @@ impl<R: Read> Source for InputStream<R> {
         ensures bytes { ReadConsumes (R.remaining self.old.reader) (R.remaining self.new.reader)
             result buf.new }
         ensures faults { self.old.faults ≤ self.new.faults }
+        ensures quiet { OnOk result (self.new.faults ≡ self.old.faults) }
         ensures cause { OnErr result (Rose self.old.faults self.new.faults) }
     {
         for _ in 0..TRIES {
@@ -96,6 +97,7 @@ impl<W: Write> Sink for OutputStream<W> {
         ensures bytes { WriteAppends (W.contents self.old.writer) (W.contents self.new.writer)
             result piece.now }
         ensures faults { self.old.faults ≤ self.new.faults }
+        ensures quiet { OnOk result (self.new.faults ≡ self.old.faults) }
         ensures cause { OnErr result (Rose self.old.faults self.new.faults) }
     {
         for _ in 0..TRIES {
@@ -124,18 +126,19 @@ mod tests {
     use std::io;
     use std::test::Fail;
 
-    /// Is interrupted so many times, and then gives and takes this many bytes, or fails.
+    /// Fails so many times in this way, and then gives and takes this many bytes, or fails.
     #[derive(Drop)]
     struct Device {
-        interruptions: u32,
+        errors: u32,
+        kind: ErrorKind,
         count: Option<usize>,
     }
 
     impl Device {
         fn next(&mut self) -> io::Result<usize> {
-            if self.interruptions > 0 {
-                self.interruptions -= 1;
-                return Err(io::Error::from(ErrorKind::Interrupted));
+            if self.errors > 0 {
+                self.errors -= 1;
+                return Err(io::Error::from(self.kind));
             }
             match self.count {
                 Some(count) => Ok(count),
@@ -162,23 +165,29 @@ mod tests {
 
     #[test]
     fn a_broken_device_is_a_counted_fault(rt: HostRuntime) -> Result<(), Fail> {
+        let cut_short = ErrorKind::Interrupted;
         let cases = [
-            (0, Some(3), Ok(3), Ok(3)),
-            (63, Some(3), Ok(3), Ok(3)),
-            (64, Some(3), Err(Failed), Err(Failed)),
-            (0, Some(0), Ok(0), Err(Failed)),
-            (0, None, Err(Failed), Err(Failed)),
-            (1, None, Err(Failed), Err(Failed)),
+            (0, cut_short, Some(3), Ok(3), Ok(3)),
+            (63, cut_short, Some(3), Ok(3), Ok(3)),
+            (64, cut_short, Some(3), Err(Failed), Err(Failed)),
+            (0, cut_short, Some(0), Ok(0), Err(Failed)),
+            (0, cut_short, None, Err(Failed), Err(Failed)),
+            (1, cut_short, None, Err(Failed), Err(Failed)),
+            // Only a call that was cut short is made again.
+            (1, ErrorKind::Other, Some(3), Err(Failed), Err(Failed)),
+            (1, ErrorKind::WouldBlock, Some(3), Err(Failed), Err(Failed)),
         ];
-        for (interruptions, count, read, written) in cases {
+        for (errors, kind, count, read, written) in cases {
             let mut input = InputStream::new(Device {
-                interruptions,
+                errors,
+                kind,
                 count,
             });
             assert!(rt; input.read(&mut [0; 8]) == read);
             assert_eq!(rt; input.faults == 0, read.is_ok());
             let mut output = OutputStream::new(Device {
-                interruptions,
+                errors,
+                kind,
                 count,
             });
             assert!(rt; output.write(b"12345678") == written);

@@ -1,4 +1,4 @@
-use Rattle.std.proofs.Common.{arith, length-drop}
+use Rattle.std.proofs.Common.{◌∙◌, arith, length-drop}
 use Rattle.std.proofs.lemmas.List.{take_rest}
 use Rattle.io_face.proofs.ToldLemmas.{Adds-next}
 use Rattle.io_face.proofs.sink.write_all.Goals as goal
@@ -12,5 +12,5 @@ loop-done-preserved g c =
     record {
       within = omega (arith, length-drop done text, count, c.loop-done-test.true);
       written = Adds-next _ _ _ text done c.in_ok-done.field-0 c.loop-done.invariant.written added;
-      faults = omega (arith, c.loop-done.invariant.faults, c.write.ensures.faults);
+      faults = c.in_ok-done.ensures.quiet ∙ c.loop-done.invariant.faults;
     }

@@ -1,7 +1,7 @@
 use Rattle.std.proofs.Common.{◌≡◌, Some, refl, ap, arith}
 use Rattle.std.specs.Option.{option_map}
 use Rattle.std.specs.FinMap.{from_entries}
-use Rattle.std.proofs.lemmas.Result.{IfOk-weaker, on_err_weaker}
+use Rattle.std.proofs.lemmas.Result.{IfOk-weaker, on_err_weaker, on_ok_weaker}
 use Rattle.io_face.specs.Memory.{text_of}
 use Rattle.io_face.specs.Folder.{Loads}
 use Rattle.io_face.proofs.ShelfLemmas.{text_is_told, same_either_way}
@@ -16,5 +16,6 @@ load-tells c =
       fresh = c.ensures.fresh;
       files = ap (λ es. Some (from_entries es)) (same_either_way c.result (λ s. s.entries) c.ensures.ok c.ensures.err refl);
       faults = c.ensures.faults;
+      quiet = on_ok_weaker c.result (λ e. ap (λ s. s.calls.faults) e) c.ensures.ok;
       cause = on_err_weaker c.result (λ e. let f = ap (λ s. s.calls.faults) e in omega (arith, f)) c.ensures.err;
     }

@@ -1,5 +1,5 @@
 use Rattle.std.proofs.Common.{◌≡◌, ◌<◌, ◌≤◌, ◌++◌, Some, ap, arith, length, take}
-use Rattle.std.proofs.lemmas.Result.{on_err_weaker, IfOk-weaker}
+use Rattle.std.proofs.lemmas.Result.{on_err_weaker, on_ok_weaker, IfOk-weaker}
 use Rattle.io_face.specs.Memory.{after_write}
 use Rattle.io_face.proofs.MemoryLemmas.{IfOk-of_three, write-added}
 use Rattle.io_face.proofs.mem_sink.MemSinkSink.TheImpl.Goals as goal
@@ -15,5 +15,6 @@ write-tells c =
       added = IfOk-of_three c.result (λ n. n ≡ length piece) (λ _. new ≡ after_write old piece) (λ _. new ≡ after_write old piece) (λ n. Some new.written ≡ Some (old.written ++ take n piece)) (λ n size ok _. write-added old new piece n size ok) c.ensures.size c.ensures.ok c.ensures.ok;
       failed = on_err_weaker c.result (λ e. ap (λ s. Some s.written) e) c.ensures.err;
       faults = c.ensures.faults;
+      quiet = on_ok_weaker c.result (λ e. ap (λ s. s.calls.faults) e) c.ensures.ok;
       cause = on_err_weaker c.result (λ e. let f = ap (λ s. s.calls.faults) e in omega (arith, f)) c.ensures.err;
     }

@@ -17,5 +17,6 @@ read-tells c =
       end = IfOk-weaker c.result (λ n. n ≡ read_size old.cuts (length buf) (length old.left)) (λ n. (n ≡ 0) ↔ (old.left ≡ [])) (λ n size. read-end old buf n c.requires size) c.ensures.size;
       failed = on_err_weaker c.result (λ e. ap (λ s. Some s.left) e) c.ensures.err;
       faults = c.ensures.faults;
+      quiet = IfOk-weaker c.result (λ n. new ≡ after_read old n) (λ _. new.calls.faults ≡ old.calls.faults) (λ n e. ap (λ s. s.calls.faults) e) c.ensures.ok;
       cause = on_err_weaker c.result (λ e. let f = ap (λ s. s.calls.faults) e in omega (arith, f)) c.ensures.err;
     }
