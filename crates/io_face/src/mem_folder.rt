@@ -218,7 +218,8 @@ impl Folder for MemFolder {
         ensures found { IfOk result
             (λ found. option_map (λ input. input.left) found ≡ text_of self.old.entries name.now) }
         ensures fresh { IfOk result (λ found. IfSome found (λ input. input.calls.faults ≡ 0)) }
-        ensures loaded { IfOk result (λ found. IfSome found (λ input. IsLoaded self.old.buffer input)) }
+        ensures loaded { IfOk result
+            (λ found. IfSome found (λ input. IsLoaded self.old.buffer input)) }
         ensures ok { OnOk result (self.new ≡ after_load self.old name.now) }
         ensures refused { IsErr result ↔ IsLoadRefused self.old name.now }
         ensures err { OnErr result (self.new ≡ after_refusal self.old) }

@@ -1,5 +1,5 @@
 //! Where bytes come from.
-ghost use Rattle.std.specs.Prelude.{◌≡◌, ℕ, ◌+◌, ◌<◌, ◌≤◌, ◌↔◌, List, Option, None, [], length, take, IfOk, IfErr, IfSome, OnOk, OnErr, vec_len};
+ghost use Rattle.std.specs.Prelude.{◌≡◌, ℕ, ◌<◌, ◌≤◌, ◌↔◌, List, Option, None, [], length, take, IfOk, IfErr, IfSome, OnOk, OnErr, vec_len};
 ghost use Rattle.io_face.specs.Faults.{Rose};
 ghost use Rattle.io_face.specs.Reads.{CountedBefore, TakenBefore};
 ghost use Rattle.io_face.specs.Told.{Takes, TakesSome, IsAtEnd};

@@ -106,7 +106,10 @@ fn nothing_is_read_behind_the_end_or_an_error(rt: HostRuntime) -> Result<(), Fai
             faults: 0,
         };
         let text = read_all(rt.alloc(), &mut source, limit);
-        assert!(rt; text.map(|text| text.as_slice().len()) == answer, "limit {limit}");
+        assert!(rt;
+            text.map(|text| text.as_slice().len()) == answer,
+            "limit {limit}"
+        );
         assert_eq!(rt; source.reads, reads, "limit {limit}");
     }
     Ok(())

@@ -1,12 +1,22 @@
 -- Dealings behind others, and those of one asker.
-use Rattle.std.proofs.Common.{◌≡◌, ◌∙◌, ℕ, zero, suc, ◌+◌, List, [], ◌∷◌, ◌++◌, refl, ap, arith}
+use Rattle.std.proofs.Common.{◌≡◌, ◌∙◌, ℕ, zero, suc, ◌+◌, ◌≤◌, List, [], ◌∷◌, ◌++◌, refl, sym, ap, subst, arith}
 use Rattle.std.specs.Prelude.{Bool, true, false, Option}
 use Rattle.vm_base.specs.declared.frame_request.Asker.{Asker}
 use Rattle.vm_base.specs.declared.frame_request.Asker.TheVariants.{Parent, Snapshot}
 use Rattle.vm_base.specs.Counts.{next_count}
 use Rattle.vm_base.specs.Deals.{Deal, Granted, Denied, Returned}
 use Rattle.kernel_meaning.specs.RefusedRequests.{requests_of, out_after, count_after}
-use Rattle.kernel_meaning.specs.Stretches.{Dealing, By, dealings_of, request_made, requests_among, made_among, out_among, is_same_asker, one_more_if, refused_among, counted_up}
+use Rattle.kernel_meaning.specs.Stretches.{Dealing, By, dealings_of, request_made, requests_among, made_among, out_among, is_same_asker, one_more_if, refused_among, requested_among, CarriesCount, AreCountedAmong, counted_up, IsCountedFrom}
+
+-- ---- one more, where it counts
+
+one_more-append : (b : Bool) (all front back : ℕ) → all ≡ front + back → one_more_if b all ≡ one_more_if b front + back
+one_more-append true all front back same = omega (arith, same)
+one_more-append false all front back same = same
+
+one_more-grows : (b : Bool) (n : ℕ) → n ≤ one_more_if b n
+one_more-grows true n = omega arith
+one_more-grows false n = omega arith
 
 -- ---- behind others
 
@@ -35,11 +45,7 @@ pub refused_among-append : (asker : Asker) (xs ys : List Dealing) → refused_am
 refused_among-append asker [] ys = omega arith
 refused_among-append asker (By other (Granted want) ∷ xs) ys = refused_among-append asker xs ys
 refused_among-append asker (By other (Denied want at) ∷ xs) ys =
-    by (is_same_asker asker other) (refused_among asker (xs ++ ys)) (refused_among asker xs) (refused_among asker ys) (refused_among-append asker xs ys)
-  where
-    by : (b : Bool) (all front back : ℕ) → all ≡ front + back → one_more_if b all ≡ one_more_if b front + back
-    by true all front back same = omega (arith, same)
-    by false all front back same = same
+    one_more-append (is_same_asker asker other) (refused_among asker (xs ++ ys)) (refused_among asker xs) (refused_among asker ys) (refused_among-append asker xs ys)
 refused_among-append asker (By other Returned ∷ xs) ys = refused_among-append asker xs ys
 
 -- a count that rose twice
@@ -50,6 +56,49 @@ counted_up-on zero two count =
 counted_up-on (suc one) two count =
     let more : suc (one + two) ≡ suc one + two = omega arith in
     counted_up-on one two (next_count count) ∙ ap (counted_up count) more
+
+pub requested_among-append : (asker : Asker) (xs ys : List Dealing) → requested_among asker (xs ++ ys) ≡ requested_among asker xs + requested_among asker ys
+requested_among-append asker [] ys = omega arith
+requested_among-append asker (By other (Granted want) ∷ xs) ys =
+    one_more-append (is_same_asker asker other) (requested_among asker (xs ++ ys)) (requested_among asker xs) (requested_among asker ys) (requested_among-append asker xs ys)
+requested_among-append asker (By other (Denied want at) ∷ xs) ys =
+    one_more-append (is_same_asker asker other) (requested_among asker (xs ++ ys)) (requested_among asker xs) (requested_among asker ys) (requested_among-append asker xs ys)
+requested_among-append asker (By other Returned ∷ xs) ys = requested_among-append asker xs ys
+
+-- no more of them are refused than made
+pub refused-requested : (asker : Asker) (xs : List Dealing) → refused_among asker xs ≤ requested_among asker xs
+refused-requested asker [] = omega arith
+refused-requested asker (By other (Granted want) ∷ xs) =
+    let rest : refused_among asker xs ≤ requested_among asker xs = refused-requested asker xs in
+    let more : requested_among asker xs ≤ one_more_if (is_same_asker asker other) (requested_among asker xs) = one_more-grows (is_same_asker asker other) (requested_among asker xs) in
+    omega (arith, rest, more)
+refused-requested asker (By other (Denied want at) ∷ xs) = by (is_same_asker asker other) (refused_among asker xs) (requested_among asker xs) (refused-requested asker xs)
+  where
+    by : (b : Bool) (one two : ℕ) → one ≤ two → one_more_if b one ≤ one_more_if b two
+    by true one two less = omega (arith, less)
+    by false one two less = less
+refused-requested asker (By other Returned ∷ xs) = refused-requested asker xs
+
+-- counted dealings behind counted ones
+pub counted-append : (asker : Asker) (count : ℕ) (xs ys : List Dealing) → AreCountedAmong asker count xs → AreCountedAmong asker (counted_up count (refused_among asker xs)) ys
+    → AreCountedAmong asker count (xs ++ ys)
+counted-append asker count [] ys first second = second
+counted-append asker count (By other (Granted want) ∷ xs) ys first second = counted-append asker count xs ys first second
+counted-append asker count (By other (Denied want at) ∷ xs) ys first second = by (is_same_asker asker other) first second (λ count. counted-append asker count xs ys)
+  where
+    by : (b : Bool) → CarriesCount b count at (λ count. AreCountedAmong asker count xs) → AreCountedAmong asker (counted_up count (one_more_if b (refused_among asker xs))) ys
+        → ((count : ℕ) → AreCountedAmong asker count xs → AreCountedAmong asker (counted_up count (refused_among asker xs)) ys → AreCountedAmong asker count (xs ++ ys))
+        → CarriesCount b count at (λ count. AreCountedAmong asker count (xs ++ ys))
+    by true first second rest = (first.0, rest (next_count count) first.1 second)
+    by false first second rest = rest count first second
+counted-append asker count (By other Returned ∷ xs) ys first second = counted-append asker count xs ys first second
+
+pub counted_from-on : (asker : Asker) (one two three : ℕ) (xs ys : List Dealing) → IsCountedFrom asker one xs two → IsCountedFrom asker two ys three → IsCountedFrom asker one (xs ++ ys) three
+counted_from-on asker one two three xs ys a b = record {
+  told = counted-append asker one xs ys a.told (subst (λ count. AreCountedAmong asker count ys) a.rose b.told);
+  rose = b.rose ∙ ap (λ count. counted_up count (refused_among asker ys)) a.rose ∙ counted_up-on (refused_among asker xs) (refused_among asker ys) one
+      ∙ ap (counted_up one) (sym (refused_among-append asker xs ys));
+}
 
 -- ---- of one asker
 
@@ -81,3 +130,38 @@ refused_among-parent n [] = refl
 refused_among-parent n (Granted want ∷ deals) = refused_among-parent n deals
 refused_among-parent n (Denied want at ∷ deals) = refused_among-parent n deals
 refused_among-parent n (Returned ∷ deals) = refused_among-parent n deals
+
+-- nor does one ask
+pub requested_among-parent : (n : ℕ) (deals : List Deal) → requested_among (Snapshot n) (dealings_of Parent deals) ≡ 0
+requested_among-parent n [] = refl
+requested_among-parent n (Granted want ∷ deals) = requested_among-parent n deals
+requested_among-parent n (Denied want at ∷ deals) = requested_among-parent n deals
+requested_among-parent n (Returned ∷ deals) = requested_among-parent n deals
+
+-- so its count stays
+pub counted-parent : (n count : ℕ) (deals : List Deal) → AreCountedAmong (Snapshot n) count (dealings_of Parent deals)
+counted-parent n count [] = tt
+counted-parent n count (Granted want ∷ deals) = counted-parent n count deals
+counted-parent n count (Denied want at ∷ deals) = counted-parent n count deals
+counted-parent n count (Returned ∷ deals) = counted-parent n count deals
+
+pub stays-counted : (n count : ℕ) (deals : List Deal) → IsCountedFrom (Snapshot n) count (dealings_of Parent deals) count
+stays-counted n count deals = record { told = counted-parent n count deals; rose = ap (counted_up count) (sym (refused_among-parent n deals)) }
+
+-- the count of one that did not ask stays too
+pub unasked : (asker : Asker) (count : ℕ) (xs : List Dealing) → requested_among asker xs ≡ 0 → IsCountedFrom asker count xs count
+unasked asker count [] none = record { told = tt; rose = refl }
+unasked asker count (By other (Granted want) ∷ xs) none =
+    let grows : requested_among asker xs ≤ one_more_if (is_same_asker asker other) (requested_among asker xs) = one_more-grows (is_same_asker asker other) (requested_among asker xs) in
+    let it = unasked asker count xs (omega (arith, none, grows)) in
+    record { told = it.told; rose = it.rose }
+unasked asker count (By other (Denied want at) ∷ xs) none = record {
+  told = (by (is_same_asker asker other) none (unasked asker count xs)).0;
+  rose = (by (is_same_asker asker other) none (unasked asker count xs)).1;
+}
+  where
+    by : (b : Bool) → one_more_if b (requested_among asker xs) ≡ 0 → (requested_among asker xs ≡ 0 → IsCountedFrom asker count xs count)
+        → CarriesCount b count at (λ count. AreCountedAmong asker count xs) × (count ≡ counted_up count (one_more_if b (refused_among asker xs)))
+    by true none rest = absurd (omega (arith, none))
+    by false none rest = ((rest none).told, (rest none).rose)
+unasked asker count (By other Returned ∷ xs) none = let it = unasked asker count xs none in record { told = it.told; rose = it.rose }

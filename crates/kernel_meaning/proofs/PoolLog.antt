@@ -409,3 +409,32 @@ empty_is_one made = record {
 -- a list of entries leaves such an account
 pub pool_log-kept : (made : ℕ) (log : List PoolEntry) → ArePoolEntries made log → IsPoolAccount made (pool_account_of log)
 pool_log-kept made log are = behind made empty_pool_account log (empty_is_one made) are
+
+-- ---- the load
+
+-- a change of the stretches that keeps their amounts keeps the load
+load-stretches : (account : PoolAccount) (test : Stretch → Bool) (change : Stretch → Stretch) → ((it : Stretch) → (change it).amount ≡ it.amount)
+    → load (record account { stretches = changed test change account.stretches }) ≡ load account
+load-stretches account test change same =
+    ap (λ allowed. (account.parent.taken + allowed + account.reaped.taken) - (account.parent.given + account.reaped.given))
+    (changed-sum (λ it. it.amount) test change same account.stretches)
+
+-- of two accounts the one that a test chooses
+chosen : (b : Bool) (x y : PoolAccount) (n : ℕ) → b ≡ false → load y ≡ n → load (cond b x y) ≡ n
+chosen true x y n apart there = absurd (true≢false apart)
+chosen false x y n apart there = there
+
+other_seat : (seat : ℕ) → (seat ≡ 0 → ⊥) → (seat == 0) ≡ false
+other_seat seat apart = grind (arith, apart)
+
+-- only an entry of the parent changes the load
+pub other-load : (made : ℕ) (account : PoolAccount) (act : PoolAct) (seat : ℕ) → MayStandIn made account act seat → (seat ≡ 0 → ⊥) → load (pool_act act seat account) ≡ load account
+other-load made account (Take want answer) seat may apart =
+    chosen (seat == 0) _ _ (load account) (other_seat seat apart)
+    (load-stretches account (λ it. it.seat == seat) (λ it. record it { traffic = with_take answer it.traffic }) (λ it. refl))
+other-load made account Give seat may apart =
+    chosen (seat == 0) _ _ (load account) (other_seat seat apart)
+    (load-stretches account (λ it. it.seat == seat) (λ it. record it { traffic = with_give it.traffic }) (λ it. refl))
+other-load made account (Allow n other amount) seat may apart = absurd (apart may.0)
+other-load made account (Parted n) seat may apart = load-stretches account (λ it. it.seat == seat) (λ it. record it { has_parted = true }) (λ it. refl)
+other-load made account (Reaped n) seat may apart = absurd (apart may.0)

@@ -1,5 +1,5 @@
 -- What several askers asked for and gave back, one after another, between two moments, and how far that raised their counts.
-use Rattle.std.specs.Prelude.{ℕ, zero, suc, ◌+◌, ◌-◌, ◌==◌, Bool, true, false, List, [], ◌∷◌, map, Option}
+use Rattle.std.specs.Prelude.{◌≡◌, ℕ, zero, suc, ◌+◌, ◌-◌, ◌==◌, Bool, true, false, List, [], ◌∷◌, map, Option}
 use Rattle.vm_base.specs.declared.frame_request.Want.{Want}
 use Rattle.vm_base.specs.declared.frame_request.Asker.{Asker}
 use Rattle.vm_base.specs.declared.frame_request.Asker.TheVariants.{Parent, Snapshot}
@@ -70,7 +70,34 @@ refused_among asker (By other (Denied want at) ∷ dealings) =
     one_more_if (is_same_asker asker other) (refused_among asker dealings)
 refused_among asker (By other Returned ∷ dealings) = refused_among asker dealings
 
+-- how many requests of an asker are among dealings
+abbrev pub requested_among : Asker → List Dealing → ℕ
+requested_among asker [] = 0
+requested_among asker (By other (Granted want) ∷ dealings) =
+    one_more_if (is_same_asker asker other) (requested_among asker dealings)
+requested_among asker (By other (Denied want at) ∷ dealings) =
+    one_more_if (is_same_asker asker other) (requested_among asker dealings)
+requested_among asker (By other Returned ∷ dealings) = requested_among asker dealings
+
+-- a refusal that counts carries the count behind it, and the rest goes on from there
+abbrev pub CarriesCount : Bool → ℕ → ℕ → (ℕ → Type 0) → Type 0
+CarriesCount true count at Rest = (at ≡ next_count count) × Rest (next_count count)
+CarriesCount false count at Rest = Rest count
+
+-- each refusal of an asker among dealings carries its count, which had this value before
+abbrev pub AreCountedAmong : Asker → ℕ → List Dealing → Type 0
+AreCountedAmong asker count [] = Unit {0}
+AreCountedAmong asker count (By other (Granted want) ∷ dealings) = AreCountedAmong asker count dealings
+AreCountedAmong asker count (By other (Denied want at) ∷ dealings) =
+    CarriesCount (is_same_asker asker other) count at (λ count. AreCountedAmong asker count dealings)
+AreCountedAmong asker count (By other Returned ∷ dealings) = AreCountedAmong asker count dealings
+
 -- a count behind so many further refusals
 abbrev pub counted_up : ℕ → ℕ → ℕ
 counted_up count zero = count
 counted_up count (suc n) = counted_up (next_count count) n
+
+-- an asker's count went from one value to another by its refused requests among dealings, each of which carries it
+pub record IsCountedFrom (asker : Asker) (before : ℕ) (dealings : List Dealing) (behind : ℕ) : Type 0 where
+  pub told : AreCountedAmong asker before dealings
+  pub rose : behind ≡ counted_up before (refused_among asker dealings)

@@ -1,10 +1,10 @@
 //! Laws of the definitions, for whatever cells, pages and answers.
-ghost use Rattle.std.specs.Prelude.{◌≡◌, ℕ, ◌+◌, sum_by, IsSome, List};
+ghost use Rattle.std.specs.Prelude.{◌≡◌, ◌≢◌, ℕ, ◌+◌, sum_by, IsSome, List};
 ghost use Rattle.vm_base.specs.Places.{directory_frames};
 ghost use Rattle.kernel_meaning.specs.Leaves.{share, version_at, AreRising};
 ghost use Rattle.kernel_meaning.specs.CellActs.{Course, touched};
 ghost use Rattle.kernel_meaning.specs.CellAccount.{CellEntry, account_of, AreEntries};
-ghost use Rattle.kernel_meaning.specs.PoolAccount.{PoolEntry, pool_account_of, ArePoolEntries, IsPoolAccount};
+ghost use Rattle.kernel_meaning.specs.PoolAccount.{PoolAct, PoolEntry, PoolAccount, pool_act, pool_account_of, load, MayStandIn, ArePoolEntries, IsPoolAccount};
 ghost use Rattle.kernel_meaning.specs.FrameLaw.{Leaves, held_frames, parent_cells, snapshot_tables};
 
 /// The frames that are out are the directories of both sides and the share of each cell.
@@ -28,4 +28,10 @@ pub fn a_cell_log_keeps_each_number_once()
 /// the load; each number is open and each seat in a stretch at most once.
 pub fn a_pool_log_keeps_its_account()
     ensures { (made : ℕ) (log : List PoolEntry) → ArePoolEntries made log → IsPoolAccount made (pool_account_of log) }
+{}
+
+/// Only an act of the parent's seat, which is number 0, changes the load.
+pub fn the_parent_alone_changes_the_load()
+    ensures { (made : ℕ) (account : PoolAccount) (act : PoolAct) (seat : ℕ) →
+        MayStandIn made account act seat → seat ≢ 0 → load (pool_act act seat account) ≡ load account }
 {}

@@ -15,5 +15,5 @@ mod laws;
 pub use forced::is_forced;
 pub use laws::{
     a_cell_log_keeps_each_number_once, a_pool_log_keeps_its_account, a_present_page_is_touched,
-    frames_lie_in_directories_and_cells,
+    frames_lie_in_directories_and_cells, the_parent_alone_changes_the_load,
 };

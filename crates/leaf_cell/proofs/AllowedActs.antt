@@ -1,5 +1,5 @@
 -- What the leaves of a cell allow, those of each account that it stands for allow too.
-use Rattle.std.proofs.Common.{◌≡◌, ℕ, List, Option, Some, None, refl, sym, ◌∙◌, ap, subst}
+use Rattle.std.proofs.Common.{◌≡◌, ℕ, Option, Some, None, refl, sym, ◌∙◌, ap, subst}
 use Rattle.std.specs.Prelude.{IsSome}
 use Rattle.std.specs.Option.{option_map}
 use Rattle.kernel_meaning.specs.Leaves.{version_at, is_joined, IsAlone}

@@ -118,7 +118,7 @@ true_is_false : (b : Bool) → b ≡ false → b ≡ true → ⊥
 true_is_false b is_false is_true = grind arith
 
 -- a frame was granted
-judges-granted : (named : Option ℕ) (made : ℕ) (want : Want) (old new : SupplyState) → old.pending ≡ pending_of named made → IsGranted old new
+judges-granted : (named : Option ℕ) (made : ℕ) (want : Want) (old new : SupplyState) → old.pending ≡ pending_of named made → IsGranted want old new
     → Judges old.made (request_of old.asker named made old.out want false) old.policies new.policies
 judges-granted named made want old new pends granted =
     let unnamed = line_names named made old.pending false pends granted.unnamed in
@@ -158,14 +158,14 @@ judges-denied frames request old new refused unforced denied =
     }
 
 judges-by_cause : (named : Option ℕ) (made : ℕ) (want : Want) (old new : SupplyState) → old.pending ≡ pending_of named made
-    → IsNamed old new ⊎ (IsSpent old new ⊎ IsByPolicy old new)
+    → IsNamed old new ⊎ (IsSpent old new ⊎ IsByPolicy want old new)
     → Judges old.made (request_of old.asker named made old.out want true) old.policies new.policies
 judges-by_cause named made want old new pends (inl cause) =
     let is_named = line_names named made old.pending true pends cause.named in
-    judges-forced old.made _ old.policies new.policies refl (grind (arith, is_named)) cause.unasked
+    judges-forced old.made _ old.policies new.policies refl (grind (arith, is_named)) cause.unasked.policies
 judges-by_cause named made want old new pends (inr (inl cause)) =
     let spent : (old.out == old.made) ≡ true = grind (arith, cause.none_free) in
-    judges-forced old.made _ old.policies new.policies refl (ap (λ b. b || holds_number named (made + 1)) spent) cause.unasked
+    judges-forced old.made _ old.policies new.policies refl (ap (λ b. b || holds_number named (made + 1)) spent) cause.unasked.policies
 judges-by_cause named made want old new pends (inr (inr cause)) =
     let unnamed = line_names named made old.pending false pends cause.unnamed in
     judges-denied old.made _ old.policies new.policies refl (unforced old.made old.out _ cause.some_free unnamed) cause.policies
@@ -206,8 +206,8 @@ lead_on [] opening named made requests from to pends before same =
     })
 lead_on (Granted want ∷ deals) opening named made requests from to pends before along =
     let next : SupplyState = along.0 in
-    let granted : IsGranted from next = along.1.0 in
-    let mid : SupplyState = record from { out = from.out + 1; pending = pending_behind from.pending; policies = next.policies } in
+    let granted : IsGranted want from next = along.1.0 in
+    let mid : SupplyState = record from { out = from.out + 1; pending = pending_behind from.pending; asks = next_count from.asks; listed = next.listed; policies = next.policies } in
     let request = request_of from.asker named made from.out want false in
     let rest = lead_on deals opening named (made + 1) (requests ++ request ∷ []) mid to
     (ap pending_behind pends ∙ pending_of-more named made)
@@ -224,8 +224,8 @@ lead_on (Granted want ∷ deals) opening named made requests from to pends befor
     }
 lead_on (Denied want at ∷ deals) opening named made requests from to pends before along =
     let next : SupplyState = along.0 in
-    let refused : IsRefused at from next = along.1.0 in
-    let mid : SupplyState = record from { refused = next_count from.refused; pending = pending_behind from.pending; policies = next.policies } in
+    let refused : IsRefused want at from next = along.1.0 in
+    let mid : SupplyState = record from { refused = next_count from.refused; pending = pending_behind from.pending; asks = next.asks; listed = next.listed; policies = next.policies } in
     let request = request_of from.asker named made from.out want true in
     let rest = lead_on deals opening named (made + 1) (requests ++ request ∷ []) mid to
     (ap pending_behind pends ∙ pending_of-more named made)

@@ -248,10 +248,11 @@ AreChildren-prop children a b = λ i. record {
   few = le_prop a.few b.few i;
   last = le_prop a.last b.last i;
   given = λ k d within. ×_prop le_prop le_prop (a.given k d within) (b.given k d within) i;
+  once = Coded-set (coded_list coded_ℕ) _ _ a.once b.once i;
 }
 
 pub ForkFails-prop : (children : Children) (old new : MemoryState) (fault : ForkFault) → IsProp (ForkFails children old new fault)
-ForkFails-prop children old new (FrameLacking at) = ×₃_prop (MayFork-prop children) le_prop (number-prop _ _)
+ForkFails-prop children old new (FrameLacking at) = ×₃_prop (MayFork-prop children) (number-prop _ _) (number-prop _ _)
 ForkFails-prop children old new TooMany = ×_prop (number-prop _ _) (state-prop new old)
 ForkFails-prop children old new NumbersSpent = ×₃_prop (number-prop _ _) le_prop (state-prop new old)
 

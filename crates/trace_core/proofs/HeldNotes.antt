@@ -19,7 +19,8 @@ use Rattle.vm_base.specs.MemoryState.{IsListed, own_of}
 use Rattle.kernel_meaning.specs.Requests.{Answer, answers_of}
 use Rattle.kernel_meaning.specs.Leaves.{Kept, kept_by, loss_at}
 use Rattle.kernel_meaning.specs.FrameLaw.{cell_at}
-use Rattle.kernel_meaning.specs.RefusedRequests.{PolicySum, count_after}
+use Rattle.frame_pool.specs.Policies.{PolicyView}
+use Rattle.kernel_meaning.specs.RefusedRequests.{count_after}
 use Rattle.trace_events.specs.declared.outcome.Outcome.{Outcome}
 use Rattle.trace_events.specs.declared.outcome.Outcome.TheVariants.{Done, Bytes, Held, AreaRow, Copied, Nothing, Refused, Lost, NoArea, NoWrite, Overlap, AreasFull, CellsFull, NoFrame, TooMany, NoSnap}
 use Rattle.page_tables.specs.declared.tables.PageTables.{PageTables}
@@ -271,9 +272,9 @@ store-holds old new notes addr bytes known stored others fits holds = ∥∥₁_
 -- ---- under other policies
 
 -- what is noted holds whatever the policies of the pool are
-pub holds-under : (parts : KernelParts) (notes : KernelNotes) (policies : PolicySum) → NotesHold parts notes → NotesHold (under parts policies) notes
-holds-under parts notes policies holds = record { cells = holds.cells; born = holds.born; since = holds.since; own = holds.own; enough = holds.enough }
+pub holds-under : (parts : KernelParts) (notes : KernelNotes) (listed : List PolicyView) → NotesHold parts notes → NotesHold (under parts listed) notes
+holds-under parts notes listed holds = record { cells = holds.cells; born = holds.born; since = holds.since; own = holds.own; enough = holds.enough }
 
 -- and under those that they were
-pub under-holds : (parts : KernelParts) (notes : KernelNotes) (policies : PolicySum) → NotesHold (under parts policies) notes → NotesHold parts notes
-under-holds parts notes policies holds = record { cells = holds.cells; born = holds.born; since = holds.since; own = holds.own; enough = holds.enough }
+pub under-holds : (parts : KernelParts) (notes : KernelNotes) (listed : List PolicyView) → NotesHold (under parts listed) notes → NotesHold parts notes
+under-holds parts notes listed holds = record { cells = holds.cells; born = holds.born; since = holds.since; own = holds.own; enough = holds.enough }

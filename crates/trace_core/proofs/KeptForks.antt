@@ -168,7 +168,7 @@ module _ (old new : KernelParts) (machine : Machine) (state : KernelState) (n : 
 
   -- one that lacks a frame counts it, and tells the count
   pub unforked-count : (most later at : ℕ) → EventRan old new machine (λ answers. fork_end machine state answers n mode) (NoFrame at)
-      → Rose (memory_of old most).refused (memory_of new later).refused × (at ≡ (memory_of new later).refused)
+      → ((memory_of new later).refused ≡ next_count (memory_of old most).refused) × (at ≡ (memory_of new later).refused)
   unforked-count most later at ran =
       let progress : Progress = snapshot_forked n mode (begun state (answers_of ran.deals)) in
       let led = led-counts old.supply new.supply ran.deals ran.led in
@@ -176,7 +176,7 @@ module _ (old new : KernelParts) (machine : Machine) (state : KernelState) (n : 
       lacking-counts state n ran.deals ran.after at (nat_le machine.limit (len state.world.snapshots)) progress.refused progress old.supply.refused
       (fork-counts n mode state (answers_of ran.deals) old.supply.refused) ran.ends in
       let rose : new.supply.refused ≡ next_count old.supply.refused = led.0 ∙ counts.0 in
-      (subst (λ count. next_count old.supply.refused ≤ count) (sym rose) (le_refl (next_count old.supply.refused)), counts.1 led.1 ∙ sym rose)
+      (rose, counts.1 led.1 ∙ sym rose)
 
 -- a drop leaves the count
 pub drop-count : (old new : KernelParts) (machine : Machine) (state : KernelState) (n : ℕ) (outcome : Outcome) (most later : ℕ) → EventRan old new machine (λ answers. drop_end state answers n) outcome

@@ -1,10 +1,11 @@
 -- A fork and a reap of the kernel do what clauses know of a process, whatever state it stands for.
 use Rattle.std.proofs.Common.{◌≡◌, ℕ, ◌+◌, ◌<◌, ◌≤◌, ◌^◌, List, [], ◌∷◌, ◌++◌, length, Option, Some, None, Result, Ok, Err, refl, sym, ◌∙◌, ap, subst, arith, inl, inr}
-use Rattle.std.specs.Prelude.{◌-◌, ◌||◌, false, IsTrue, ◌==◌, OnOk, IfOk, OnErr, IfErr}
+use Rattle.std.specs.Prelude.{◌-◌, ◌||◌, false, is_some, IsTrue, ◌==◌, OnOk, IfOk, OnErr, IfErr}
 use Rattle.std.specs.Option.{ForSome, IfSome}
 use Rattle.std.specs.Coded.{×_prop, le_prop}
 use Rattle.std.specs.Ordering.{nat_cmp}
-use Rattle.std.specs.FinMap.{len, len-empty}
+use Rattle.std.specs.FinMap.{get, len, len-empty}
+use Rattle.trace_core.specs.TablesSeen.{lost_in}
 use Rattle.std.specs.List.{list_any}
 use Rattle.std.proofs.lemmas.Bool.{false≢true, cases_eq, ne_eqb}
 use Rattle.std.proofs.Math.Logic.{∥∥₁_elim, ∥∥₁_map}
@@ -251,8 +252,8 @@ module _ (old new : KernelParts) (notes later : KernelNotes) (n : ℕ) (known : 
         (λ i. kept_in (same i).snapshot (kept.0 i), ap Some kept.1))
 
     -- no number is used again, and what is told of a child that lives goes on: where one is forked none lived
-    pub fork-children : IsNext old n → KeepsChildren old notes new later
-    fork-children next = by-forked (λ a. KeepsChildren old notes new later)
+    pub fork-children : IsNext old n → old.supply.refused ≤ new.supply.refused → KeepsChildren old notes new later
+    fork-children next risen = by-forked (λ a. KeepsChildren old notes new later)
         (λ its. forked-only
         (∥∥₁_elim known le_prop (λ it. (forked-may old new it.0 it.1.0 it.1.1.stands n Eager (its.ran it.0 it.1.0 it.1.1.stands) (next-below old n next)).place))
         (∥∥₁_elim known (children-prop (children_in new) (after_fork (children_in old))) (λ it. forked-children old new it.0 it.1.0 it.1.1.stands n Eager (its.ran it.0 it.1.0 it.1.1.stands) next.1)))
@@ -270,6 +271,8 @@ module _ (old new : KernelParts) (notes later : KernelNotes) (n : ℕ) (known : 
               last = omega (arith, last);
               lived = λ k old-one listed. absurd (none k old-one listed);
               goes_on = λ k old-one listed. absurd (none k old-one listed);
+              counted = risen;
+              lost = λ k old-one listed. absurd (none k old-one listed);
             }
           where
             above : (k : ℕ) → k ≤ old.last → old.last + 1 ≡ k → ⊥
@@ -284,6 +287,8 @@ module _ (old new : KernelParts) (notes later : KernelNotes) (n : ℕ) (known : 
               last = omega (arith, last);
               lived = λ k old-one listed. absurd (none k listed);
               goes_on = λ k old-one listed. absurd (none k listed);
+              counted = risen;
+              lost = λ k old-one listed. absurd (none k listed);
             }
 
         full-only : new ≡ old → later.forked ≡ notes.forked → KeepsChildren old notes new later
@@ -293,6 +298,9 @@ module _ (old new : KernelParts) (notes later : KernelNotes) (n : ℕ) (known : 
               last = omega (arith, last);
               lived = λ k old-one listed. subst (λ parts. IsListed k (live_numbers parts.snapshot)) same listed;
               goes_on = λ k old-one listed. subst (GoesOn (nest_of old notes k)) (λ i. nest_of (sym same i) (record notes { forked = sym forked i }) k) (goes_on-none (nest_of old notes k));
+              counted = risen;
+              lost = λ k old-one listed c at before there.
+                  absurd (false≢true (ap is_some (sym before ∙ ap (λ (parts : KernelParts). get (lost_in k parts.tables.slots.items) c) (sym same) ∙ there)));
             }
 
     -- ---- the kernel behind it
@@ -365,13 +373,15 @@ module _ (old new : KernelParts) (notes : KernelNotes) (n : ℕ) (known : ∥ Is
         absurd (none-there new.snapshot k (omega (arith, fewer, few-live old.snapshot)) listed)
 
     -- no number is used again, and no child lives of which more could be told
-    pub drop-children : KeepsChildren old notes new notes
-    drop-children =
+    pub drop-children : old.supply.refused ≤ new.supply.refused → KeepsChildren old notes new notes
+    drop-children risen =
         let last : new.last ≡ old.last = drop-reaps.last in
         record {
           last = omega (arith, last);
           lived = λ k old-one listed. drop-unlisted k listed;
           goes_on = λ k old-one listed. drop-unlisted k listed;
+          counted = risen;
+          lost = λ k old-one listed. drop-unlisted k listed;
         }
 
     -- its number is one that was given out

@@ -111,6 +111,10 @@ module _ (parts : KernelParts) (notes : KernelNotes) (machine : Machine) (state 
   few-live None = omega arith
   few-live (Some kept) = omega arith
 
+  one-alone : (snapshot : Option SnapshotAreas) → distinct (live_numbers snapshot) ≡ live_numbers snapshot
+  one-alone None = refl
+  one-alone (Some kept) = refl
+
   -- the children of a sound kernel
   pub sound-children : parts.last ≤ 4294967295 → AreChildren (children_of parts.snapshot parts.last)
   sound-children last = record {
@@ -118,6 +122,7 @@ module _ (parts : KernelParts) (notes : KernelNotes) (machine : Machine) (state 
     few = few-live parts.snapshot;
     last = last;
     given = all-given parts.snapshot refl;
+    once = one-alone parts.snapshot;
   }
 
 -- ---- a fork

@@ -26,7 +26,7 @@ use Rattle.trace_core.specs.EventMeaning.{EventEnd, begun, fork_answered, event_
 use Rattle.trace_core.specs.KernelStanding.{KernelParts, IsKernel, kept_memories, sides_of}
 use Rattle.trace_core.specs.KernelRun.{Ran, EventFollows}
 use Rattle.trace_core.specs.KernelSeen.{KernelNotes, IsSound, IsKernelNoted, pages_of, AreForkedFrom, most_behind, is_new_fork, IsNoted}
-use Rattle.kernel_meaning.specs.RefusedRequests.{PolicySum}
+use Rattle.frame_pool.specs.Policies.{PolicyView}
 use Rattle.trace_core.proofs.OneSnapshot.{lives-len}
 use Rattle.trace_core.proofs.Stood.{under, stands-under}
 use Rattle.trace_core.proofs.SoundEvents.{event-flat, event-own, event-kept}
@@ -142,13 +142,13 @@ pub known-noted : (parts : KernelParts) (notes : KernelNotes) → ∥ IsKernelNo
 known-noted parts notes known = ∥∥₁_map known (λ it. (it.0, (it.1.0, it.1.1.stands)))
 
 -- it is sound whatever the policies of its pool are
-pub noted-under : (parts : KernelParts) (notes : KernelNotes) (policies : PolicySum) → ∥ IsKernelNoted parts notes ∥₁ → ∥ IsKernelNoted (under parts policies) notes ∥₁
-noted-under parts notes policies known = ∥∥₁_map known (λ it. (
+pub noted-under : (parts : KernelParts) (notes : KernelNotes) (listed : List PolicyView) → ∥ IsKernelNoted parts notes ∥₁ → ∥ IsKernelNoted (under parts listed) notes ∥₁
+noted-under parts notes listed known = ∥∥₁_map known (λ it. (
   it.0,
   (
     it.1.0,
     record {
-      stands = stands-under parts policies it.0 it.1.0 it.1.1.stands;
+      stands = stands-under parts listed it.0 it.1.0 it.1.1.stands;
       flat = it.1.1.flat;
       own = it.1.1.own;
       forked = it.1.1.forked;

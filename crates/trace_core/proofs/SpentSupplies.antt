@@ -14,13 +14,13 @@ pub record IsPlain (supply : SupplyState) : Type 0 where
   pub unasked : IsTrue supply.policies.is_empty
 
 -- what a refusal of such a supply is: all frames are out, and it stays such a supply
-refused-plain : (from next : SupplyState) (at : ℕ) → IsPlain from → IsRefused at from next → (from.out ≡ from.made) × IsPlain next
-refused-plain from next at plain refused =
+refused-plain : (want : Want) (from next : SupplyState) (at : ℕ) → IsPlain from → IsRefused want at from next → (from.out ≡ from.made) × IsPlain next
+refused-plain want from next at plain refused =
     let pending : next.pending ≡ None = ap (λ supply. supply.pending) refused.is ∙ ap pending_behind plain.unnamed in
     elim refused.cause [
       | inl named ↦ absurd (false≢true (sym (ap is_next plain.unnamed) ∙ named.named))
       | inr unnamed ↦ elim unnamed [
-        | inl spent ↦ (spent.none_free, record { unnamed = pending; unasked = subst (λ policies. IsTrue policies.is_empty) (sym spent.unasked) plain.unasked })
+        | inl spent ↦ (spent.none_free, record { unnamed = pending; unasked = subst (λ policies. IsTrue policies.is_empty) (sym spent.unasked.policies) plain.unasked })
         | inr denied ↦ absurd (false≢true (sym denied.policies.some ∙ plain.unasked))
       ]
     ]
@@ -30,7 +30,7 @@ goes-plain from next (Granted want) plain goes = record {
   unnamed = ap (λ supply. supply.pending) goes.is ∙ ap pending_behind plain.unnamed;
   unasked = goes.policies.is_empty plain.unasked;
 }
-goes-plain from next (Denied want at) plain goes = (refused-plain from next at plain goes).1
+goes-plain from next (Denied want at) plain goes = (refused-plain want from next at plain goes).1
 goes-plain from next Returned plain goes = record {
   unnamed = ap (λ supply. supply.pending) goes.is ∙ plain.unnamed;
   unasked = subst (λ supply. IsTrue supply.policies.is_empty) (sym goes.is) plain.unasked;
@@ -49,7 +49,7 @@ goes-out from next Returned rest goes = (ap (λ out. out_after out rest) (sym (a
 
 spent-behind : (from to : SupplyState) (front : List Deal) (want : Want) (at : ℕ) (back : List Deal) → IsPlain from
     → LeadsAlong SupplyGoes from (front ++ Denied want at ∷ back) to → out_after from.out front ≡ from.made
-spent-behind from to [] want at back plain led = (refused-plain from led.0 at plain led.1.0).0
+spent-behind from to [] want at back plain led = (refused-plain want from led.0 at plain led.1.0).0
 spent-behind from to (deal ∷ front) want at back plain led =
     let one : (out_after from.out (deal ∷ front) ≡ out_after led.0.out front) × (led.0.made ≡ from.made) = goes-out from led.0 deal front led.1.0 in
     one.0 ∙ spent-behind led.0 to front want at back (goes-plain from led.0 deal plain led.1.0) led.1.1 ∙ one.1

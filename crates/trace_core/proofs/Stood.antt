@@ -1,18 +1,19 @@
 -- A kernel goes on to stand for the state of a run, whatever the policies of its pool are.
-use Rattle.std.proofs.Common.{◌≡◌, sym, subst}
+use Rattle.std.proofs.Common.{◌≡◌, List, sym, subst}
 use Rattle.std.specs.Prelude.{Result, Ok, Err, IfOk, OnErr}
 use Rattle.std.proofs.Math.Logic.{∥∥₁_map}
-use Rattle.kernel_meaning.specs.RefusedRequests.{PolicySum}
+use Rattle.frame_pool.specs.Policies.{PolicyView}
 use Rattle.trace_events.specs.declared.event.Event.{Event}
 use Rattle.trace_events.specs.declared.outcome.Outcome.{Outcome}
+use Rattle.trace_core.specs.SupplyState.{policy_sum}
 use Rattle.trace_core.specs.KernelState.{Machine, KernelState}
 use Rattle.trace_core.specs.KernelStanding.{KernelParts, KernelStands, IsKernel}
 use Rattle.trace_core.specs.KernelRun.{Ran}
 
-module _ (parts : KernelParts) (policies : PolicySum) where
+module _ (parts : KernelParts) (listed : List PolicyView) where
   -- the same parts under other policies
   abbrev pub under : KernelParts
-  under = record parts { supply = record parts.supply { policies = policies } }
+  under = record parts { supply = record parts.supply { listed = listed; policies = policy_sum listed } }
 
   pub stands-under : (machine : Machine) (state : KernelState) → KernelStands parts machine state → KernelStands under machine state
   stands-under machine state st = record {

@@ -9,6 +9,7 @@ use Rattle.kernel_meaning.specs.FrameLaw.{held_frames}
 use Rattle.kernel_meaning.specs.RefusedRequests.{Request, requests_of, count_after, PolicySum}
 use Rattle.trace_events.specs.declared.event.Event.{Event}
 use Rattle.trace_events.specs.declared.event.Event.TheVariants.{Copy}
+use Rattle.frame_pool.specs.Policies.{PolicyView}
 use Rattle.trace_core.specs.SupplyState.{SupplyState, SupplyGoes, opening_supply}
 use Rattle.trace_core.specs.Answering.{AreCounted, made_after, pending_of, HaveLed, LeadOn}
 use Rattle.trace_core.specs.KernelState.{Machine, KernelState, opening_state}
@@ -31,8 +32,8 @@ same_requests : (one other : Asker) (named : Option ℕ) (made : ℕ) (out held 
 same_requests one other named made out held deals asker same = λ i. requests_of (asker i) named made (same i) deals
 
 -- a run begins with all frames there
-pub supplied-opening : (machine : Machine) (last : ℕ) (policies : PolicySum) → IsSupplied machine (opening_state last) (opening_supply machine.frames policies)
-supplied-opening machine last policies = record { frames = refl; held = refl; asker = refl; refused = refl; pending = refl }
+pub supplied-opening : (machine : Machine) (last : ℕ) (listed : List PolicyView) → IsSupplied machine (opening_state last) (opening_supply machine.frames listed)
+supplied-opening machine last listed = record { frames = refl; held = refl; asker = refl; refused = refl; pending = refl }
 
 -- an end of an event of the parent that has counted its deals
 pub supplied-end : (machine : Machine) (state : KernelState) (end : EventEnd) (deals : List Deal) (from to : SupplyState)

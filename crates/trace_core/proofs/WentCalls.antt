@@ -1,6 +1,6 @@
 -- What each call makes of a kernel: no number is used again, what is told of a snapshot that lives goes on, and each request was answered as it may be.
-use Rattle.std.proofs.Common.{◌≡◌, ◌⊎◌, ℕ, ◌+◌, ◌<◌, ◌≤◌, ◌^◌, List, [], ◌∷◌, ◌++◌, length, Option, Some, None, Result, Ok, Err, refl, sym, ◌∙◌, ap, subst, arith}
-use Rattle.std.specs.Prelude.{false, ◌==◌, IsTrue}
+use Rattle.std.proofs.Common.{◌≡◌, ◌⊎◌, inl, inr, ℕ, ◌+◌, ◌-◌, ◌<◌, ◌≤◌, ◌^◌, List, [], ◌∷◌, ◌++◌, length, Option, Some, None, Result, Ok, Err, refl, sym, ◌∙◌, ap, subst, arith}
+use Rattle.std.specs.Prelude.{false, ◌==◌, IsTrue, is_some}
 use Rattle.std.specs.FinMap.{get}
 use Rattle.std.proofs.lemmas.Bool.{false≢true}
 use Rattle.std.proofs.lemmas.List.{append-nil}
@@ -9,7 +9,7 @@ use Rattle.vm_base.specs.declared.fork_mode.Mode.TheVariants.{Eager}
 use Rattle.vm_base.specs.declared.permission.Perm.{Perm}
 use Rattle.vm_base.specs.declared.faults.Fault.{Fault}
 use Rattle.vm_base.specs.declared.frame_request.Asker.TheVariants.{Parent, Snapshot}
-use Rattle.vm_base.specs.Deals.{Deal, Granted, Denied, Returned}
+use Rattle.vm_base.specs.Deals.{Deal, Granted, Denied, Returned, LeadsAlong}
 use Rattle.vm_base.specs.FlatStep.{touch_of, map_of, unmap_of, protect_of}
 use Rattle.vm_base.specs.MemoryState.{IsListed}
 use Rattle.vm_base.specs.SnapshotState.{GoesOn}
@@ -17,28 +17,34 @@ use Rattle.kernel_meaning.specs.Requests.{Answer, answers_of}
 use Rattle.kernel_meaning.specs.FrameLaw.{held_frames}
 use Rattle.kernel_meaning.specs.EventRequests.{pages_unmapped, pages_protected}
 use Rattle.kernel_meaning.specs.RefusedRequests.{Request, PolicySum, requests_of, out_after, count_after}
-use Rattle.kernel_meaning.specs.Stretches.{dealings_of, requests_among, made_among, refused_among, counted_up}
-use Rattle.kernel_meaning.proofs.DealingLemmas.{requests_among-of, out_among-of, counted_up-parent, refused_among-parent}
+use Rattle.kernel_meaning.specs.Stretches.{dealings_of, requests_among, made_among, requested_among, AreCountedAmong, IsCountedFrom}
+use Rattle.kernel_meaning.proofs.DealingLemmas.{requests_among-of, out_among-of, counted_up-parent, requested_among-parent, stays-counted}
 use Rattle.trace_events.specs.declared.event.Event.TheVariants.{Map, Unmap, Protect, Fork, Drop}
 use Rattle.trace_events.specs.declared.outcome.Outcome.{Outcome}
 use Rattle.trace_core.specs.declared.snapshots.ForkRefusal.{ForkRefusal}
 use Rattle.trace_core.specs.declared.snapshots.ForkRefusal.TheVariants.{NoFrame as FrameRefused, TooMany as LivesAlready}
 use Rattle.trace_core.specs.CallAnswers.{fork_outcome}
-use Rattle.trace_core.specs.Answering.{HaveLed, LeadOn, made_after}
+use Rattle.trace_core.specs.Answering.{AreCounted, HaveLed, LeadOn, made_after}
 use Rattle.trace_core.specs.EventMeaning.{EventEnd, begun, touch_judged, fork_end, drop_end}
 use Rattle.trace_core.specs.KernelState.{Machine, KernelState}
-use Rattle.trace_core.specs.KernelStanding.{KernelParts, KernelStands, EventRan, sides_of, copies_refused_in}
+use Rattle.trace_core.specs.KernelStanding.{KernelParts, IsKernel, KernelStands, EventRan, sides_of, copies_refused_in}
 use Rattle.trace_core.specs.KernelSeen.{KernelNotes, IsKernelNoted, live_numbers, kept_in, nest_of}
 use Rattle.trace_core.specs.TablesSeen.{lost_in, waiting_in}
 use Rattle.trace_core.specs.TouchAnswers.{touch_outcome, with_stored}
-use Rattle.trace_core.specs.KernelWent.{IsStretch, HasDealt, KeepsChildren, KernelWent, AreGiven}
+use Rattle.trace_core.specs.KernelWent.{as_asker, DealtAlong, IsStretch, HasDealt, KeepsChildren, KernelWent, AreGiven}
 use Rattle.trace_core.specs.WentOn.{goes_on-none, went-none}
 use Rattle.trace_core.proofs.AnswerLemmas.{deals_lead_on, no_request_has_led}
 use Rattle.trace_core.proofs.AreaCalls.{HasMapped, HasUnmapped, HasProtected}
 use Rattle.trace_core.proofs.ClauseProps.{number-prop, option-prop}
 use Rattle.trace_core.proofs.EventCounts.{HasCounted, counted-touch, parent_counts}
-use Rattle.trace_core.proofs.KeptEvents.{EndKeeps, lost-stay, map-keeps-leaves, unmap-keeps-leaves, protect-keeps-leaves, touch-keeps-leaves}
-use Rattle.trace_core.proofs.KeptLeaves.{same-keeps}
+use Rattle.trace_core.proofs.KeptEvents.{EndKeeps, lost-keep, lost-stay, map-keeps-leaves, unmap-keeps-leaves, protect-keeps-leaves, touch-keeps-leaves}
+use Rattle.trace_core.proofs.KeptLeaves.{told-between, same-keeps}
+use Rattle.trace_core.proofs.ToldRefusals.{count-grows}
+use Rattle.trace_core.proofs.SoundSteps.{known-noted}
+use Rattle.trace_core.specs.SupplyState.{SupplyState, SupplyGoes}
+use Rattle.vm_base.specs.Counts.{next_count}
+use Rattle.std.specs.Coded.{le_prop}
+use mathlib.Core.HLevel.{⊥_prop}
 use Rattle.trace_core.proofs.KernelProcesses.{Forked, HasDropped, IsNext, fork-children, drop-children}
 use Rattle.trace_core.proofs.KernelTouches.{TouchRan}
 use Rattle.trace_core.proofs.Waiting.{stands-waiting}
@@ -51,6 +57,30 @@ made_among-of made (Granted want ∷ deals) = made_among-of (made + 1) deals
 made_among-of made (Denied want at ∷ deals) = made_among-of (made + 1) deals
 made_among-of made (Returned ∷ deals) = made_among-of made deals
 
+-- a deal leaves who asks
+goes-asker : (old new : SupplyState) (deal : Deal) → SupplyGoes old deal new → new.asker ≡ old.asker
+goes-asker old new (Granted want) goes = ap (λ supply. supply.asker) goes.is
+goes-asker old new (Denied want at) goes = ap (λ supply. supply.asker) goes.is
+goes-asker old new Returned goes = ap (λ supply. supply.asker) goes.is
+
+-- the deals of the parent, as its dealings
+led-dealt : (deals : List Deal) (old new : SupplyState) → old.asker ≡ Parent → LeadsAlong SupplyGoes old deals new → DealtAlong old (dealings_of Parent deals) new
+led-dealt [] old new parents led = ap (as_asker old.asker old.refused) led
+led-dealt (deal ∷ deals) old new parents led =
+    let next : led.0.asker ≡ Parent = goes-asker old led.0 deal led.1.0 ∙ parents in
+    (led.0, (old.refused, (led.0.refused, (
+      subst (λ supply. SupplyGoes supply deal (as_asker Parent led.0.refused led.0)) (λ i. as_asker (parents i) old.refused old)
+      (subst (λ supply. SupplyGoes old deal supply) (λ i. as_asker (next i) led.0.refused led.0) led.1.0),
+      led-dealt deals led.0 new next led.1.1,
+    ))))
+
+-- refusals of the parent that carry its count
+counted-parents : (count : ℕ) (deals : List Deal) → AreCounted count deals → AreCountedAmong Parent count (dealings_of Parent deals)
+counted-parents count [] counted = tt
+counted-parents count (Granted want ∷ deals) counted = counted-parents count deals counted
+counted-parents count (Denied want at ∷ deals) counted = (counted.0, counted-parents (next_count count) deals counted.1)
+counted-parents count (Returned ∷ deals) counted = counted-parents count deals counted
+
 -- what a call of the parent dealt, which ended so from whatever state the kernel stood for
 module _ (old new : KernelParts) (outcome : Outcome) (end : Machine → KernelState → List Answer → EventEnd)
     (ran : (machine : Machine) (state : KernelState) → KernelStands old machine state → EventRan old new machine (end machine state) outcome)
@@ -59,14 +89,18 @@ module _ (old new : KernelParts) (outcome : Outcome) (end : Machine → KernelSt
   ran-stretch : (machine : Machine) (state : KernelState) (st : KernelStands old machine state) → IsStretch old new machine state (dealings_of Parent (ran machine state st).deals)
   ran-stretch machine state st = record {
     after = its.after;
+    dealt = led-dealt its.deals old.supply new.supply st.supply.asker its.led;
     led = λ opening earlier led. led-by opening earlier led;
     made = sym (ap (λ e. e.after.made) its.ends) ∙ counted.made ∙ ap (λ e. made_after state.made e.deals) its.ends ∙ sym (made_among-of state.made its.deals);
     named = sym (ap (λ e. e.after.named) its.ends) ∙ counted.named;
     out = sym its.stands.supply.held ∙ none-led.out ∙ ap (λ out. out_after out its.deals) st.supply.held ∙ sym (out_among-of Parent (held_frames state.leaves) its.deals);
-    refused = none-led.refused ∙ counted_up-parent old.supply.refused its.deals;
-    kept = λ n given lives. uncopied ∙ sym copied ∙ none-asked n (copies_refused_in old.snapshot);
-    fresh = λ n above lives. uncopied ∙ none-asked n 0;
-    askers = λ n later. refused_among-parent n its.deals;
+    refused = record {
+      told = counted-parents old.supply.refused its.deals none-led.counted;
+      rose = none-led.refused ∙ counted_up-parent old.supply.refused its.deals;
+    };
+    kept = λ n given lives. subst (IsCountedFrom (Snapshot n) (copies_refused_in old.snapshot) (dealings_of Parent its.deals)) (copied ∙ sym uncopied) (stays-counted n (copies_refused_in old.snapshot) its.deals);
+    fresh = λ n above lives. subst (IsCountedFrom (Snapshot n) 0 (dealings_of Parent its.deals)) (sym uncopied) (stays-counted n 0 its.deals);
+    askers = λ n some. absurd (none-asked n some);
     stands = its.stands;
   }
     where
@@ -94,8 +128,8 @@ module _ (old new : KernelParts) (outcome : Outcome) (end : Machine → KernelSt
       led-by opening earlier led = subst (λ frames. HaveLed frames opening (earlier ++ requests_among state.named state.made (held_frames state.leaves) (dealings_of Parent its.deals)) new.supply.policies)
           st.supply.frames (subst (λ requests. HaveLed old.supply.made opening (earlier ++ requests) new.supply.policies) same-requests (lead opening earlier led).led)
 
-      none-asked : (n count : ℕ) → count ≡ counted_up count (refused_among (Snapshot n) (dealings_of Parent its.deals))
-      none-asked n count = ap (counted_up count) (sym (refused_among-parent n its.deals))
+      none-asked : (n : ℕ) → 0 < requested_among (Snapshot n) (dealings_of Parent its.deals) → ⊥
+      none-asked n some = let none : requested_among (Snapshot n) (dealings_of Parent its.deals) ≡ 0 = requested_among-parent n its.deals in omega (arith, some, none)
 
   pub ran-dealt : HasDealt old new
   ran-dealt machine state st = (dealings_of Parent (ran machine state st).deals, ran-stretch machine state st)
@@ -108,7 +142,8 @@ listed-still old new same n lives = subst (λ snapshot. IsListed n (live_numbers
 
 module _ (old new : KernelParts) (notes later : KernelNotes) (snapshot : new.snapshot ≡ old.snapshot) (last : new.last ≡ old.last) (forked : later.forked ≡ notes.forked)
     (stays : (n c at : ℕ) → get (lost_in n old.tables.slots.items) c ≡ Some at → get (lost_in n new.tables.slots.items) c ≡ Some at)
-    (none : (n : ℕ) → waiting_in n new.tables.slots.items ≡ 0) where
+    (none : (n : ℕ) → waiting_in n new.tables.slots.items ≡ 0) (risen : old.supply.refused ≤ new.supply.refused)
+    (lost : (n c at : ℕ) → get (lost_in n old.tables.slots.items) c ≡ None → get (lost_in n new.tables.slots.items) c ≡ Some at → next_count old.supply.refused ≤ at) where
   -- a call that loses no number, keeps what was lost, and leaves no cell to be copied
   pub keeps-children : KeepsChildren old notes new later
   keeps-children = record {
@@ -122,10 +157,26 @@ module _ (old new : KernelParts) (notes later : KernelNotes) (snapshot : new.sna
       passed = λ passed. ap (λ waiting. waiting == 0) (none n);
       whole = λ whole. ap (λ waiting. waiting == 0) (none n);
     };
+    counted = risen;
+    lost = λ n given lives c at before there. lost n c at before there;
   }
     where
       copies-still : copies_refused_in old.snapshot ≤ copies_refused_in new.snapshot
       copies-still = let same : copies_refused_in new.snapshot ≡ copies_refused_in old.snapshot = ap copies_refused_in snapshot in omega (arith, same)
+
+-- deals of a kernel that stood for a state have counted its refused requests
+ran-led : (old new : KernelParts) (machine : Machine) (state : KernelState) (st : KernelStands old machine state) {end : List Answer → EventEnd} {outcome : Outcome} (its : EventRan old new machine end outcome)
+    → LeadOn old.supply.policies state.named state.made [] old.supply its.deals new.supply
+ran-led old new machine state st its = deals_lead_on old.supply.policies state.named state.made [] old.supply new.supply its.deals st.supply.pending
+    (no_request_has_led old.supply.made old.supply.policies) its.led
+
+-- so the count does not fall
+pub ran-risen : (old new : KernelParts) (outcome : Outcome) (end : Machine → KernelState → List Answer → EventEnd)
+    → ((machine : Machine) (state : KernelState) → KernelStands old machine state → EventRan old new machine (end machine state) outcome)
+    → ∥ IsKernel old ∥₁ → old.supply.refused ≤ 2 ^ 64 - 1 → old.supply.refused ≤ new.supply.refused
+ran-risen old new outcome end ran known fits = ∥∥₁_elim known le_prop (λ it.
+    let its : EventRan old new it.0 (end it.0 it.1.0) outcome = ran it.0 it.1.0 it.1.1 in
+    subst (λ count. old.supply.refused ≤ count) (sym (ran-led old new it.0 it.1.0 it.1.1 its).refused) (count-grows old.supply.refused its.deals fits))
 
 -- what was lost stays so behind an event of the parent
 module _ (old new : KernelParts) (notes : KernelNotes) (known : ∥ IsKernelNoted old notes ∥₁) (outcome : Outcome) (end : Machine → KernelState → List Answer → EventEnd)
@@ -138,6 +189,17 @@ module _ (old new : KernelParts) (notes : KernelNotes) (known : ∥ IsKernelNote
       lost-stay old.tables new.tables (sides_of it.1.0 st.pages) (sides_of its.after its.stands.pages) st.tables its.stands.tables its.deals
       (subst (EndKeeps it.1.0) its.ends (keeps it.0 it.1.0 (answers_of its.deals))) n c at lost)
 
+  -- and what is lost then was lost by a request that was refused in it
+  ran-lost : old.supply.refused ≤ 2 ^ 64 - 1 → (n c at : ℕ) → get (lost_in n old.tables.slots.items) c ≡ None → get (lost_in n new.tables.slots.items) c ≡ Some at → next_count old.supply.refused ≤ at
+  ran-lost fits n c at none lost = ∥∥₁_elim known le_prop (λ it.
+      let st = it.1.1.stands in
+      let its : EventRan old new it.0 (end it.0 it.1.0) outcome = ran it.0 it.1.0 st in
+      elim (lost-keep old.tables new.tables (sides_of it.1.0 st.pages) (sides_of its.after its.stands.pages) st.tables its.stands.tables its.deals
+      (subst (EndKeeps it.1.0) its.ends (keeps it.0 it.1.0 (answers_of its.deals))) n c at lost) [
+        | inl before ↦ absurd (false≢true (ap is_some (sym none ∙ before)))
+        | inr told ↦ (told-between old.supply.refused its.deals at (ran-led old new it.0 it.1.0 st its).counted fits told).0
+      ])
+
 -- ---- the calls of the parent
 
 -- what a call of the parent starts from and leaves beside its memory
@@ -147,6 +209,7 @@ pub record IsParents (old new : KernelParts) (notes later : KernelNotes) : Type 
   pub last : new.last ≡ old.last
   pub forked : later.forked ≡ notes.forked
   pub copied : copies_refused_in old.snapshot ≡ 0
+  pub fits : old.supply.refused ≤ 2 ^ 64 - 1
 
 module _ (old new : KernelParts) (notes later : KernelNotes) (its : IsParents old new notes later) where
   still-copied : copies_refused_in new.snapshot ≡ 0
@@ -160,7 +223,8 @@ module _ (old new : KernelParts) (notes later : KernelNotes) (its : IsParents ol
     children = keeps-children old new notes later its.snapshot its.last its.forked (ran-stays old new notes its.known outcome end ran keeps)
         (λ n. ∥∥₁_elim its.known (number-prop (waiting_in n new.tables.slots.items) 0) (λ it.
         let then : EventRan old new it.0 (end it.0 it.1.0) outcome = ran it.0 it.1.0 it.1.1.stands in
-        stands-waiting new.tables (sides_of then.after then.stands.pages) then.stands.tables n));
+        stands-waiting new.tables (sides_of then.after then.stands.pages) then.stands.tables n))
+        (ran-risen old new outcome end ran (known-noted old notes its.known) its.fits) (ran-lost old new notes its.known outcome end ran keeps its.fits);
     dealt = ran-dealt old new outcome end ran counts its.copied still-copied;
   }
 
@@ -186,18 +250,19 @@ pub store-went : (old new : KernelParts) (notes : KernelNotes) (addr : ℕ) (byt
     → ((machine : Machine) (state : KernelState) → KernelStands old machine state → KernelStands new machine (with_stored state addr bytes)) → new ≡ record old { tables = new.tables }
     → AreGiven old → KernelWent old notes new notes
 store-went old new notes addr bytes known stored others given = record {
-  children = keeps-children old new notes notes snapshot (ap (λ parts. parts.last) others) refl stays none;
+  children = keeps-children old new notes notes snapshot (ap (λ parts. parts.last) others) refl stays none risen lost;
   dealt = λ machine state st. ([], record {
     after = with_stored state addr bytes;
+    dealt = ap (λ parts. as_asker old.supply.asker old.supply.refused parts.supply) others;
     led = λ opening earlier led. subst (λ requests. HaveLed machine.frames opening requests new.supply.policies) (sym (append-nil earlier))
         (subst (λ parts. HaveLed machine.frames opening earlier parts.supply.policies) (sym others) led);
     made = refl;
     named = refl;
     out = refl;
-    refused = ap (λ parts. parts.supply.refused) others;
-    kept = λ n below lives. ap copies_refused_in snapshot;
+    refused = record { told = tt; rose = ap (λ parts. parts.supply.refused) others };
+    kept = λ n below lives. record { told = tt; rose = ap copies_refused_in snapshot };
     fresh = λ n above lives. absurd (none-fresh n above lives);
-    askers = λ n later. refl;
+    askers = λ n some. absurd (none-asked some);
     stands = stored machine state st;
   });
 }
@@ -209,6 +274,21 @@ store-went old new notes addr bytes known stored others given = record {
     none n = ∥∥₁_elim known (number-prop (waiting_in n new.tables.slots.items) 0) (λ it.
         let then : KernelStands new it.0 (with_stored it.1.0 addr bytes) = stored it.0 it.1.0 it.1.1.stands in
         stands-waiting new.tables (sides_of (with_stored it.1.0 addr bytes) then.pages) then.tables n)
+
+    none-asked : 0 < 0 → ⊥
+    none-asked some = omega (arith, some)
+
+    risen : old.supply.refused ≤ new.supply.refused
+    risen = let same : new.supply.refused ≡ old.supply.refused = ap (λ parts. parts.supply.refused) others in omega (arith, same)
+
+    lost : (n c at : ℕ) → get (lost_in n old.tables.slots.items) c ≡ None → get (lost_in n new.tables.slots.items) c ≡ Some at → next_count old.supply.refused ≤ at
+    lost n c at before there = absurd (∥∥₁_elim known ⊥_prop (λ it.
+        let st = it.1.1.stands in
+        let then : KernelStands new it.0 (with_stored it.1.0 addr bytes) = stored it.0 it.1.0 st in
+        elim (lost-keep old.tables new.tables (sides_of it.1.0 st.pages) (sides_of (with_stored it.1.0 addr bytes) then.pages) st.tables then.tables [] (same-keeps it.1.0.leaves []) n c at there) [
+          | inl was ↦ false≢true (ap is_some (sym before ∙ was))
+          | inr told ↦ told
+        ]))
 
     none-fresh : (n : ℕ) → old.last < n → IsListed n (live_numbers new.snapshot) → ⊥
     none-fresh n above lives = let below : n ≤ old.last = given n (listed-still old new snapshot n lives) in omega (arith, above, below)
@@ -222,17 +302,18 @@ store-went old new notes addr bytes known stored others given = record {
 -- ---- a fork and a drop
 
 pub fork-went : (old new : KernelParts) (notes later : KernelNotes) (n : ℕ) (known : ∥ IsKernelNoted old notes ∥₁) (answer : Result (Unit {0}) ForkRefusal) → Forked old new notes later n answer
-    → IsNext old n → copies_refused_in old.snapshot ≡ 0 → copies_refused_in new.snapshot ≡ 0 → KernelWent old notes new later
-fork-went old new notes later n known answer its next copied uncopied = record {
-  children = fork-children old new notes later n known answer its next;
+    → IsNext old n → old.supply.refused ≤ 2 ^ 64 - 1 → copies_refused_in old.snapshot ≡ 0 → copies_refused_in new.snapshot ≡ 0 → KernelWent old notes new later
+fork-went old new notes later n known answer its next fits copied uncopied = record {
+  children = fork-children old new notes later n known answer its next
+      (ran-risen old new (fork_outcome answer) (λ machine state answers. fork_end machine state answers n Eager) its.ran (known-noted old notes known) fits);
   dealt = ran-dealt old new (fork_outcome answer) (λ machine state answers. fork_end machine state answers n Eager) its.ran
       (λ machine state answers. parent_counts machine state answers (Fork n Eager) refl refl) copied uncopied;
 }
 
 pub drop-went : (old new : KernelParts) (notes : KernelNotes) (n : ℕ) (known : ∥ IsKernelNoted old notes ∥₁) (outcome : Outcome) → HasDropped old new n outcome → IsListed n (live_numbers old.snapshot)
-    → copies_refused_in old.snapshot ≡ 0 → copies_refused_in new.snapshot ≡ 0 → KernelWent old notes new notes
-drop-went old new notes n known outcome ran lives copied uncopied = record {
-  children = drop-children old new notes n known outcome ran lives;
+    → old.supply.refused ≤ 2 ^ 64 - 1 → copies_refused_in old.snapshot ≡ 0 → copies_refused_in new.snapshot ≡ 0 → KernelWent old notes new notes
+drop-went old new notes n known outcome ran lives fits copied uncopied = record {
+  children = drop-children old new notes n known outcome ran lives (ran-risen old new outcome (λ machine state answers. drop_end state answers n) ran (known-noted old notes known) fits);
   dealt = ran-dealt old new outcome (λ machine state answers. drop_end state answers n) ran
       (λ machine state answers. parent_counts machine state answers (Drop n) refl refl) copied uncopied;
 }

@@ -27,9 +27,9 @@ use Rattle.std.proofs.lemmas.List.{length-map}
 use Rattle.std.proofs.lemmas.List.Sums.{count_by-le-length}
 use Rattle.std.proofs.lemmas.Bool.Decides.{nat_tests}
 use Rattle.trace_events.specs.declared.outcome.Outcome.{Outcome}
-use Rattle.trace_core.specs.SupplyState.{SupplyState, SupplyGoes, opening_supply}
+use Rattle.frame_pool.specs.Policies.{PolicyView}
+use Rattle.trace_core.specs.SupplyState.{SupplyState, SupplyGoes, opening_supply, policy_sum}
 use Rattle.vm_base.specs.declared.frame_request.Asker.TheVariants.{Parent}
-use Rattle.kernel_meaning.specs.RefusedRequests.{PolicySum}
 use Rattle.page_tables.specs.declared.tables.SnapshotTables.{SnapshotTables}
 use Rattle.trace_core.specs.KernelState.{Machine, KernelState, opening_state}
 use Rattle.trace_core.specs.EventMeaning.{EventEnd, begun, only_answers, refusal_outcome, touch_judged, touch_answered}
@@ -320,11 +320,11 @@ module _ (parts : KernelParts) (machine : Machine) (state : KernelState) (st : K
   read-refused page e = ap read_with st.areas ∙ ap (λ o. or_refused OutsideAreas o (Ok (bytes_at state.world.parent.present addr n))) e
 
 -- all frames are there
-pub opens-all : (made frames : ℕ) (free : List ℕ) (policies : PolicySum) → made ≡ frames → length free ≡ frames
-    → record { made = made; out = made - length free; asker = Parent; refused = 0; pending = None; policies = policies } ≡ opening_supply frames policies
-opens-all made frames free policies all there =
+pub opens-all : (made frames : ℕ) (free : List ℕ) (listed : List PolicyView) → made ≡ frames → length free ≡ frames
+    → record { made = made; out = made - length free; asker = Parent; refused = 0; pending = None; asks = 0; listed = listed; policies = policy_sum listed } ≡ opening_supply frames listed
+opens-all made frames free listed all there =
     let out : made - length free ≡ 0 = omega (arith, all, there) in
-    λ i. record { made = all i; out = out i; asker = Parent; refused = 0; pending = None; policies = policies }
+    λ i. record { made = all i; out = out i; asker = Parent; refused = 0; pending = None; asks = 0; listed = listed; policies = policy_sum listed }
 
 -- where no snapshot has pages none lives
 none-lives : (snapshot : Option SnapshotTables) → ((n : ℕ) → false ≡ holds_number (number_of snapshot) n) → number_of snapshot ≡ None
@@ -332,11 +332,11 @@ none-lives None none = refl
 none-lives (Some tables) none = absurd (false≢true (none tables.number ∙ eq-eqb tables.number tables.number refl))
 
 -- a kernel begins without areas and pages, over a supply that has all frames
-pub opening-stands : (frames cells last : ℕ) (areas : List Area) → areas ≡ [] → (tables : PageTables) (policies : PolicySum) (supply : SupplyState)
-    → supply ≡ opening_supply frames policies → TablesStandFor tables opening_sides
+pub opening-stands : (frames cells last : ℕ) (areas : List Area) → areas ≡ [] → (tables : PageTables) (listed : List PolicyView) (supply : SupplyState)
+    → supply ≡ opening_supply frames listed → TablesStandFor tables opening_sides
     → slot_count tables ≡ cells → frames_of tables ≡ 0
     → KernelStands (record { areas = areas; tables = tables; supply = supply; snapshot = None; last = last }) (record { frames = frames; slots = cells; limit = 1 }) (opening_state last)
-opening-stands frames cells last areas bare tables policies supply opens stands slots held =
+opening-stands frames cells last areas bare tables listed supply opens stands slots held =
     let law = frames-law tables.directory tables.snapshot tables.slots.items opening_sides stands in
     record {
       pages = empty;
@@ -348,7 +348,7 @@ opening-stands frames cells last areas bare tables policies supply opens stands 
       last = refl;
       counts = refl;
       supply = subst (λ s. IsSupplied (record { frames = frames; slots = cells; limit = 1 }) (opening_state last) s) (sym opens)
-          (supplied-opening (record { frames = frames; slots = cells; limit = 1 }) last policies);
+          (supplied-opening (record { frames = frames; slots = cells; limit = 1 }) last listed);
       out = ap (λ s. s.out) opens ∙ sym held;
       even = omega (arith, law, held);
       slots = slots;

@@ -5,17 +5,21 @@ use Rattle.vm_base.specs.declared.frame_request.Asker.{Asker}
 use Rattle.vm_base.specs.declared.frame_request.Asker.TheVariants.{Parent}
 use Rattle.vm_base.specs.Counts.{next_count}
 use Rattle.vm_base.specs.Deals.{Deal, Granted, Denied, Returned}
-use Rattle.frame_pool.specs.Policies.{PolicyView, left_of_all, StaysWithin, FallsBelow}
+use Rattle.vm_base.specs.declared.frame_request.Want.{Want}
+use Rattle.frame_pool.specs.declared.ask.Ask.{Ask}
+use Rattle.frame_pool.specs.Policies.{PolicyView, AllGrant, DeniesAt, standing, left_of_all, StaysWithin, FallsBelow}
 use Rattle.frame_pool.specs.Frames.{PoolView}
 use Rattle.kernel_meaning.specs.RefusedRequests.{PolicySum}
 
--- the frames that were made and those that are out, who asks and how often it was refused, which of the requests that follow is to be refused, counted from 1, and what is known of the policies
+-- the frames that were made and those that are out, who asks and how often it was refused, which of the requests that follow is to be refused, counted from 1, how often policies were asked, the policies in the order in which they are asked, and what is known of them all
 pub record SupplyState : Type 0 where
   pub made : ℕ
   pub out : ℕ
   pub asker : Asker
   pub refused : ℕ
   pub pending : Option ℕ
+  pub asks : ℕ
+  pub listed : List PolicyView
   pub policies : PolicySum
 
 -- what is known of all policies of a list
@@ -34,13 +38,32 @@ state_of pool asker refused pending = record {
   asker = asker;
   refused = refused;
   pending = pending;
+  asks = pool.asks;
+  listed = pool.policies;
   policies = policy_sum pool.policies;
 }
 
--- the parent asks, all frames are there, and nothing was refused
-abbrev pub opening_supply : ℕ → PolicySum → SupplyState
-opening_supply frames policies =
-    record { made = frames; out = 0; asker = Parent; refused = 0; pending = None; policies = policies }
+-- the parent asks, all frames are there, no policy of the list was asked, and nothing was refused
+abbrev pub opening_supply : ℕ → List PolicyView → SupplyState
+opening_supply frames listed = record {
+  made = frames;
+  out = 0;
+  asker = Parent;
+  refused = 0;
+  pending = None;
+  asks = 0;
+  listed = listed;
+  policies = policy_sum listed;
+}
+
+-- what the policies are asked where a frame is requested in a state
+abbrev pub supply_ask : Want → SupplyState → Ask
+supply_ask want state = record {
+  asker = state.asker;
+  want = want;
+  free = state.made - state.out;
+  place = next_count state.asks;
+}
 
 -- the refusal that is pending is for the request that comes next
 abbrev pub is_next : Option ℕ → Bool
@@ -65,41 +88,55 @@ pub record PoliciesDeny (asker : Asker) (old new : PolicySum) : Type 0 where
   pub spared : IsTrue old.spares → asker ≢ Parent
   pub spares : IsTrue old.spares → IsTrue new.spares
 
--- a frame was granted: one was there, and no pending refusal was for this request
-pub record IsGranted (old new : SupplyState) : Type 0 where
+-- no policy was asked: nothing of them has changed
+pub record IsUnasked (old new : SupplyState) : Type 0 where
+  pub asks : new.asks ≡ old.asks
+  pub listed : new.listed ≡ old.listed
+  pub policies : new.policies ≡ old.policies
+
+-- a frame was granted: one was there, no pending refusal was for this request, and each policy of the list was asked and granted it
+pub record IsGranted (want : Want) (old new : SupplyState) : Type 0 where
   pub unnamed : is_next old.pending ≡ false
   pub some_free : old.out < old.made
+  pub asked : AllGrant (supply_ask want old) (standing old.listed) new.listed
   pub policies : PoliciesStay old.policies new.policies
   pub is : new ≡ record old {
     out = old.out + 1;
     pending = pending_behind old.pending;
+    asks = next_count old.asks;
+    listed = new.listed;
     policies = new.policies;
   }
 
 -- why a request was refused: the pending refusal was for it, and the pool was not asked
 pub record IsNamed (old new : SupplyState) : Type 0 where
   pub named : is_next old.pending ≡ true
-  pub unasked : new.policies ≡ old.policies
+  pub unasked : IsUnasked old new
 
 -- or the pool was empty, and asked no policy
 pub record IsSpent (old new : SupplyState) : Type 0 where
   pub unnamed : is_next old.pending ≡ false
   pub none_free : old.out ≡ old.made
-  pub unasked : new.policies ≡ old.policies
+  pub unasked : IsUnasked old new
 
--- or a policy denied a frame that was there
-pub record IsByPolicy (old new : SupplyState) : Type 0 where
+-- or the policy at a place of the list was asked for a frame that was there, and denied it
+pub record IsByPolicy (want : Want) (old new : SupplyState) : Type 0 where
   pub unnamed : is_next old.pending ≡ false
   pub some_free : old.out < old.made
+  pub place : ℕ
+  pub denied : DeniesAt (supply_ask want old) place (standing old.listed) new.listed
+  pub asks : new.asks ≡ next_count old.asks
   pub policies : PoliciesDeny old.asker old.policies new.policies
 
 -- a request was refused, with the asker's new count
-pub record IsRefused (at : ℕ) (old new : SupplyState) : Type 0 where
-  pub cause : IsNamed old new ⊎ (IsSpent old new ⊎ IsByPolicy old new)
+pub record IsRefused (want : Want) (at : ℕ) (old new : SupplyState) : Type 0 where
+  pub cause : IsNamed old new ⊎ (IsSpent old new ⊎ IsByPolicy want old new)
   pub count : at ≡ next_count old.refused
   pub is : new ≡ record old {
     refused = next_count old.refused;
     pending = pending_behind old.pending;
+    asks = new.asks;
+    listed = new.listed;
     policies = new.policies;
   }
 
@@ -110,6 +147,6 @@ pub record IsReturned (old new : SupplyState) : Type 0 where
 
 -- which deals may come in a state, and which states they leave
 abbrev pub SupplyGoes : SupplyState → Deal → SupplyState → Type 0
-SupplyGoes old (Granted want) new = IsGranted old new
-SupplyGoes old (Denied want at) new = IsRefused at old new
+SupplyGoes old (Granted want) new = IsGranted want old new
+SupplyGoes old (Denied want at) new = IsRefused want at old new
 SupplyGoes old Returned new = IsReturned old new

@@ -28,7 +28,7 @@ impl Memory for Kernel {
 
     ghost went_none = { λ p. went-none _ (notes_of p.notes) p.given };
 
-    ghost went_on = { λ p q r one two. went-on _ _ _ _ _ _ one two };
+    ghost went_on = { λ p q r one two. went-on _ _ _ _ _ _ p.given q.given one two };
 
     fn read(&mut self, addr: u64, buf: &mut [u8]) -> Result<(), Fault> {
         if buf.is_empty() {

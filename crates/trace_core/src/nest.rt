@@ -38,7 +38,7 @@ impl Nest for Kernel {
 
     ghost went_none = { λ p. went-none _ (notes_of p.notes) p.given };
 
-    ghost went_on = { λ p q r one two. went-on _ _ _ _ _ _ one two };
+    ghost went_on = { λ p q r one two. went-on _ _ _ _ _ _ p.given q.given one two };
 
     fn child_read(
         &mut self,

@@ -81,7 +81,7 @@ impl Parts {
 
         // All frames are there, under the policies that are not done.
         ensures supply { IfOk result (λ kernel. (⟦<Parts as Standing>⟧.parts kernel).supply
-            ≡ opening_supply frames (policy_sum (standing (map (λ policy. told policy) policies.items)))) }
+            ≡ opening_supply frames (standing (map (λ policy. told policy) policies.items))) }
 
         // A run begins, under these policies.
         ensures begins { IfOk result (λ kernel. HasRun (⟦<Parts as Standing>⟧.parts kernel)

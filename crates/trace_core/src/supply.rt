@@ -2,7 +2,7 @@
 ghost use Rattle.std.specs.Prelude.{◌≡◌, ◌+◌, ◌-◌, ◌^◌, ◌≤◌, map, Some, IfOk};
 ghost use Rattle.vm_base.specs.Counts.{next_count};
 ghost use Rattle.frame_pool.specs.Policies.{standing};
-ghost use Rattle.trace_core.specs.SupplyState.{SupplyState, state_of, opening_supply, policy_sum, is_next, pending_behind, SupplyGoes};
+ghost use Rattle.trace_core.specs.SupplyState.{SupplyState, state_of, opening_supply, is_next, pending_behind, SupplyGoes};
 
 use frame_pool::{FramePolicy, Pool};
 use std::alloc::Global;
@@ -34,7 +34,7 @@ impl Supply {
         policies: Vec<Box<dyn FramePolicy + Send>>,
     ) -> Result<Supply, NoMemory>
         ensures { IfOk result (λ supply. ⟦<Supply as Allot>⟧.state supply
-            ≡ opening_supply frames (policy_sum (standing (map (λ policy. told policy) policies.items)))) }
+            ≡ opening_supply frames (standing (map (λ policy. told policy) policies.items))) }
     {
         Ok(Supply {
             pool: Pool::new(alloc, frames, policies)?,

@@ -4,7 +4,8 @@ use Rattle.std.specs.Ordering.{nat_cmp}
 use Rattle.std.specs.FinMap.{FinMap, len}
 use Rattle.vm_base.specs.declared.faults.ForkFault.{ForkFault}
 use Rattle.vm_base.specs.declared.faults.ForkFault.TheVariants.{NoFrame, TooMany, NumbersSpent}
-use Rattle.vm_base.specs.Counts.{Rose}
+use Rattle.vm_base.specs.Counts.{next_count}
+use Rattle.vm_base.specs.Places.{distinct}
 use Rattle.vm_base.specs.MemoryState.{MemoryState, KeepsReady}
 
 -- the children of a process
@@ -36,6 +37,7 @@ pub record AreChildren (children : Children) : Type 0 where
   pub few : children.live ≤ children.limit
   pub last : children.last ≤ 4294967295
   pub given : All (λ n. (0 < n) × (n ≤ children.last)) children.numbers
+  pub once : distinct children.numbers ≡ children.numbers
 
 -- a fork may be tried: another child may live, and a number is left
 pub record MayFork (children : Children) : Type 0 where
@@ -50,9 +52,9 @@ after_fork children = record children {
   last = children.last + 1;
 }
 
--- why a fork was refused: no frame, where the count rose to `at`; too many children; or no number left
+-- why a fork was refused: no frame, where the count rose by one, to `at`; too many children; or no number left
 abbrev pub ForkFails : Children → MemoryState → MemoryState → ForkFault → Type 0
-ForkFails children old new (NoFrame at) = MayFork children × (Rose old.refused new.refused) × (at ≡ new.refused)
+ForkFails children old new (NoFrame at) = MayFork children × (new.refused ≡ next_count old.refused) × (at ≡ new.refused)
 ForkFails children old new TooMany = (children.live ≡ children.limit) × (new ≡ old)
 ForkFails children old new NumbersSpent = (children.last ≡ 4294967295) × (children.live < children.limit) × (new ≡ old)
 

@@ -8,7 +8,7 @@ use Rattle.vm_base.specs.declared.faults.CopyFault.{CopyFault}
 use Rattle.vm_base.specs.declared.faults.CopyFault.TheVariants.{Refused, Lost as CopyLost}
 use Rattle.vm_base.specs.declared.faults.Step.{Step}
 use Rattle.vm_base.specs.declared.faults.Step.TheVariants.{Copied, Skipped, AllDone}
-use Rattle.vm_base.specs.Counts.{next_count, Rose}
+use Rattle.vm_base.specs.Counts.{next_count}
 use Rattle.vm_base.specs.Places.{page_of, page_count, cells_of_range, distinct}
 use Rattle.vm_base.specs.FlatMemory.{FlatMemory, bytes_at, cells_of}
 use Rattle.vm_base.specs.FlatStep.{outside}
@@ -88,10 +88,10 @@ StepsLeft old new (Copied cell) = Advances old new cell
 StepsLeft old new (Skipped cell holder) = ⊥
 StepsLeft old new AllDone = Quiet old new × IsTrue new.whole
 
--- why a cell was not copied: a refused frame, where the count rose to `at`; or a cell that is found lost
+-- why a cell was not copied: a refused frame, where the count rose by one, to `at`; or a cell that is found lost
 abbrev pub CopyFails : SnapshotState → SnapshotState → CopyFault → Type 0
 CopyFails old new (Refused at) =
-    (new.found ≡ old.found) × IsFalse old.whole × Rose old.refused new.refused × (at ≡ new.refused)
+    (new.found ≡ old.found) × IsFalse old.whole × (new.refused ≡ next_count old.refused) × (at ≡ new.refused)
 CopyFails old new (CopyLost at) = (new.refused ≡ old.refused) × ((cell : ℕ) × (get new.found cell ≡ Some at))
 
 -- why the step that waits for no turn copied no cell: the same, and a frame is refused only where a cell waits that was not skipped

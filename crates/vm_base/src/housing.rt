@@ -1,5 +1,7 @@
 //! A process whose children lie in the same value.
-ghost use Rattle.std.specs.Prelude.{◌≡◌, ℕ, ◌<◌, ◌≤◌, ◌↔◌, ◌⊎◌, IsTrue, IfSome, Some};
+ghost use Rattle.std.specs.Prelude.{◌≡◌, ℕ, ◌<◌, ◌≤◌, ◌↔◌, ◌⊎◌, IsTrue, IfSome, Some, None};
+ghost use Rattle.std.specs.FinMap.{get};
+ghost use Rattle.vm_base.specs.Counts.{next_count};
 ghost use Rattle.vm_base.specs.FlatMemory.{cells_of};
 ghost use Rattle.vm_base.specs.MemoryState.{IsIn, IsListed};
 ghost use Rattle.vm_base.specs.SnapshotState.{GoesOn, IsFoundSince};
@@ -50,6 +52,16 @@ pub trait Housing: Process + Nest<Child = <Self as Process>::Child> {
     ghost went_child: { (p q : Self) (c : Self.Child) → Self.Memory.went p q
         → IsTrue (Self.Nest.lives (Self.Nest.beside p c)) → IsTrue (Self.Nest.lives (Self.Nest.beside q c))
         → GoesOn (Self.Nest.nested p c) (Self.Nest.nested q c) };
+
+    /// A cell that a child was found to have lost since was lost at a count above the one before.
+    ghost lost_since: { (p q : Self) (c : Self.Child) → Self.Memory.went p q
+        → IsTrue (Self.Nest.lives (Self.Nest.beside p c)) → IsTrue (Self.Nest.lives (Self.Nest.beside q c)) → (cell at : ℕ)
+        → get (Self.Nest.nested p c).found cell ≡ None → get (Self.Nest.nested q c).found cell ≡ Some at
+        → next_count (Self.Memory.state p).refused ≤ at };
+
+    /// Each cell of a child that lives uses a slot.
+    ghost used_kept: { (p : Self) (c : Self.Child) (cell : ℕ) → IsTrue (Self.Nest.lives (Self.Nest.beside p c))
+        → IsListed cell (cells_of (Self.Nest.nested p c).mem) → IsIn cell (Self.Memory.state p).used };
 
     /// Where it is told how many frames are enough, a copy is refused only once the process had as many.
     ghost copies_reached: { (p : Self) (c : Self.Child) → IsTrue (Self.Nest.lives (Self.Nest.beside p c))

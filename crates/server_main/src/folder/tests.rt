@@ -1,6 +1,7 @@
 //! The folder over real files, and over files that write each call down.
 use super::*;
 use io_face::{Source, read_all, write_all};
+use std::alloc::Allocator;
 use std::cell::RefCell;
 use std::fs::{Metadata, OpenOptions};
 use std::io::{Read, Seek, SeekFrom};
@@ -215,13 +216,21 @@ fn a_save_makes_these_calls_in_this_order(rt: HostRuntime) -> Result<(), Fail> {
         (0, "", false),
         (1, "remove a.img.part\n", false),
         (2, "sync\nremove a.img.part\n", false),
-        (3, "sync\nrename a.img.part a.img\nremove a.img.part\n", false),
+        (
+            3,
+            "sync\nrename a.img.part a.img\nremove a.img.part\n",
+            false,
+        ),
     ];
     for (well, last, is_saved) in cases {
         let files = Recorder::new(rt.alloc(), well)?;
         let mut folder = CurrentFolder::new(files.again()?, rt.alloc());
         assert_eq!(rt; save(&mut folder, "a.img", b"saved").is_ok(), is_saved);
-        let first = if well == 0 { "create a.img.part\n" } else { begun };
+        let first = if well == 0 {
+            "create a.img.part\n"
+        } else {
+            begun
+        };
         let mut lines = String::from_str(rt.alloc(), first)?;
         lines.push_str(last)?;
         assert!(rt; files.made(&lines), "call {well}");
@@ -264,7 +273,14 @@ fn a_left_part_is_no_file_and_stops_no_save(rt: HostRuntime) -> Result<(), Fail>
         // It is dropped, and neither published nor abandoned.
         assert!(rt; write_all(&mut out, b"half of a longer image").is_ok());
     }
-    assert!(rt; has(rt.alloc(), &mut folder, "left/save-1.img.part", b"half of a longer image"));
+    assert!(rt;
+        has(
+            rt.alloc(),
+            &mut folder,
+            "left/save-1.img.part",
+            b"half of a longer image"
+        )
+    );
     assert!(rt; lacks(&mut folder, "left/save-1.img"));
     assert!(rt; save(&mut folder, "left/save-1.img", b"saved").is_ok());
     assert!(rt; has(rt.alloc(), &mut folder, "left/save-1.img", b"saved"));

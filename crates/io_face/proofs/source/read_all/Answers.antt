@@ -12,8 +12,7 @@ returns-then-count-room-clause-taken g c =
     let size = length-take-le c.in-Ok.count c.read.new.buf c.in-Ok.ensures.count in
     let front : length c.read.new.buf ≡ min (c.min-want.result + 1) (length c.deref_mut.result.now) =
     c.read.auto.buf ∙ length-take (c.min-want.result + 1) c.deref_mut.result.now in
-    let want : c.min-want.result ≤ c.loop-count.room = omega (arith, c.min-want.ensures) in
-    (
+    let want : c.min-want.result ≤ c.loop-count.room = omega (arith, c.min-want.ensures) in (
       text ++ piece,
       (omega (arith, more, size, front, c.in-Ok.ensures.count), Takes-again _ _ _ text piece c.loop-count.invariant.taken c.in-Ok.ensures.taken),
     )

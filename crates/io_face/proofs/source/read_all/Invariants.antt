@@ -1,4 +1,4 @@
-use Rattle.std.proofs.Common.{length, ◌+◌, ◌≡◌, ◌≤◌, vec_len}
+use Rattle.std.proofs.Common.{length, ◌+◌, ◌≡◌, vec_len}
 use Rattle.io_face.specs.Told.{Takes}
 use Rattle.io_face.specs.declared.source.TheConstants.{PIECE}
 use Rattle.io_face.proofs.source.read_all.Given as goal

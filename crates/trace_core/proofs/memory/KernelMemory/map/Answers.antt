@@ -50,5 +50,5 @@ invariant_of-self-clause-given g c = known-given _ _ (invariant_of-self-clause-s
 pub returns-clause-went : goal.returns-clause-went
 returns-clause-went g c =
     map-went _ _ (notes_of c.args.self.now.notes) (notes_of c.args.self.now.notes)
-    (record { known = noted-under _ _ _ c.args.self.now.stood; snapshot = ap (λ parts. parts.snapshot) c.map.ensures.others; last = ap (λ parts. parts.last) c.map.ensures.others; forked = refl; copied = c.args.self.now.parts.uncopied })
+    (record { known = noted-under _ _ _ c.args.self.now.stood; snapshot = ap (λ parts. parts.snapshot) c.map.ensures.others; last = ap (λ parts. parts.last) c.map.ensures.others; forked = refl; copied = c.args.self.now.parts.uncopied; fits = c.args.self.now.parts.supply.counted })
     c.args.first c.args.pages c.args.perm (area_outcome c.map.result) c.map.ensures.ran

@@ -90,4 +90,5 @@ returns-clause-went g c =
       last = c.touch-answer.ensures.beside.2;
       forked = c.touched.ensures.forked;
       copied = c.args.self.now.parts.uncopied;
+      fits = c.args.self.now.parts.supply.counted;
     }) c.args.addr c.args.len c.touch-answer.result c.touch-answer.ensures.ran

@@ -53,5 +53,5 @@ invariant_of-self-clause-given g c = known-given _ _ (invariant_of-self-clause-s
 pub returns-clause-went : goal.returns-clause-went
 returns-clause-went g c =
     unmap-went _ _ (notes_of c.args.self.now.notes) (notes_of c.args.self.now.notes)
-    (record { known = noted-under _ _ _ c.args.self.now.stood; snapshot = c.unmap.ensures.beside.0; last = c.unmap.ensures.beside.1; forked = refl; copied = c.args.self.now.parts.uncopied })
+    (record { known = noted-under _ _ _ c.args.self.now.stood; snapshot = c.unmap.ensures.beside.0; last = c.unmap.ensures.beside.1; forked = refl; copied = c.args.self.now.parts.uncopied; fits = c.args.self.now.parts.supply.counted })
     c.args.first c.args.pages (area_outcome c.unmap.result) c.unmap.ensures.ran

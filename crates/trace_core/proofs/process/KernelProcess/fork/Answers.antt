@@ -137,4 +137,4 @@ returns-clause-went g c =
     fork-went _ _ (notes_of c.args.self.now.notes) (notes_of c.fork_answered.new.self) c.in-Some.number
     (noted-under _ _ _ c.args.self.now.stood) c.fork-answer.result
     (forked-noted _ _ _ _ _ _ _ c.refused-refused.ensures.count c.fork_answered.ensures c.fork-answer.ensures.ran c.fork-answer.ensures.full)
-    c.in-Some.ensures c.args.self.now.parts.uncopied c.fork-answer.new.self.uncopied
+    c.in-Some.ensures c.args.self.now.parts.supply.counted c.args.self.now.parts.uncopied c.fork-answer.new.self.uncopied

@@ -74,4 +74,4 @@ invariant_of-self-clause-given g c = known-given _ _ (invariant_of-self-clause-s
 pub returns-clause-went : goal.returns-clause-went
 returns-clause-went g c = drop-went _ _ (notes_of c.args.self.now.notes) c.args.gone.number
     (noted-under _ _ _ c.args.self.now.stood) c.drop_snapshot.result c.drop_snapshot.ensures.ran c.requires.lives
-    c.args.self.now.parts.uncopied c.drop_snapshot.new.self.uncopied
+    c.args.self.now.parts.supply.counted c.args.self.now.parts.uncopied c.drop_snapshot.new.self.uncopied
