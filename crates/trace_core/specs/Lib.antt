@@ -13,3 +13,4 @@ pub mod SnapshotAnswers
 pub mod TouchAnswers
 pub mod CallAnswers
 pub mod Housed
+pub mod Writing
