@@ -1,15 +1,21 @@
 -- Where no snapshot lives, the frames that are out are those of the parent's own memory.
-use Rattle.std.proofs.Common.{◌≡◌, ℕ, None, ◌∙◌, ap}
+use Rattle.std.proofs.Common.{◌≡◌, ℕ, length, Option, Some, None, refl, ◌∙◌, ap, arith}
 use Rattle.std.proofs.Math.Logic.{∥∥₁_elim}
 use Rattle.vm_base.specs.MemoryState.{own_of}
 use Rattle.kernel_meaning.specs.FrameLaw.{held_frames}
 use Rattle.trace_core.specs.KernelState.{Machine, KernelState}
 use Rattle.trace_core.specs.KernelStanding.{KernelParts, KernelStands, kept_number, sides_of}
-use Rattle.trace_core.specs.KernelSeen.{KernelNotes, IsKernelNoted, parent_of}
+use Rattle.trace_core.specs.KernelSeen.{KernelNotes, IsKernelNoted, parent_of, live_numbers}
+use Rattle.trace_core.specs.declared.parts.SnapshotAreas.{SnapshotAreas}
 use Rattle.trace_core.proofs.ClauseProps.{number-prop}
 use Rattle.trace_core.proofs.Known.{none-numbered}
 use Rattle.trace_core.proofs.SeenTables.{seen-pages}
 use Rattle.trace_core.proofs.WholeCells.{whole-held}
+
+-- none lives where so many do
+pub none-alive : (snapshot : Option SnapshotAreas) → length (live_numbers snapshot) ≡ 0 → snapshot ≡ None
+none-alive None none = refl
+none-alive (Some kept) none = absurd (omega (arith, none))
 
 pub held-alone : (parts : KernelParts) (notes : KernelNotes) → ∥ IsKernelNoted parts notes ∥₁ → parts.snapshot ≡ None → (held : ℕ)
     → ((machine : Machine) (state : KernelState) → KernelStands parts machine state → held ≡ held_frames state.leaves) → held ≡ own_of (parent_of parts)

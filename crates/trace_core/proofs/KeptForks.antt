@@ -7,7 +7,7 @@ use Rattle.std.proofs.lemmas.Bool.{false≢true}
 use Rattle.std.proofs.lemmas.Bool.Decides.{nat_tests}
 use Rattle.vm_base.specs.declared.fork_mode.Mode.{Mode}
 use Rattle.vm_base.specs.declared.frame_request.Want.{Want}
-use Rattle.vm_base.specs.Counts.{next_count, Rose}
+use Rattle.vm_base.specs.Counts.{next_count}
 use Rattle.vm_base.specs.Deals.{Deal, Granted, Denied, Returned, LeadsAlong}
 use Rattle.vm_base.specs.Places.{cell_of}
 use Rattle.vm_base.specs.FlatMemory.{FlatMemory, IsFlat, area_of}

@@ -6,6 +6,7 @@ use Rattle.std.specs.FinMap.{FinMap, get, insert, empty, len, contains_key, get-
 use Rattle.std.proofs.lemmas.Bool.{false≢true, cond-true}
 use Rattle.std.proofs.lemmas.Bool.Decides.{nat_tests}
 use Rattle.std.proofs.lemmas.List.Elements.{All-nil, All-cons}
+use Rattle.vm_base.specs.Places.{distinct}
 use Rattle.vm_base.specs.declared.fork_mode.Mode.{Mode}
 use Rattle.vm_base.specs.Deals.{Deal}
 use Rattle.vm_base.specs.FlatMemory.{PageMap, FlatMemory}

@@ -17,6 +17,7 @@ use Rattle.page_tables.specs.Held.{frames_of, frames_in, shares_in}
 use Rattle.page_tables.specs.Sides.{Sides}
 use Rattle.trace_events.specs.declared.outcome.Outcome.{Outcome}
 use Rattle.trace_events.specs.declared.outcome.Outcome.TheVariants.{Done, CellsFull}
+use Rattle.page_tables.specs.Permissions.{LetsWrite, KeepsWriting}
 use Rattle.trace_core.specs.SupplyState.{SupplyGoes}
 use Rattle.trace_core.specs.KernelState.{Machine, KernelState}
 use Rattle.trace_core.specs.EventMeaning.{EventEnd, begun, only_answers, touch_answered, touch_judged, written}
@@ -128,3 +129,11 @@ module _ (parts mid : KernelParts) (machine : Machine) (state : KernelState) (ad
         ∙ ap (end_stored addr bytes) (ran.further rest) ∙ refused-stored addr bytes why ran.deals ran.after;
     stands = ran.stands;
   }
+
+-- what a touch let be written to stays so behind a store
+pub lets-kept : (first n : ℕ) (old amid new : PageTables) → LetsWrite first n old amid → KeepsWriting amid new → LetsWrite first n old new
+lets-kept first n old amid new lets keeps = record {
+  within = λ page low high. keeps page ∙ lets.within page low high;
+  still = λ page may. keeps page ∙ lets.still page may;
+  apart = λ page beyond. keeps page ∙ lets.apart page beyond;
+}

@@ -1,10 +1,16 @@
 -- A slot is used by a cell where the parent has a page, or by one that the snapshot that lives has.
-use Rattle.std.proofs.Common.{◌≡◌, ℕ, List, [], ◌∷◌, length, map, Option, Some, None, inl, inr, refl, sym, ◌∙◌, ap, arith}
+use Rattle.std.proofs.Common.{◌≡◌, ℕ, ◌+◌, ◌*◌, ◌%◌, ◌<◌, Bool, false, eqb, List, [], ◌∷◌, length, map, Option, Some, None, inl, inr, refl, sym, ◌∙◌, ap, subst, arith}
 use Rattle.std.specs.Prelude.{◌⊎◌, true, cond, not, ◌==◌, IsSome, is_some}
 use Rattle.std.specs.Ordering.{nat_cmp}
-use Rattle.std.specs.FinMap.{get, find}
-use Rattle.std.proofs.lemmas.Bool.{cases_Bool, or_cases, false≢true}
-use Rattle.std.proofs.Math.Logic.{∥∥₁_map}
+use Rattle.std.specs.FinMap.{get, find, keys, empty}
+use Rattle.std.specs.FinSet as set
+use Rattle.std.specs.List.{list_any}
+use Rattle.std.specs.Option.{option_and_then}
+use Rattle.std.proofs.lemmas.Bool.{cases_Bool, or_cases, or_left, or_right, eq-eqb, eqb-true, false≢true}
+use Rattle.std.proofs.Math.Logic.{∥∥₁_map, ∥∥₁_elim}
+use Rattle.vm_base.specs.Places.{cell_of}
+use Rattle.vm_base.proofs.NumberedMaps.{get_inserted_here}
+use Rattle.vm_base.proofs.OwnFrames.{member, member-keys}
 use Rattle.vm_base.specs.FlatMemory.{cells_of}
 use Rattle.vm_base.specs.MemoryState.{IsIn, IsListed}
 use Rattle.kernel_meaning.specs.Leaves.{Kept, has_pages}
@@ -15,8 +21,9 @@ use Rattle.page_tables.specs.Standing.{slot_in, numbers_at, number_of}
 use Rattle.page_tables.proofs.LeafMap.{found-used}
 use Rattle.trace_core.specs.declared.parts.SnapshotAreas.{SnapshotAreas}
 use Rattle.trace_core.specs.KernelState.{Machine, KernelState}
-use Rattle.trace_core.specs.KernelStanding.{KernelParts, KernelStands, kept_number, sides_of}
-use Rattle.trace_core.specs.KernelSeen.{KernelNotes, IsKernelNoted, NotesHold, kernel_memory, parent_of, kept_in}
+use Rattle.trace_core.specs.KernelStanding.{KernelParts, KernelStands, kept_memories, kept_number, sides_of}
+use Rattle.trace_core.specs.KernelSeen.{KernelNotes, IsSound, IsKernelNoted, NotesHold, AreKeptUsed, kernel_memory, pages_of, parent_of, kept_in}
+use Rattle.trace_core.proofs.ClauseProps.{test-prop}
 use Rattle.trace_core.proofs.FilledCells.{cells-filled}
 use Rattle.trace_core.proofs.HeldEvents.{AreFilled}
 use Rattle.trace_core.proofs.SeenTables.{seen-used}
@@ -67,3 +74,65 @@ pub used-there : (parts : KernelParts) (notes : KernelNotes) → ∥ IsKernelNot
 used-there parts notes known holds cell inside =
     let filled : AreFilled parts = cells-filled parts (known-noted parts notes known) in
     ∥∥₁_map known (λ it. stands-there parts notes it.0 it.1.0 it.1.1.stands filled holds cell inside)
+
+-- ---- the cells of the snapshot that lives
+
+-- a cell is listed where a page of it is present
+cell-page : (pages : List ℕ) (cell : ℕ) → IsListed cell (map cell_of pages) → (page : ℕ) × ((member page pages ≡ true) × (cell_of page ≡ cell))
+cell-page [] cell listed = absurd (false≢true listed)
+cell-page (page ∷ pages) cell listed = elim (or_cases (cell_of page == cell) (list_any (λ other. other == cell) (map cell_of pages)) listed) [
+  | inl here ↦ (page, (or_left (eqb page page) (member page pages) (eq-eqb page page refl), eqb-true (cell_of page) cell here))
+  | inr later ↦ let found = cell-page pages cell later in (found.0, (or_right (eqb found.0 page) (member found.0 pages) found.1.0, found.1.1))
+]
+
+-- the one snapshot has a cell where it is among those that have it
+numbered-there : (snapshot : Option SnapshotTables) (n c : ℕ) → list_any (λ m. m == n) (numbers_at snapshot c) ≡ true → IsSome (slot_in snapshot c)
+numbered-there None n c there = absurd (false≢true there)
+numbered-there (Some tables) n c there = by (is_some (get tables.directory c)) refl there
+  where
+    by : (b : Bool) → is_some (get tables.directory c) ≡ b → list_any (λ m. m == n) (cond b (tables.number ∷ []) []) ≡ true → IsSome (get tables.directory c)
+    by true is there = is
+    by false is there = absurd (false≢true there)
+
+module _ (parts : KernelParts) (notes : KernelNotes) (machine : Machine) (state : KernelState) (sound : IsSound parts notes machine state) (kept : SnapshotAreas) (lives : parts.snapshot ≡ Some kept) where
+  abbrev all : Sides
+  all = sides_of state sound.stands.pages
+
+  -- the pages of the snapshot are those of the tables at its fork
+  kept-pages : get sound.stands.pages kept.number ≡ Some (pages_of notes.forked)
+  kept-pages =
+      let its : kept_memories (Some kept) sound.stands.pages state.world.snapshots =
+      subst (λ snapshot. kept_memories snapshot sound.stands.pages state.world.snapshots) lives sound.stands.memories in
+      let here : get state.world.snapshots kept.number ≡ Some (record { areas = kept.areas; present = its.0 }) =
+      ap (λ memories. get memories kept.number) its.1.1 ∙ get_inserted_here empty kept.number (record { areas = kept.areas; present = its.0 }) kept.number refl in
+      let same : its.0 ≡ pages_of notes.forked = (sound.forked kept.number _ here).2 in
+      its.1.0 ∙ ap Some same
+
+  kept-slot : (cell : ℕ) → IsListed cell (cells_of (kept_in (Some kept) notes.forked)) → IsIn cell (kernel_memory parts notes).used
+  kept-slot cell listed =
+      let page = cell-page (keys (pages_of notes.forked)) cell listed in
+      let there : IsSome (get (pages_of notes.forked) page.0) = sym (member-keys (pages_of notes.forked) page.0) ∙ page.1.0 in
+      let low : page.0 % 512 < 512 = omega arith in
+      let whole : cell * 512 + page.0 % 512 ≡ page.0 = omega (arith, page.1.1) in
+      let seen : option_and_then (λ pages. get pages (cell * 512 + page.0 % 512)) (get all.snapshots kept.number) ≡ get (pages_of notes.forked) page.0 =
+      ap (option_and_then (λ pages. get pages (cell * 512 + page.0 % 512))) kept-pages ∙ ap (get (pages_of notes.forked)) whole in
+      let numbered : list_any (λ m. m == kept.number) (numbers_at parts.tables.snapshot cell) ≡ true = elim (cases_Bool (list_any (λ m. m == kept.number) (numbers_at parts.tables.snapshot cell))) [
+        | inl has ↦ has
+        | inr lacks ↦ absurd (false≢true (ap is_some (sym (sound.stands.tables.snapshot_of.absent kept.number cell (page.0 % 512) low lacks) ∙ seen) ∙ there))
+      ] in
+      let slot = slot-of (slot_in parts.tables.snapshot cell) (numbered-there parts.tables.snapshot kept.number cell numbered) in
+      seen-used parts.tables all sound.stands.tables cell
+      ∙ sound.stands.tables.slots_of.used slot.0 cell (sound.stands.tables.snapshot_of.named cell slot.0 slot.1)
+    where
+      slot-of : (o : Option ℕ) → IsSome o → (s : ℕ) × (o ≡ Some s)
+      slot-of None some = absurd (false≢true some)
+      slot-of (Some s) some = (s, refl)
+
+-- each cell of the snapshot that lives uses a slot
+pub kept-used : (parts : KernelParts) (notes : KernelNotes) → ∥ IsKernelNoted parts notes ∥₁ → AreKeptUsed parts notes
+kept-used parts notes known some cell listed = by parts.snapshot refl some
+  where
+    by : (snapshot : Option SnapshotAreas) → parts.snapshot ≡ snapshot → IsSome snapshot → IsIn cell (kernel_memory parts notes).used
+    by None none some = absurd (false≢true some)
+    by (Some kept) lives some = ∥∥₁_elim known (test-prop (set.contains (kernel_memory parts notes).used cell) true) (λ it.
+        kept-slot parts notes it.0 it.1.0 it.1.1 kept lives cell (subst (λ snapshot. IsListed cell (cells_of (kept_in snapshot notes.forked))) lives listed))

@@ -1,6 +1,8 @@
 -- The kernel as the house of its snapshot: what stands beside a snapshot tells all that the kernel tells of itself.
 use Rattle.std.proofs.Common.{◌≡◌, ℕ, Option, Some, None, inl, inr, refl, ap, eqb, arith}
-use Rattle.std.specs.Prelude.{◌<◌, ◌⊎◌, Bool, true, false, IsTrue, IsSome, ◌==◌, ◌||◌, ◌↔◌}
+use Rattle.std.specs.FinMap.{get}
+use Rattle.vm_base.specs.Counts.{next_count}
+use Rattle.std.specs.Prelude.{◌<◌, ◌≤◌, ◌⊎◌, Bool, true, false, IsTrue, IsSome, ◌==◌, ◌||◌, ◌↔◌}
 use Rattle.std.proofs.Math.Logic.{∥∥₁_map}
 use Rattle.std.proofs.lemmas.Bool.{false≢true}
 use Rattle.std.proofs.lemmas.Bool.Decides.{nat_tests}
@@ -12,7 +14,7 @@ use Rattle.trace_core.specs.declared.process.SoloChild.{SoloChild}
 use Rattle.trace_core.specs.KernelStanding.{KernelParts, kept_number, copies_refused_in}
 use Rattle.trace_core.specs.KernelWent.{KeepsChildren, AreGiven}
 use Rattle.vm_base.specs.SnapshotState.{GoesOn}
-use Rattle.trace_core.specs.KernelSeen.{KernelNotes, BesideChild, live_numbers, kernel_memory, kept_in, nest_of, AreSlotsUsed}
+use Rattle.trace_core.specs.KernelSeen.{KernelNotes, BesideChild, live_numbers, kernel_memory, kept_in, nest_of, AreSlotsUsed, AreKeptUsed}
 
 -- it tells the kernel's memory
 pub same_memory : {one other : BesideChild} → one ≡ other → one.memory ≡ other.memory
@@ -67,3 +69,19 @@ went_child old new notes later given keeps n lived lives =
 -- no copy was refused
 pub none_refused : {P : Type 0} (parts : KernelParts) → copies_refused_in parts.snapshot ≡ 0 → 0 < copies_refused_in parts.snapshot → P
 none_refused parts none some = absurd (omega (arith, none, some))
+
+-- what a snapshot that lives has lost since was lost at a count above the one before
+pub lost_since : (old new : KernelParts) (notes later : KernelNotes) → AreGiven old → KeepsChildren old notes new later → (n : ℕ)
+    → IsTrue (holds_number (kept_number old.snapshot) n) → IsTrue (holds_number (kept_number new.snapshot) n) → (cell at : ℕ)
+    → get (nest_of old notes n).found cell ≡ None → get (nest_of new later n).found cell ≡ Some at → next_count old.supply.refused ≤ at
+lost_since old new notes later given keeps n lived lives cell at before there =
+    keeps.lost n (given n (((lives_numbered old.snapshot n).0 lived).0)) ((lives_numbered new.snapshot n).0 lives).0 cell at before there
+
+-- each of its cells uses a slot
+pub used_kept : (parts : KernelParts) (notes : KernelNotes) → AreKeptUsed parts notes → (n : ℕ) → IsTrue (holds_number (kept_number parts.snapshot) n) → (cell : ℕ)
+    → IsListed cell (cells_of (nest_of parts notes n).mem) → IsIn cell (kernel_memory parts notes).used
+used_kept parts notes housed n lives cell listed = housed (some parts.snapshot lives) cell listed
+  where
+    some : (snapshot : Option SnapshotAreas) → IsTrue (holds_number (kept_number snapshot) n) → IsSome snapshot
+    some None lives = absurd (false≢true lives)
+    some (Some kept) lives = refl

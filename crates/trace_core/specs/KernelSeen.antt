@@ -204,6 +204,11 @@ abbrev pub AreSlotsUsed : KernelParts → KernelNotes → Type 0
 AreSlotsUsed parts notes = (cell : ℕ) → IsIn cell (used_in parts.tables.slots.items)
     → ∥ IsListed cell (cells_of (parent_of parts)) ⊎ (IsSome parts.snapshot × IsListed cell (cells_of (kept_in parts.snapshot notes.forked))) ∥₁
 
+-- each cell of the snapshot that lives uses a slot
+abbrev pub AreKeptUsed : KernelParts → KernelNotes → Type 0
+AreKeptUsed parts notes = IsSome parts.snapshot → (cell : ℕ) → IsListed cell (cells_of (kept_in parts.snapshot notes.forked))
+    → IsIn cell (used_in parts.tables.slots.items)
+
 -- what the notes tell of the snapshot that lives, and of refusals, holds
 pub record NotesHold (parts : KernelParts) (notes : KernelNotes) : Type 0 where
   -- each of the snapshot's cells had a page at its fork

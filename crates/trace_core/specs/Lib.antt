@@ -15,3 +15,4 @@ pub mod CallAnswers
 pub mod Housed
 pub mod KernelWent
 pub mod WentOn
+pub mod Writing

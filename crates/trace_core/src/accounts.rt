@@ -61,6 +61,7 @@ impl Parts {
     pub fn refuse(&mut self, nth: u32) -> Outcome
         requires some { 0 < nth }
         ensures ran { Ran (⟦<Parts as Standing>⟧.parts self.old) (⟦<Parts as Standing>⟧.parts self.new) (event.Refuse nth) result }
+        ensures others { ⟦<Parts as Standing>⟧.parts self.new ≡ record (⟦<Parts as Standing>⟧.parts self.old) { supply = (⟦<Parts as Standing>⟧.parts self.new).supply } }
     {
         self.supply.refuse(nth);
         Outcome::Done

@@ -1,5 +1,5 @@
 //! The kernel: its parts, which stand for the state of a run.
-ghost use Rattle.std.specs.Prelude.{◌≡◌, ◌≤◌, ◌+◌, IfOk, OnErr, List, ℕ, map, [], ◌∷◌, ◌++◌, length, None};
+ghost use Rattle.std.specs.Prelude.{◌≡◌, ◌≤◌, ◌+◌, IfOk, OnErr, List, ℕ, map, [], ◌∷◌, ◌++◌, length};
 ghost use Rattle.vm_base.specs.MemoryState.{own_of};
 ghost use Rattle.std.specs.Option.{ForSome};
 ghost use Rattle.trace_events.specs.declared.event.Event.{Event};
@@ -13,7 +13,7 @@ ghost use Rattle.trace_core.specs.KernelState.{Machine, KernelState, opening_sta
 ghost use Rattle.trace_core.specs.KernelRun.{Ran, HasRun};
 ghost use Rattle.trace_core.specs.KernelStanding.{KernelStands};
 ghost use Rattle.trace_core.specs.KernelWent.{AreGiven};
-ghost use Rattle.trace_core.specs.KernelSeen.{KernelNotes, IsKernelNoted, IsNoted, NotesHold, AreSlotsUsed, HasReached, parts_of, notes_of, kernel_memory, opening_memory, enough_of};
+ghost use Rattle.trace_core.specs.KernelSeen.{KernelNotes, IsKernelNoted, IsNoted, NotesHold, AreSlotsUsed, AreKeptUsed, HasReached, parts_of, notes_of, kernel_memory, opening_memory, enough_of};
 
 use crate::notes::Notes;
 use crate::parts::{Parts, Standing};
@@ -21,7 +21,7 @@ use frame_pool::FramePolicy;
 use std::alloc::Global;
 use std::snapshot::Snapshot;
 use trace_events::{Event, Outcome};
-use vm_base::{Memory, NoMemory};
+use vm_base::{Memory, NoMemory, Process};
 
 /// A parent and its snapshot over counted frames. It stands for the state of a run at each moment.
 #[derive(Drop)]
@@ -34,6 +34,8 @@ pub struct Kernel {
     ghost held: { NotesHold (parts_of parts) (notes_of notes) },
     /// A slot is used by a cell of the parent or of the snapshot that lives.
     ghost slotted: { AreSlotsUsed (parts_of parts) (notes_of notes) },
+    /// Each cell of the snapshot that lives uses a slot.
+    ghost housed: { AreKeptUsed (parts_of parts) (notes_of notes) },
     /// Once a request was refused, as many frames were had or asked for as are enough.
     ghost reached: { HasReached (parts_of parts) (notes_of notes) },
     /// The number of a snapshot that lives was given out.
@@ -90,6 +92,10 @@ impl Kernel {
             (record { frames = frames; slots = cells; limit = 1 }) last
             (policy_sum (standing (map (λ policy. told policy) policies.items))) [] []) }
 
+        // No child lives.
+        ensures children { IfOk result (λ kernel. ⟦<Kernel as Process>⟧.children (⟦<Kernel as Process>⟧.beside kernel)
+            ≡ record { numbers = []; live = 0; last = last; limit = 1 }) }
+
         // It holds no page, and tells how many frames are enough where there is no policy.
         ensures memory { IfOk result (λ kernel. ⟦<Kernel as Memory>⟧.state kernel ≡ opening_memory frames cells (enough_of frames (length policies.items))) }
     {
@@ -131,7 +137,7 @@ impl Kernel {
             → result ≡ held_frames state.leaves }
 
         // Where no snapshot lives, they are those of the parent's own memory.
-        ensures alone { (⟦<Kernel as Standing>⟧.parts self.now).snapshot ≡ None
+        ensures alone { (⟦<Kernel as Process>⟧.children (⟦<Kernel as Process>⟧.beside self.now)).live ≡ 0
             → result ≡ own_of (⟦<Kernel as Memory>⟧.state self.now).mem }
     {
         self.parts.held()

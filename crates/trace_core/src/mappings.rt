@@ -2,7 +2,7 @@
 //! used for.
 ghost use Rattle.std.specs.Prelude.{◌≡◌, ℕ, ◌+◌, ◌<◌, ◌≤◌, ◌^◌, OnOk, OnErr};
 ghost use Rattle.vm_base.specs.FlatStep.{unmap_of, protect_of};
-ghost use Rattle.page_tables.specs.Permissions.{may_write, may_write_after};
+ghost use Rattle.page_tables.specs.Permissions.{may_write, may_write_after, StopsWriting};
 ghost use Rattle.kernel_meaning.specs.EventRequests.{pages_unmapped, pages_protected};
 ghost use Rattle.trace_core.specs.KernelState.{Machine, KernelState};
 ghost use Rattle.trace_core.specs.EventMeaning.{begun, areas_changed};
@@ -25,6 +25,7 @@ impl Parts {
             → EventRan (⟦<Parts as Standing>⟧.parts self.old) (⟦<Parts as Standing>⟧.parts self.new) machine
             (λ answers. areas_changed state (unmap_of state.world.parent first pages) (pages_unmapped first pages (begun state answers))) (area_outcome result) }
         ensures refused { OnErr result (⟦<Parts as Standing>⟧.parts self.new ≡ ⟦<Parts as Standing>⟧.parts self.old) }
+        ensures writable { OnOk result (StopsWriting first pages (⟦<Parts as Standing>⟧.parts self.old).tables (⟦<Parts as Standing>⟧.parts self.new).tables) }
         ensures beside { ((⟦<Parts as Standing>⟧.parts self.new).snapshot ≡ (⟦<Parts as Standing>⟧.parts self.old).snapshot) × ((⟦<Parts as Standing>⟧.parts self.new).last ≡ (⟦<Parts as Standing>⟧.parts self.old).last) }
     {
         self.areas.unmap(first, pages)?;

@@ -68,7 +68,7 @@ impl Nest for Kernel {
 
 impl Housing for Kernel {
     ghost use Rattle.trace_core.specs.KernelSeen.{parts_of, notes_of};
-    ghost use Rattle.trace_core.specs.Housed.{same_memory, same_beside, same_child, used_there, lives_numbered, went_child, none_refused};
+    ghost use Rattle.trace_core.specs.Housed.{same_memory, same_beside, same_child, used_there, lives_numbered, went_child, lost_since, used_kept, none_refused};
     ghost use Rattle.std.proofs.Common.{refl};
 
     ghost state_beside = { λ p q c d same. same_memory same };
@@ -90,6 +90,10 @@ impl Housing for Kernel {
     ghost went_nest = { λ p q went. went };
 
     ghost went_child = { λ p q c went lived lives. went_child _ _ _ _ p.given went.children c.number lived lives };
+
+    ghost lost_since = { λ p q c went lived lives cell at before there. lost_since _ _ _ _ p.given went.children c.number lived lives cell at before there };
+
+    ghost used_kept = { λ p c cell lives listed. used_kept (parts_of p.parts) (notes_of p.notes) p.housed c.number lives cell listed };
 
     ghost copies_reached = { λ p c lives refused. none_refused (parts_of p.parts) p.parts.uncopied refused };
 

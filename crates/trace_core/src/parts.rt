@@ -1,6 +1,7 @@
 //! The parts of a kernel: the parent's areas, the page tables, and where frames come from.
 ghost use Rattle.std.specs.Prelude.{◌≡◌, ◌≤◌, ◌<◌, IfOk, length, map, [], None, vec_capacity};
 ghost use Rattle.frame_pool.specs.Policies.{standing};
+ghost use Rattle.page_tables.specs.Permissions.{LetsNoneWrite};
 ghost use Rattle.trace_core.specs.SupplyState.{state_of, opening_supply, policy_sum};
 ghost use Rattle.trace_core.specs.KernelState.{opening_state};
 ghost use Rattle.trace_core.specs.KernelRun.{HasRun};
@@ -78,6 +79,7 @@ impl Parts {
             (record { frames = frames; slots = cells; limit = 1 }) (opening_state last)) }
 
         ensures alone { IfOk result (λ parts. parts.snapshot ≡ None) }
+        ensures unwritten { IfOk result (λ kernel. LetsNoneWrite (⟦<Parts as Standing>⟧.parts kernel).tables) }
 
         // All frames are there, under the policies that are not done.
         ensures supply { IfOk result (λ kernel. (⟦<Parts as Standing>⟧.parts kernel).supply

@@ -7,6 +7,8 @@ ghost use Rattle.trace_core.specs.KernelState.{Machine, KernelState};
 ghost use Rattle.trace_core.specs.EventMeaning.{fork_end, copy_end_of, drop_end};
 ghost use Rattle.trace_core.specs.KernelStanding.{IsKernel, KernelStands, EventRan, kept_number};
 ghost use Rattle.trace_core.specs.CallAnswers.{fork_outcome};
+ghost use Rattle.page_tables.specs.Permissions.{KeepsWriting};
+ghost use Rattle.trace_core.specs.Writing.{WritesAfterSnapshot};
 ghost use Rattle.trace_core.specs.SnapshotAnswers.{snap_read_answer, KeepsUnlessLost};
 
 use crate::parts::{Parts, SnapshotAreas, Standing};
@@ -24,6 +26,7 @@ impl Parts {
         ensures ran { (machine : Machine) (state : KernelState) → KernelStands (⟦<Parts as Standing>⟧.parts self.old) machine state
             → EventRan (⟦<Parts as Standing>⟧.parts self.old) (⟦<Parts as Standing>⟧.parts self.new) machine (λ answers. fork_end machine state answers number Eager) (fork_outcome result) }
         ensures full { result ≡ Err ForkRefusal.TooMany → ⟦<Parts as Standing>⟧.parts self.new ≡ ⟦<Parts as Standing>⟧.parts self.old }
+        ensures writable { WritesAfterSnapshot result (⟦<Parts as Standing>⟧.parts self.old).tables (⟦<Parts as Standing>⟧.parts self.new).tables }
     {
         if self.snapshot.is_some() {
             return Err(ForkRefusal::TooMany);
@@ -50,6 +53,7 @@ impl Parts {
         requires stands { ∥ IsKernel (⟦<Parts as Standing>⟧.parts self.old) ∥₁ }
         ensures ran { (machine : Machine) (state : KernelState) → KernelStands (⟦<Parts as Standing>⟧.parts self.old) machine state
             → EventRan (⟦<Parts as Standing>⟧.parts self.old) (⟦<Parts as Standing>⟧.parts self.new) machine (λ answers. copy_end_of state answers number cell) result }
+        ensures same { ⟦<Parts as Standing>⟧.parts self.new ≡ ⟦<Parts as Standing>⟧.parts self.old }
     {
         if !is_live(&self.snapshot, number) {
             return Outcome::NoSnap;
@@ -65,6 +69,7 @@ impl Parts {
         requires stands { ∥ IsKernel (⟦<Parts as Standing>⟧.parts self.old) ∥₁ }
         ensures ran { (machine : Machine) (state : KernelState) → KernelStands (⟦<Parts as Standing>⟧.parts self.old) machine state
             → EventRan (⟦<Parts as Standing>⟧.parts self.old) (⟦<Parts as Standing>⟧.parts self.new) machine (λ answers. drop_end state answers number) result }
+        ensures writable { KeepsWriting (⟦<Parts as Standing>⟧.parts self.old).tables (⟦<Parts as Standing>⟧.parts self.new).tables }
     {
         if !is_live(&self.snapshot, number) {
             return Outcome::NoSnap;

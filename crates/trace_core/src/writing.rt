@@ -6,6 +6,8 @@ ghost use Rattle.trace_core.specs.KernelState.{Machine, KernelState};
 ghost use Rattle.trace_core.specs.EventMeaning.{mapped, touch_judged, written};
 ghost use Rattle.trace_core.specs.KernelStanding.{IsKernel, KernelStands, EventRan, read_answer};
 ghost use Rattle.trace_core.specs.CallAnswers.{area_outcome};
+ghost use Rattle.page_tables.specs.Permissions.{KeepsWriting};
+ghost use Rattle.trace_core.specs.Writing.{WritesAfterTouch, WritesAfterWrite};
 ghost use Rattle.trace_core.specs.TouchAnswers.{fault_outcome, touch_outcome, IsReadyKernel, LeavesReady, LacksPage, with_stored};
 
 use crate::parts::{Parts, Standing};
@@ -65,7 +67,8 @@ impl Parts {
             → LeavesReady (⟦<Parts as Standing>⟧.parts self.new) machine state.leaves addr len result }
         ensures page { IfErr result (λ fault. (machine : Machine) (state : KernelState) → KernelStands (⟦<Parts as Standing>⟧.parts self.old) machine state
             → LacksPage state.world.parent addr len fault) }
-        ensures beside { ((⟦<Parts as Standing>⟧.parts self.new).areas ≡ (⟦<Parts as Standing>⟧.parts self.old).areas)
+        ensures beside { (((⟦<Parts as Standing>⟧.parts self.new).areas ≡ (⟦<Parts as Standing>⟧.parts self.old).areas)
+            × WritesAfterTouch addr len result (⟦<Parts as Standing>⟧.parts self.old).tables (⟦<Parts as Standing>⟧.parts self.new).tables)
             × ((⟦<Parts as Standing>⟧.parts self.new).snapshot ≡ (⟦<Parts as Standing>⟧.parts self.old).snapshot)
             × ((⟦<Parts as Standing>⟧.parts self.new).last ≡ (⟦<Parts as Standing>⟧.parts self.old).last) }
     {
@@ -100,6 +103,7 @@ impl Parts {
             → KernelStands (⟦<Parts as Standing>⟧.parts self.new) machine (with_stored state addr bytes.now) }
         ensures others { ⟦<Parts as Standing>⟧.parts self.new
             ≡ record (⟦<Parts as Standing>⟧.parts self.old) { tables = (⟦<Parts as Standing>⟧.parts self.new).tables } }
+        ensures writable { KeepsWriting (⟦<Parts as Standing>⟧.parts self.old).tables (⟦<Parts as Standing>⟧.parts self.new).tables }
     {
         // A store of no bytes needs no page.
         if bytes.is_empty() {
@@ -118,6 +122,7 @@ impl Parts {
         requires stands { ∥ IsKernel (⟦<Parts as Standing>⟧.parts self.old) ∥₁ }
         ensures ran { (machine : Machine) (state : KernelState) → KernelStands (⟦<Parts as Standing>⟧.parts self.old) machine state
             → EventRan (⟦<Parts as Standing>⟧.parts self.old) (⟦<Parts as Standing>⟧.parts self.new) machine (λ answers. written machine state answers addr bytes.now) result }
+        ensures writable { WritesAfterWrite addr (length bytes.now) result (⟦<Parts as Standing>⟧.parts self.old).tables (⟦<Parts as Standing>⟧.parts self.new).tables }
     {
         match self.touch(addr, bytes.len() as u64) {
             Ok(()) => {
@@ -142,6 +147,7 @@ impl Parts {
         requires stands { ∥ IsKernel (⟦<Parts as Standing>⟧.parts self.old) ∥₁ }
         ensures ran { IfOk result (λ outcome. (machine : Machine) (state : KernelState) → KernelStands (⟦<Parts as Standing>⟧.parts self.old) machine state
             → EventRan (⟦<Parts as Standing>⟧.parts self.old) (⟦<Parts as Standing>⟧.parts self.new) machine (λ answers. written machine state answers addr (replicate len byte)) outcome) }
+        ensures writable { IfOk result (λ outcome. WritesAfterWrite addr len outcome (⟦<Parts as Standing>⟧.parts self.old).tables (⟦<Parts as Standing>⟧.parts self.new).tables) }
         ensures kept { OnErr result (⟦<Parts as Standing>⟧.parts self.new ≡ ⟦<Parts as Standing>⟧.parts self.old) }
     {
         let bytes = vec![in alloc; byte; len as usize]?;

@@ -7,7 +7,7 @@ use Rattle.trace_core.proofs.HeldEvents.{holds-step}
 use Rattle.trace_core.proofs.FilledCells.{cells-filled, filled-step}
 use Rattle.trace_core.proofs.PlainPools.{step-empty, step-told, plain-still, plain-empty}
 use Rattle.trace_core.proofs.ReachedEvents.{reached-step}
-use Rattle.trace_core.proofs.UsedCells.{used-there}
+use Rattle.trace_core.proofs.UsedCells.{used-there, kept-used}
 use Rattle.trace_core.proofs.KernelProcesses.{known-given}
 use Rattle.trace_core.proofs.kernel.Kernel.step.Goals as goal
 
@@ -46,3 +46,6 @@ invariant_of-self-2-clause-slotted g c = used-there _ _ (invariant_of-self-2-cla
 
 pub invariant_of-self-2-clause-given : goal.invariant_of-self-2-clause-given
 invariant_of-self-2-clause-given g c = known-given _ _ (invariant_of-self-2-clause-stood g c)
+
+pub invariant_of-self-2-clause-housed : goal.invariant_of-self-2-clause-housed
+invariant_of-self-2-clause-housed g c = kept-used _ _ (invariant_of-self-2-clause-stood g c)

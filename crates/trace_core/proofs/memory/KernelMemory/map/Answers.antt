@@ -7,7 +7,7 @@ use Rattle.trace_core.proofs.HeldNotes.{map-holds, holds-under, under-holds}
 use Rattle.trace_core.proofs.ReachedEvents.{map-reached}
 use Rattle.trace_core.proofs.PlainPools.{ran-empty, plain-still, plain-empty}
 use Rattle.trace_core.proofs.AreaCalls.{unless-done, map-known, map-granted, map-refused, map-keeps}
-use Rattle.trace_core.proofs.UsedCells.{used-there}
+use Rattle.trace_core.proofs.UsedCells.{used-there, kept-used}
 use Rattle.trace_core.proofs.WentCalls.{map-went}
 use Rattle.trace_core.proofs.KernelProcesses.{known-given}
 use Rattle.trace_core.proofs.memory.KernelMemory.map.Goals as goal
@@ -52,3 +52,6 @@ returns-clause-went g c =
     map-went _ _ (notes_of c.args.self.now.notes) (notes_of c.args.self.now.notes)
     (record { known = noted-under _ _ _ c.args.self.now.stood; snapshot = ap (λ parts. parts.snapshot) c.map.ensures.others; last = ap (λ parts. parts.last) c.map.ensures.others; forked = refl; copied = c.args.self.now.parts.uncopied; fits = c.args.self.now.parts.supply.counted })
     c.args.first c.args.pages c.args.perm (area_outcome c.map.result) c.map.ensures.ran
+
+pub invariant_of-self-clause-housed : goal.invariant_of-self-clause-housed
+invariant_of-self-clause-housed g c = kept-used _ _ (invariant_of-self-clause-stood g c)

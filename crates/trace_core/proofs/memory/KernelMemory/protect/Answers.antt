@@ -7,7 +7,7 @@ use Rattle.trace_core.proofs.HeldNotes.{protect-holds, holds-under, under-holds}
 use Rattle.trace_core.proofs.ReachedEvents.{protect-reached}
 use Rattle.trace_core.proofs.PlainPools.{ran-empty, plain-still, plain-empty}
 use Rattle.trace_core.proofs.AreaCalls.{unless-done, protect-known, protect-granted, protect-refused, protect-keeps}
-use Rattle.trace_core.proofs.UsedCells.{used-there}
+use Rattle.trace_core.proofs.UsedCells.{used-there, kept-used}
 use Rattle.trace_core.proofs.WentCalls.{protect-went}
 use Rattle.trace_core.proofs.KernelProcesses.{known-given}
 use Rattle.trace_core.proofs.memory.KernelMemory.protect.Goals as goal
@@ -55,3 +55,6 @@ returns-clause-went g c =
     protect-went _ _ (notes_of c.args.self.now.notes) (notes_of c.args.self.now.notes)
     (record { known = noted-under _ _ _ c.args.self.now.stood; snapshot = c.protect.ensures.beside.0; last = c.protect.ensures.beside.1; forked = refl; copied = c.args.self.now.parts.uncopied; fits = c.args.self.now.parts.supply.counted })
     c.args.first c.args.pages c.args.perm (area_outcome c.protect.result) c.protect.ensures.ran
+
+pub invariant_of-self-clause-housed : goal.invariant_of-self-clause-housed
+invariant_of-self-clause-housed g c = kept-used _ _ (invariant_of-self-clause-stood g c)

@@ -5,7 +5,7 @@ use Rattle.trace_core.specs.KernelSeen.{notes_of}
 use Rattle.trace_core.proofs.HeldNotes.{store-holds, holds-under, under-holds}
 use Rattle.trace_core.proofs.PlainPools.{plain-still}
 use Rattle.trace_core.proofs.KernelTouches.{bytes-fit, known-ready, known-stored, store-stores, store-kept}
-use Rattle.trace_core.proofs.UsedCells.{used-there}
+use Rattle.trace_core.proofs.UsedCells.{used-there, kept-used}
 use Rattle.trace_core.proofs.WentCalls.{store-went}
 use Rattle.trace_core.proofs.KernelProcesses.{known-given}
 use Rattle.trace_core.proofs.memory.KernelMemory.store.Goals as goal
@@ -53,3 +53,6 @@ invariant_of-self-clause-given g c = known-given _ _ (invariant_of-self-clause-s
 pub returns-clause-went : goal.returns-clause-went
 returns-clause-went g c =
     store-went _ _ (notes_of c.args.self.now.notes) c.args.addr c.args.bytes.now (noted-under _ _ _ c.args.self.now.stood) c.store.ensures.stored c.store.ensures.others c.args.self.now.given
+
+pub invariant_of-self-clause-housed : goal.invariant_of-self-clause-housed
+invariant_of-self-clause-housed g c = kept-used _ _ (invariant_of-self-clause-stood g c)

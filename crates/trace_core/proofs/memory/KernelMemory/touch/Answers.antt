@@ -9,7 +9,7 @@ use Rattle.trace_core.proofs.ReachedEvents.{touch-reached}
 use Rattle.trace_core.proofs.PlainPools.{ran-empty, plain-still, plain-empty}
 use Rattle.trace_core.proofs.ToldMemories.{told-memory, told-kept}
 use Rattle.trace_core.proofs.KernelTouches.{touches-none, kept-same, known-touched, touch-touches, touch-fails, touch-kept}
-use Rattle.trace_core.proofs.UsedCells.{used-there}
+use Rattle.trace_core.proofs.UsedCells.{used-there, kept-used}
 use Rattle.trace_core.specs.WentOn.{went-none}
 use Rattle.trace_core.proofs.WentCalls.{touch-went}
 use Rattle.trace_core.proofs.KernelProcesses.{known-given}
@@ -92,3 +92,6 @@ returns-clause-went g c =
       copied = c.args.self.now.parts.uncopied;
       fits = c.args.self.now.parts.supply.counted;
     }) c.args.addr c.args.len c.touch-answer.result c.touch-answer.ensures.ran
+
+pub invariant_of-self-clause-housed : goal.invariant_of-self-clause-housed
+invariant_of-self-clause-housed g c = kept-used _ _ (invariant_of-self-clause-stood g c)

@@ -1,4 +1,4 @@
-use Rattle.std.proofs.Common.{sym, ◌∙◌, ap}
+use Rattle.std.proofs.Common.{refl, sym, ◌∙◌, ap}
 use Rattle.trace_core.specs.KernelStanding.{sides_of}
 use Rattle.trace_core.proofs.Copies.{ran-uncopied, ran-copy, state_outcome, nothing-unlost}
 use Rattle.trace_core.proofs.Known.{known-tables}
@@ -9,7 +9,7 @@ state-requires-clause-stands g c = known-tables _ c.requires.stands
 
 -- src/snapshots.rt:53:13
 pub returns-then-not-is_live : goal.returns-then-not-is_live
-returns-then-not-is_live g c = record { ran = λ machine state st. ran-uncopied _ machine state st c.args.number c.args.cell (sym c.is_live.ensures ∙ c.if-not-is_live.true) }
+returns-then-not-is_live g c = record { ran = λ machine state st. ran-uncopied _ machine state st c.args.number c.args.cell (sym c.is_live.ensures ∙ c.if-not-is_live.true); same = refl }
 
 -- src/snapshots.rt:46:5
 pub returns-in-Lost : goal.returns-in-Lost
@@ -17,6 +17,7 @@ returns-in-Lost g c = record {
   ran = λ machine state st.
       ran-copy _ machine state st c.args.number c.args.cell (sym c.is_live.ensures ∙ c.if-not-is_live.false)
       c.state.result (c.state.ensures.state (sides_of state st.pages) st.tables) _ (ap state_outcome c.in-Lost.is);
+  same = refl;
 }
 
 -- src/snapshots.rt:46:5
@@ -25,4 +26,5 @@ returns-in_default g c = record {
   ran = λ machine state st.
       ran-copy _ machine state st c.args.number c.args.cell (sym c.is_live.ensures ∙ c.if-not-is_live.false)
       c.state.result (c.state.ensures.state (sides_of state st.pages) st.tables) _ (nothing-unlost c.state.result c.in_default.not-Lost);
+  same = refl;
 }

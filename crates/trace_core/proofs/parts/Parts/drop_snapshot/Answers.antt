@@ -1,4 +1,4 @@
-use Rattle.std.proofs.Common.{sym, ◌∙◌}
+use Rattle.std.proofs.Common.{refl, sym, ◌∙◌}
 use Rattle.trace_core.specs.KernelStanding.{sides_of}
 use Rattle.trace_core.proofs.Drops.{ran-undropped, ran-dropped}
 use Rattle.trace_core.proofs.OneSnapshot.{number-is}
@@ -14,7 +14,7 @@ drop_snapshot-requires-clause-lent g c = known-lent _ c.requires.stands
 
 -- src/snapshots.rt:68:13
 pub returns-then-not-is_live : goal.returns-then-not-is_live
-returns-then-not-is_live g c = record { ran = λ machine state st. ran-undropped _ machine state st c.args.number (sym c.is_live.ensures ∙ c.if-not-is_live.true) }
+returns-then-not-is_live g c = record { ran = λ machine state st. ran-undropped _ machine state st c.args.number (sym c.is_live.ensures ∙ c.if-not-is_live.true); writable = λ page. refl }
 
 -- src/snapshots.rt:62:5
 pub returns : goal.returns
@@ -27,4 +27,5 @@ returns g c = record {
       (moved-alike _ _ _ _ c.drop_snapshot.ensures.held st.out)
       c.drop_snapshot.ensures.gone
       (c.drop_snapshot.ensures.slots ∙ st.slots);
+  writable = c.drop_snapshot.ensures.writable;
 }

@@ -27,6 +27,7 @@ pub returns-then-is_some : goal.returns-then-is_some
 returns-then-is_some g c = record {
   ran = λ machine state st. ran-too-many _ machine state st c.args.number (sym c.is_some.ensures ∙ c.if-is_some.true);
   full = λ e. refl;
+  writable = λ page. refl;
 }
 
 -- src/snapshots.rt:21:5
@@ -40,6 +41,7 @@ returns-in-Ok g c = record {
       (moved-alike _ _ _ _ c.fork.ensures.held st.out)
       (c.fork.ensures.slots ∙ st.slots)
       c.in-Ok.ensures.lives c.copy.result c.copy.ensures;
+  writable = c.in-Ok.ensures.writable;
   full = λ e. absurd (false≢true (ap (λ answer. is_too_many (fork_outcome answer)) e));
 }
 
@@ -55,5 +57,6 @@ returns-in-Err g c = record {
       (moved-alike _ _ _ _ c.fork.ensures.held st.out)
       (c.fork.ensures.slots ∙ st.slots)
       c.in-Err.ensures.kept;
+  writable = c.in-Err.ensures.writable;
   full = λ e. absurd (false≢true (ap (λ answer. is_too_many (fork_outcome answer)) e));
 }

@@ -29,4 +29,4 @@ store-requires-clause-stands g c = ∥∥₁_map c.requires.ready (λ it. (
 pub returns-clause-stored : goal.returns-clause-stored
 returns-clause-stored g c = λ machine state st.
     stored-stands _ machine state c.args.addr c.args.bytes.now c.store.new.self st
-    c.store.ensures.stored c.store.ensures.held c.store.ensures.frames c.store.ensures.shares c.store.ensures.snapshot c.store.ensures.slots
+    c.store.ensures.stored c.store.ensures.held c.store.ensures.cells.frames c.store.ensures.cells.shares c.store.ensures.snapshot c.store.ensures.slots

@@ -1,4 +1,5 @@
-use Rattle.std.proofs.Common.{Some, refl, sym, ◌∙◌}
+use Rattle.std.proofs.Common.{Some, refl, sym, ◌∙◌, subst}
+use Rattle.page_tables.specs.Permissions.{LetsWrite}
 use Rattle.vm_base.specs.Places.{page_of}
 use Rattle.page_tables.specs.Ranges.{cells_of_pages}
 use Rattle.trace_core.specs.KernelStanding.{sides_of}
@@ -59,7 +60,7 @@ returns-in-Ok g c = record {
       c.touch.new.self c.in-Ok.ensures.made.deals _ c.in-Ok.ensures.made.led c.touch.ensures.even c.touch.ensures.held c.touch.ensures.snapshot c.touch.ensures.slots
       (c.in-Ok.ensures.made.follows (sides_of state st.pages) st.tables));
   page = tt;
-  beside = (refl, refl, refl);
+  beside = ((refl, subst (λ n. LetsWrite (page_of c.args.addr) n c.args.self.now.tables c.touch.new.self) c.page_count-count.ensures.count c.in-Ok.ensures.writable), refl, refl);
 }
 
 -- src/writing.rt:57:5
@@ -83,5 +84,5 @@ returns-in-Err g c = record {
   page = λ machine state st.
       page-lacks c.args.self.now.tables (sides_of state st.pages) st.tables c.args.addr c.args.len _ c.page_count-count.ensures.count
       c.touch.new.self c.in-Err.ensures.made.deals c.in-Err.refused.at c.in-Err.refused.page (c.in-Err.ensures.made.follows (sides_of state st.pages) st.tables);
-  beside = (refl, refl, refl);
+  beside = ((refl, c.in-Err.ensures.writable), refl, refl);
 }

@@ -11,7 +11,7 @@ use Rattle.trace_core.proofs.PlainPools.{ran-empty, plain-still, plain-empty}
 use Rattle.trace_core.proofs.ToldMemories.{told-kept}
 use Rattle.trace_core.proofs.KernelTouches.{kept-same}
 use Rattle.trace_core.proofs.KernelProcesses.{known-children, forked-noted, fork-copy, fork-born, fork-forked, fork-fails, fork-failed, fork-leaves, fork-kept, fork-others, fork-known, fork-holds, fork-reached}
-use Rattle.trace_core.proofs.UsedCells.{used-there}
+use Rattle.trace_core.proofs.UsedCells.{used-there, kept-used}
 use Rattle.trace_core.specs.WentOn.{went-none}
 use Rattle.trace_core.proofs.WentCalls.{fork-went}
 use Rattle.trace_core.proofs.KernelProcesses.{known-given}
@@ -138,3 +138,6 @@ returns-clause-went g c =
     (noted-under _ _ _ c.args.self.now.stood) c.fork-answer.result
     (forked-noted _ _ _ _ _ _ _ c.refused-refused.ensures.count c.fork_answered.ensures c.fork-answer.ensures.ran c.fork-answer.ensures.full)
     c.in-Some.ensures c.args.self.now.parts.supply.counted c.args.self.now.parts.uncopied c.fork-answer.new.self.uncopied
+
+pub invariant_of-self-2-clause-housed : goal.invariant_of-self-2-clause-housed
+invariant_of-self-2-clause-housed g c = kept-used _ _ (invariant_of-self-2-clause-stood g c)

@@ -6,7 +6,7 @@ use Rattle.trace_core.proofs.SoundSteps.{known-noted, noted-under}
 use Rattle.trace_core.proofs.HeldNotes.{holds-under, under-holds}
 use Rattle.trace_core.proofs.PlainPools.{ran-empty, plain-still}
 use Rattle.trace_core.proofs.KernelProcesses.{known-children, no-refusal, drop-known, drop-leaves, drop-kept, drop-reaps, drop-unlisted, drop-holds}
-use Rattle.trace_core.proofs.UsedCells.{used-there}
+use Rattle.trace_core.proofs.UsedCells.{used-there, kept-used}
 use Rattle.trace_core.proofs.WentCalls.{drop-went}
 use Rattle.trace_core.proofs.KernelProcesses.{known-given}
 use Rattle.trace_core.proofs.process.KernelProcess.reap.Goals as goal
@@ -75,3 +75,6 @@ pub returns-clause-went : goal.returns-clause-went
 returns-clause-went g c = drop-went _ _ (notes_of c.args.self.now.notes) c.args.gone.number
     (noted-under _ _ _ c.args.self.now.stood) c.drop_snapshot.result c.drop_snapshot.ensures.ran c.requires.lives
     c.args.self.now.parts.supply.counted c.args.self.now.parts.uncopied c.drop_snapshot.new.self.uncopied
+
+pub invariant_of-self-clause-housed : goal.invariant_of-self-clause-housed
+invariant_of-self-clause-housed g c = kept-used _ _ (invariant_of-self-clause-stood g c)
