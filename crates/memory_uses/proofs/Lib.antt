@@ -4,3 +4,4 @@ pub mod Touched
 pub mod Begun
 pub mod Completed
 pub mod Answered
+pub mod Living

@@ -1,11 +1,12 @@
 -- What a write leaves, alone and behind a fork.
 use Rattle.std.specs.Prelude.{◌≡◌, ℕ, ◌⊎◌, List, [], length, Result, Ok}
 use Rattle.vm_base.specs.declared.faults.Fault.{Fault}
+use Rattle.vm_base.specs.Places.{cells_of_range}
 use Rattle.vm_base.specs.FlatMemory.{FlatMemory}
 use Rattle.vm_base.specs.FlatStep.{write_of}
 use Rattle.vm_base.specs.MemoryState.{MemoryState, IsKept, KeepsReady}
 use Rattle.vm_base.specs.MemoryCalls.{Reaches, IsReady, TouchFails, is_out_of_slots, if_slots, faulted}
-use Rattle.vm_base.specs.ProcessState.{LeavesMemory}
+use Rattle.vm_base.specs.ProcessState.{LeavesMemory, LeavesAtReap}
 
 -- the memory that a write leaves where each of its frames is granted, or the fault
 abbrev pub write_answer : MemoryState → ℕ → List ℕ → Result FlatMemory Fault
@@ -18,10 +19,21 @@ pub record Writes (old new : MemoryState) (address : ℕ) (bytes : List ℕ) : T
   pub ready : IsReady new address (length bytes)
   pub keeps : KeepsReady old new
 
+-- the bytes were written, or the touch of their range was refused
+abbrev pub WritesOrFails : MemoryState → MemoryState → ℕ → List ℕ → Type 0
+WritesOrFails old new address bytes = Writes old new address bytes ⊎ ((fault : Fault) × TouchFails old new address (length bytes) fault)
+
 -- behind a fork, which refused no request, the bytes were written, or the touch of their range was refused
 pub record WritesAfterFork (old new : MemoryState) (address : ℕ) (bytes : List ℕ) : Type 0 where
   pub forked : MemoryState
   pub fork : LeavesMemory old forked
   pub kept : IsKept old forked []
   pub refused : forked.refused ≡ old.refused
-  pub write : Writes forked new address bytes ⊎ ((fault : Fault) × TouchFails forked new address (length bytes) fault)
+  pub write : WritesOrFails forked new address bytes
+
+-- behind a write, or a refused one, a child was reaped
+pub record WritesAndReaps (old new : MemoryState) (address : ℕ) (bytes : List ℕ) : Type 0 where
+  pub written : MemoryState
+  pub write : WritesOrFails old written address bytes
+  pub reap : LeavesAtReap written new
+  pub kept : IsKept old new (cells_of_range address (length bytes))

@@ -11,6 +11,7 @@ mod known;
 mod life;
 mod plays;
 mod seat;
+mod sleep;
 mod told;
 mod turns;
 

@@ -8,6 +8,7 @@ ghost use Rattle.turn_cell.specs.contracts.seat.Seat.{the_row as seat_row};
 use crate::cell::TurnCell;
 use crate::plays::{Adds, Call, Give, Nothing, Take};
 use crate::seat::Seat;
+use crate::sleep::CALLS;
 use crate::told::{Note, Told};
 use std::hint;
 use std::marker::Brand;
@@ -16,12 +17,6 @@ use std::sync::atomic::Ordering::SeqCst;
 
 /// The word that is 0, or 1 more than the number of the seat that has the turn.
 const HOLDER: usize = 0;
-
-/// The word that counts the calls to seats that sleep. They park on it.
-const CALLS: usize = 1;
-
-/// The bits of a word that a seat parks on.
-const LOW: u64 = 0xffff_ffff;
 
 /// How often a seat looks at the word before it sleeps.
 const LOOKS: u32 = 100;
@@ -42,7 +37,7 @@ pub struct Turn<'a, T: Told> {
 
 impl<T: Told> TurnCell<T> {
     // One exchange of the word, and the value out of the slot.
-    fn take(&self, seat: &mut Seat<T>) -> Result<T, Busy>
+    pub(crate) fn take(&self, seat: &mut Seat<T>) -> Result<T, Busy>
         requires { IsSeatOf T.seat_of (cell_id self.now) seat.old }
         ensures { MatchResult result
             (λ x. Began T.opening T.stands T.seat_of (cell_id self.now) seat.old seat.new x)
@@ -77,12 +72,11 @@ impl<T: Told> TurnCell<T> {
         for _ in rt.forever() {
             // It says that it will sleep before it asks again, and sleeps only if no one called
             // since: so a turn that is given back after it asked calls it.
-            let heard = self.table.shared.peek(CALLS);
-            self.asleep.store(1, SeqCst);
-            if let Ok(value) = self.take(seat) {
-                return value;
+            let said = self.hear().say(self);
+            match self.ask(seat, said) {
+                Ok(value) => return value,
+                Err(missed) => self.sleep(rt, missed),
             }
-            self.table.shared.park(rt, CALLS, (heard & LOW) as u32);
         }
         unreachable!()
     }
@@ -117,6 +111,7 @@ impl<T: Told> TurnCell<T> {
     /// and finds that a seat may sleep takes that word back, counts a call and wakes one seat; a
     /// seat that was called says again that it will sleep, since others may still. What would
     /// happen if the count were read after the word was given: a call in between would be missed.
+    /// The three steps stand in `sleep.rt`, where each takes what the one before it made.
     pub fn turn<'a, R: Wait>(&'a self, rt: &R, seat: &'a mut Seat<T>) -> Turn<'a, T>
         requires seat { IsSeatOf T.seat_of (cell_id self.now) seat.old }
         ensures taken { Began T.opening T.stands T.seat_of (cell_id self.now)

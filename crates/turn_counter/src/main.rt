@@ -4,6 +4,8 @@
 mod counter;
 mod race;
 #[cfg(test)]
+mod rounds;
+#[cfg(test)]
 mod tests;
 
 use race::race;

@@ -43,7 +43,7 @@ pub fn climb<R: Wait>(
     rising
 }
 
-fn hand_out(seats: &mut SeatList<Counter>, jobs: &mut Vec<Job>, threads: u32)
+pub fn hand_out(seats: &mut SeatList<Counter>, jobs: &mut Vec<Job>, threads: u32)
     requires list { IsList made_by seats.old }
     requires new { IsNewList seats.old × ((list_id seats.old).seats ≡ threads) }
     requires room { (jobs.old.items ≡ []) × (vec_capacity jobs.old ≡ threads) }

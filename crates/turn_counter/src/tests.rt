@@ -1,6 +1,7 @@
 //! A seat that is alone, two seats that tell each other, and four threads.
 use crate::counter::{Counter, add};
 use crate::race::race;
+use crate::rounds::game;
 use std::test::Fail;
 use turn_cell::TurnCell;
 
@@ -43,6 +44,13 @@ fn a_seat_sees_what_it_was_told(rt: HostRuntime) -> Result<(), Fail> {
     assert_eq!(rt; add(&rt, &cell, &mut second, 1), 15);
     seats.put(second);
     seats.put(first);
+    Ok(())
+}
+
+#[test]
+fn each_seat_that_sleeps_is_called(rt: HostRuntime) -> Result<(), Fail> {
+    // A seat that no one called would sleep on, and the test would not end.
+    assert_eq!(rt; game(&rt, rt.alloc(), 3, 1_000), Some(3_000));
     Ok(())
 }
 
