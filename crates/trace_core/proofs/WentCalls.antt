@@ -67,12 +67,20 @@ goes-asker old new Returned goes = ap (λ supply. supply.asker) goes.is
 led-dealt : (deals : List Deal) (old new : SupplyState) → old.asker ≡ Parent → LeadsAlong SupplyGoes old deals new → DealtAlong old (dealings_of Parent deals) new
 led-dealt [] old new parents led = ap (as_asker old.asker old.refused) led
 led-dealt (deal ∷ deals) old new parents led =
-    let next : led.0.asker ≡ Parent = goes-asker old led.0 deal led.1.0 ∙ parents in
-    (led.0, (old.refused, (led.0.refused, (
-      subst (λ supply. SupplyGoes supply deal (as_asker Parent led.0.refused led.0)) (λ i. as_asker (parents i) old.refused old)
-      (subst (λ supply. SupplyGoes old deal supply) (λ i. as_asker (next i) led.0.refused led.0) led.1.0),
-      led-dealt deals led.0 new next led.1.1,
-    ))))
+    let next : led.0.asker ≡ Parent = goes-asker old led.0 deal led.1.0 ∙ parents in (
+      led.0,
+      (
+        old.refused,
+        (
+          led.0.refused,
+          (
+            subst (λ supply. SupplyGoes supply deal (as_asker Parent led.0.refused led.0)) (λ i. as_asker (parents i) old.refused old)
+                (subst (λ supply. SupplyGoes old deal supply) (λ i. as_asker (next i) led.0.refused led.0) led.1.0),
+            led-dealt deals led.0 new next led.1.1,
+          ),
+        ),
+      ),
+    )
 
 -- refusals of the parent that carry its count
 counted-parents : (count : ℕ) (deals : List Deal) → AreCounted count deals → AreCountedAmong Parent count (dealings_of Parent deals)
@@ -251,20 +259,23 @@ pub store-went : (old new : KernelParts) (notes : KernelNotes) (addr : ℕ) (byt
     → AreGiven old → KernelWent old notes new notes
 store-went old new notes addr bytes known stored others given = record {
   children = keeps-children old new notes notes snapshot (ap (λ parts. parts.last) others) refl stays none risen lost;
-  dealt = λ machine state st. ([], record {
-    after = with_stored state addr bytes;
-    dealt = ap (λ parts. as_asker old.supply.asker old.supply.refused parts.supply) others;
-    led = λ opening earlier led. subst (λ requests. HaveLed machine.frames opening requests new.supply.policies) (sym (append-nil earlier))
-        (subst (λ parts. HaveLed machine.frames opening earlier parts.supply.policies) (sym others) led);
-    made = refl;
-    named = refl;
-    out = refl;
-    refused = record { told = tt; rose = ap (λ parts. parts.supply.refused) others };
-    kept = λ n below lives. record { told = tt; rose = ap copies_refused_in snapshot };
-    fresh = λ n above lives. absurd (none-fresh n above lives);
-    askers = λ n some. absurd (none-asked some);
-    stands = stored machine state st;
-  });
+  dealt = λ machine state st. (
+    [],
+    record {
+      after = with_stored state addr bytes;
+      dealt = ap (λ parts. as_asker old.supply.asker old.supply.refused parts.supply) others;
+      led = λ opening earlier led. subst (λ requests. HaveLed machine.frames opening requests new.supply.policies) (sym (append-nil earlier))
+          (subst (λ parts. HaveLed machine.frames opening earlier parts.supply.policies) (sym others) led);
+      made = refl;
+      named = refl;
+      out = refl;
+      refused = record { told = tt; rose = ap (λ parts. parts.supply.refused) others };
+      kept = λ n below lives. record { told = tt; rose = ap copies_refused_in snapshot };
+      fresh = λ n above lives. absurd (none-fresh n above lives);
+      askers = λ n some. absurd (none-asked some);
+      stands = stored machine state st;
+    },
+  );
 }
   where
     snapshot : new.snapshot ≡ old.snapshot
