@@ -1,7 +1,7 @@
-use Rattle.std.proofs.Common.{◌≡◌, ap, sym, ◌∙◌, subst, length, IsTrue, Some, None, ℕ}
+use Rattle.std.proofs.Common.{ap, sym, ◌∙◌, subst, length}
 use Rattle.std.specs.Prelude.{unwrap_or}
 use Rattle.vm_base.specs.Places.{cells_of_range}
-use Rattle.vm_base.specs.MemoryState.{IsKept, IsListed}
+use Rattle.vm_base.specs.MemoryState.{IsKept}
 use Rattle.memory_uses.proofs.Living.{GoesOn-on, lives_there, since-same}
 use Rattle.memory_uses.proofs.housing.write_and_copy.Goals as goal
 

@@ -1,4 +1,4 @@
-use Rattle.std.proofs.Common.{◌≡◌, [], refl, sym, ◌∙◌, ap, subst, length, ℕ}
+use Rattle.std.proofs.Common.{[], refl, sym, ◌∙◌, subst, length}
 use Rattle.std.proofs.lemmas.Bool.{false≢true}
 use Rattle.vm_base.specs.Places.{cells_of_range}
 use Rattle.vm_base.specs.MemoryState.{IsListed}
