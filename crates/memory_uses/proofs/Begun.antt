@@ -9,7 +9,7 @@ use Rattle.vm_base.specs.FlatMemory.{FlatMemory}
 use Rattle.vm_base.specs.FlatStep.{Refusal, map_of, protect_of}
 use Rattle.vm_base.specs.MemoryState.{MemoryState, own_of}
 use Rattle.vm_base.specs.MemoryCalls.{Maps, Changes, Touches, TouchFails, touched, faulted, fault_of, map_answer, protect_answer}
-use Rattle.memory_uses.specs.Steps.{Begins, BeginFails, LacksTouch, MapsAndProtects, ProtectFails, map_all, where_mapped}
+use Rattle.memory_uses.specs.Steps.{Begins, BeginFails, MapsAndProtects, ProtectFails, map_all, where_mapped}
 use Rattle.memory_uses.proofs.Undone.{memory_of}
 use Rattle.memory_uses.proofs.Touched.{touches_mem}
 

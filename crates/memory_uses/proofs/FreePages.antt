@@ -1,12 +1,12 @@
 -- Pages that no area has, and areas without them.
-use Rattle.std.proofs.Common.{◌≡◌, ℕ, zero, suc, ◌+◌, ◌-◌, ◌<◌, ◌≤◌, ◌⊎◌, Bool, true, false, List, [], ◌∷◌, ◌++◌, Some, None, refl, sym, ◌∙◌, ap, arith, inl, inr}
-use Rattle.std.specs.Prelude.{is_some, nat_le, nat_lt, ◌&&◌}
+use Rattle.std.proofs.Common.{◌≡◌, ℕ, zero, suc, ◌+◌, ◌-◌, ◌<◌, ◌≤◌, ◌⊎◌, Bool, true, false, List, [], ◌∷◌, ◌++◌, Some, None, sym, ◌∙◌, ap, arith, inl, inr}
+use Rattle.std.specs.Prelude.{is_some, nat_le, nat_lt}
 use Rattle.std.specs.List.{range_with_len, find}
 use Rattle.std.proofs.lemmas.Bool.{cases_Bool, cases_lt, cond-true, cond-false, false≢true}
 use Rattle.std.proofs.lemmas.Bool.Decides.{nat_tests}
 use Rattle.vm_base.specs.declared.permission.Perm.{Perm}
-use Rattle.vm_base.specs.FlatMemory.{Area, AreInOrder, holds, area_of}
-use Rattle.vm_base.specs.FlatStep.{lowest, taken, area_between, area_without, areas_without}
+use Rattle.vm_base.specs.FlatMemory.{Area, holds, area_of}
+use Rattle.vm_base.specs.FlatStep.{lowest, taken, area_between, area_without}
 use Rattle.memory_uses.specs.Steps.{area_at}
 
 -- none of n pages lies in an area

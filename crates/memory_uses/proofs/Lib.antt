@@ -5,3 +5,5 @@ pub mod Begun
 pub mod Completed
 pub mod Answered
 pub mod Living
+pub mod Pieces
+pub mod Growing

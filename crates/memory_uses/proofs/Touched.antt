@@ -1,14 +1,14 @@
 -- What touches and refused touches leave of a memory.
-use Rattle.std.proofs.Common.{◌≡◌, ℕ, max, Bool, true, false, List, [], ◌∷◌, length, Some, None, Ok, Err, Result, refl, sym, ◌∙◌, ap, subst}
+use Rattle.std.proofs.Common.{◌≡◌, ℕ, max, Bool, true, false, List, [], ◌∷◌, length, Some, None, Ok, refl, sym, ◌∙◌, ap, subst}
 use Rattle.std.specs.Prelude.{Option, is_ok}
 use Rattle.std.proofs.lemmas.Bool.{false≢true}
 use Rattle.vm_base.specs.declared.faults.Fault.{Fault}
 use Rattle.vm_base.specs.declared.faults.Fault.TheVariants.{NoArea, NoWrite, NoFrame, Overlap, AreasFull, CellsFull}
 use Rattle.vm_base.specs.Places.{page_of, page_count}
 use Rattle.vm_base.specs.FlatMemory.{FlatMemory}
-use Rattle.vm_base.specs.FlatStep.{Refusal, OutsideAreas, ReadOnly, or_refused, outside, unwritable}
+use Rattle.vm_base.specs.FlatStep.{OutsideAreas, ReadOnly, or_refused, outside, unwritable}
 use Rattle.vm_base.specs.MemoryState.{MemoryState, KeepsReady, IsIn, own_of}
-use Rattle.vm_base.specs.MemoryCalls.{Touches, TouchFails, LacksFrame, touched, touch_answer, if_slots, faulted, fault_of, is_out_of_slots, after_store}
+use Rattle.vm_base.specs.MemoryCalls.{Touches, TouchFails, touched, if_slots, faulted, is_out_of_slots, after_store}
 use Rattle.memory_uses.specs.Steps.{Ranges, StoresAll, TouchesFront, touched_all, stored_all}
 use Rattle.memory_uses.proofs.Undone.{memory_of}
 

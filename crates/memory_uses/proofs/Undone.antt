@@ -1,5 +1,5 @@
 -- Unmapping the pages that were mapped last gives the memory before.
-use Rattle.std.proofs.Common.{◌≡◌, ℕ, ◌+◌, ◌-◌, ◌<◌, ◌≤◌, ◌≢◌, Bool, true, false, cond, ◌⊎◌, List, [], ◌∷◌, ◌++◌, length, Some, None, Ok, Err, OnOk, IfErr, Result, refl, sym, ◌∙◌, ap, subst, arith, inl, inr}
+use Rattle.std.proofs.Common.{◌≡◌, ℕ, ◌+◌, ◌-◌, ◌<◌, ◌≤◌, Bool, true, false, ◌⊎◌, List, [], ◌∷◌, ◌++◌, length, Some, None, Ok, Err, OnOk, IfErr, Result, refl, sym, ◌∙◌, ap, subst, arith, inl, inr}
 use Rattle.std.specs.Prelude.{is_some, is_ok, nat_le, ◌&&◌, ◌==◌, Option, IsTrue}
 use Rattle.vm_base.specs.declared.faults.Fault.{Fault}
 use Rattle.vm_base.specs.declared.faults.Fault.TheVariants.{Overlap, AreasFull}
@@ -10,7 +10,7 @@ use Rattle.std.proofs.lemmas.Bool.{cases_Bool, cases_lt, cond-true, cond-false, 
 use Rattle.std.proofs.lemmas.Bool.Decides.{nat_tests}
 use Rattle.vm_base.specs.declared.permission.Perm.{Perm}
 use Rattle.vm_base.specs.declared.permission.Perm.TheVariants.{Read, ReadWrite}
-use Rattle.vm_base.specs.FlatMemory.{Area, PageMap, FlatMemory, AreInOrder, IsFlat, area_of}
+use Rattle.vm_base.specs.FlatMemory.{Area, FlatMemory, AreInOrder, IsFlat}
 use Rattle.vm_base.specs.FlatStep.{joined, joined_front, with_area, is_same_perm, area_between, area_without, areas_without, is_beyond, unmap_of, at_most_128, taken, or_refused, Taken}
 use Rattle.vm_base.proofs.NumberedMaps.{same_numbered}
 use Rattle.memory_uses.specs.Steps.{area_at, IsMappedInto}

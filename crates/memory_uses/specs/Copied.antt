@@ -3,11 +3,15 @@ use Rattle.std.specs.Prelude.{◌≡◌, ℕ, ◌+◌, ◌≤◌, IsTrue, length
 use Rattle.std.specs.FinMap.{empty}
 use Rattle.vm_base.specs.declared.faults.CopyFault.{CopyFault}
 use Rattle.vm_base.specs.declared.faults.CopyFault.TheVariants.{Refused, Lost}
+use Rattle.vm_base.specs.declared.faults.SnapFault.{SnapFault}
+use Rattle.vm_base.specs.declared.faults.SnapFault.TheVariants.{NoArea, Lost as ReadLost}
+use Rattle.vm_base.specs.declared.faults.ForkFault.{ForkFault}
+use Rattle.vm_base.specs.declared.faults.ForkFault.TheVariants.{NoFrame, TooMany, NumbersSpent}
 use Rattle.vm_base.specs.declared.faults.Step.{Step}
 use Rattle.vm_base.specs.Counts.{next_count}
 use Rattle.vm_base.specs.Places.{distinct}
 use Rattle.vm_base.specs.FlatMemory.{cells_of}
-use Rattle.vm_base.specs.SnapshotState.{SnapshotState, GoesOn, Quiet, StepsNest, FailsNest}
+use Rattle.vm_base.specs.SnapshotState.{SnapshotState, GoesOn, Quiet, StepsNest, CopyFails, FailsNest}
 
 -- a call on the process, which may have lost cells of its child, and behind it one that copies a cell of the child
 pub record CopiesBehind (old new : SnapshotState) (answer : Result Step CopyFault) : Type 0 where
@@ -32,3 +36,30 @@ IsLostSince born refused (Lost at) = (next_count born ≤ at) × (at ≤ refused
 -- copying ended at a refused frame, or at the lowest cell that was lost since the fork
 abbrev pub NotCopied : SnapshotState → SnapshotState → ℕ → ℕ → CopyFault → Type 0
 NotCopied old new born refused fault = FailsNest old new fault × IsLostSince born refused fault
+
+-- a copy was not refused, but met a lost cell
+abbrev pub IsCopyLost : CopyFault → Type 0
+IsCopyLost (Refused at) = ⊥
+IsCopyLost (Lost at) = Unit {0}
+
+-- a cell that a read tells as lost was lost since the fork
+abbrev pub IsReadSince : ℕ → ℕ → SnapFault → Type 0
+IsReadSince born refused (NoArea page) = Unit {0}
+IsReadSince born refused (ReadLost at) = (next_count born ≤ at) × (at ≤ refused)
+
+-- a read met no lost cell, but a page in no area
+abbrev pub IsOutsideRead : SnapFault → Type 0
+IsOutsideRead (NoArea page) = Unit {0}
+IsOutsideRead (ReadLost at) = ⊥
+
+-- as many children live as may
+abbrev pub IsTooMany : ForkFault → Type 0
+IsTooMany (NoFrame at) = ⊥
+IsTooMany TooMany = Unit {0}
+IsTooMany NumbersSpent = ⊥
+
+-- copying ended at a fault, and what was told of the snapshot then went on
+pub record FailsBefore (old new : SnapshotState) (fault : CopyFault) : Type 0 where
+  pub failed : SnapshotState
+  pub fails : CopyFails old failed fault
+  pub goes_on : GoesOn failed new

@@ -1,12 +1,13 @@
 -- What a write leaves, alone and behind a fork.
 use Rattle.std.specs.Prelude.{◌≡◌, ℕ, ◌⊎◌, List, [], length, Result, Ok}
 use Rattle.vm_base.specs.declared.faults.Fault.{Fault}
+use Rattle.vm_base.specs.declared.faults.ForkFault.{ForkFault}
 use Rattle.vm_base.specs.Places.{cells_of_range}
 use Rattle.vm_base.specs.FlatMemory.{FlatMemory}
 use Rattle.vm_base.specs.FlatStep.{write_of}
 use Rattle.vm_base.specs.MemoryState.{MemoryState, IsKept, KeepsReady}
 use Rattle.vm_base.specs.MemoryCalls.{Reaches, IsReady, TouchFails, is_out_of_slots, if_slots, faulted}
-use Rattle.vm_base.specs.ProcessState.{LeavesMemory, LeavesAtReap}
+use Rattle.vm_base.specs.ProcessState.{Children, ForkFails, LeavesMemory, LeavesAtReap}
 
 -- the memory that a write leaves where each of its frames is granted, or the fault
 abbrev pub write_answer : MemoryState → ℕ → List ℕ → Result FlatMemory Fault
@@ -30,6 +31,14 @@ pub record WritesAfterFork (old new : MemoryState) (address : ℕ) (bytes : List
   pub kept : IsKept old forked []
   pub refused : forked.refused ≡ old.refused
   pub write : WritesOrFails forked new address bytes
+
+-- behind a fork, which refused no request, another fork was refused
+pub record RefusesFork (children : Children) (old new : MemoryState) (fault : ForkFault) : Type 0 where
+  pub forked : MemoryState
+  pub fork : LeavesMemory old forked
+  pub kept : IsKept old forked []
+  pub refused : forked.refused ≡ old.refused
+  pub fails : ForkFails children forked new fault
 
 -- behind a write, or a refused one, a child was reaped
 pub record WritesAndReaps (old new : MemoryState) (address : ℕ) (bytes : List ℕ) : Type 0 where

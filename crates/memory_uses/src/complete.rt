@@ -1,8 +1,10 @@
-//! A caller that had too few frames for a refusal.
-ghost use Rattle.std.specs.Prelude.{◌≡◌, ℕ, ◌+◌, ◌<◌, ◌≤◌, ◌^◌, length, Some};
+//! Callers that had too few frames for a refusal.
+ghost use Rattle.std.specs.Prelude.{◌≡◌, ℕ, ◌+◌, ◌<◌, ◌≤◌, ◌^◌, length, IsTrue, IfErr, Some};
+ghost use Rattle.memory_uses.specs.Copied.{IsCopyLost};
 
 use crate::memory::write_at;
-use vm_base::{Fault, Memory};
+use crate::saving::copy_child;
+use vm_base::{CopyFault, Fault, Housing, Memory, Process};
 
 /// Writes at two addresses. Where it is told how many frames are enough, and the most frames stayed
 /// below that, no request was refused.
@@ -20,4 +22,23 @@ pub fn write_within<M: Memory>(
 {
     write_at(memory, addr, bytes)?;
     write_at(memory, second, bytes)
+}
+
+/// Writes to a process, and then copies its child through. Where it is told how many frames are
+/// enough, and the most frames stayed below that, no copy of the child was refused either.
+pub fn copy_within<P: Housing>(
+    process: &mut P,
+    child: &mut <P as Process>::Child,
+    addr: u64,
+    bytes: &[u8],
+) -> Result<u64, CopyFault>
+    requires lives { IsTrue (P.lives (P.Nest.beside process.old child.old)) }
+    requires within { addr + length bytes.now ≤ 2 ^ 48 }
+    requires few { length bytes.now ≤ 4194304 }
+    ensures complete { (enough : ℕ) → (P.state process.new).enough ≡ Some enough → (P.state process.new).most < enough
+        → ((P.state process.new).refused ≡ 0) × ((P.nested process.new child.new).refused ≡ 0) × IfErr result IsCopyLost }
+    ensures went { P.Memory.went process.old process.new }
+{
+    let _written = write_at(process, addr, bytes);
+    copy_child(process, child)
 }

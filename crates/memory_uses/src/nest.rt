@@ -1,6 +1,6 @@
 //! Callers of a child that lies in a value, as a snapshot.
-ghost use Rattle.std.specs.Prelude.{◌≡◌, IsTrue, ◌+◌, ◌≤◌, ◌^◌, length, OnOk, Ok};
-ghost use Rattle.vm_base.specs.SnapshotState.{KeepsSnapshot, snapshot_answer};
+ghost use Rattle.std.specs.Prelude.{◌≡◌, IsTrue, ◌+◌, ◌≤◌, ◌^◌, length, OnOk, IfErr, Ok, Err};
+ghost use Rattle.vm_base.specs.SnapshotState.{KeepsSnapshot, Quiet, CopyFails, snapshot_answer};
 
 use crate::copying::copy_through;
 use crate::frozen::read_twice;
@@ -19,6 +19,9 @@ pub fn read_nested_twice<N: Nest>(
     requires length { length again.old ≡ length first.old }
     ensures same { OnOk result (first.new ≡ again.new) }
     ensures bytes { OnOk result (snapshot_answer (N.nested nest.new child.new) addr (length first.old) ≡ Ok first.new) }
+    ensures fault { IfErr result
+        (λ fault. snapshot_answer (N.nested nest.new child.new) addr (length first.old) ≡ Err fault) }
+    ensures uncounted { (N.nested nest.new child.new).refused ≡ (N.nested nest.old child.old).refused }
     ensures beside { N.beside nest.new child.new ≡ N.beside nest.old child.old }
     ensures keeps { KeepsSnapshot (N.nested nest.old child.old) (N.nested nest.new child.new) }
     ensures went { N.went nest.old nest.new }
@@ -35,6 +38,9 @@ pub fn copy_nested<N: Nest, G: Gate>(
 ) -> Result<(), CopyFault>
     requires lives { IsTrue (N.lives (N.beside nest.old child.old)) }
     ensures whole { OnOk result (IsTrue (N.nested nest.new child.new).whole) }
+    ensures quiet { OnOk result (Quiet (N.nested nest.old child.old) (N.nested nest.new child.new)) }
+    ensures fault { IfErr result (λ fault. CopyFails (N.nested nest.old child.old) (N.nested nest.new child.new) fault) }
+    ensures keeps { KeepsSnapshot (N.nested nest.old child.old) (N.nested nest.new child.new) }
     ensures beside { N.beside nest.new child.new ≡ N.beside nest.old child.old }
     ensures went { N.went nest.old nest.new }
 {

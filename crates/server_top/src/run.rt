@@ -1,13 +1,14 @@
 //! A script's events, run one after another, with their lines written.
-ghost use Rattle.std.specs.Prelude.{◌≡◌, ◌≤◌, ℕ, List, [], ◌∷◌, ◌++◌, All, map, OnOk, OnErr, IfErr, IsErrOf};
+ghost use Rattle.std.specs.Prelude.{◌≡◌, ◌≤◌, ℕ, List, [], ◌∷◌, ◌++◌, All, map, unwrap_or, OnOk, OnErr, IfErr, IsErrOf};
 ghost use Rattle.io_face.specs.Faults.{Rose};
 ghost use Rattle.io_face.specs.Told.{Adds, AddsPrefix};
 ghost use Rattle.frame_pool.specs.Policies.{standing};
 ghost use Rattle.kernel_meaning.specs.RefusedRequests.{PolicySum};
 ghost use Rattle.trace_events.specs.declared.event.Event.{Event};
 ghost use Rattle.trace_events.specs.declared.outcome.Outcome.{Outcome};
-ghost use Rattle.trace_events.specs.EventBounds.{IsWithinBounds};
+ghost use Rattle.trace_events.specs.EventBounds.{IsWithinBounds, IsAboveLast, fork_number};
 ghost use Rattle.trace_text.specs.PrintedLines.{outcome_line};
+ghost use Rattle.trace_text.specs.ScriptGrammar.{AreForksRising};
 ghost use Rattle.trace_text.specs.SoFar.{parts_of};
 ghost use Rattle.trace_core.specs.KernelState.{Machine};
 ghost use Rattle.trace_core.specs.KernelRun.{HasRun};
@@ -58,6 +59,7 @@ pub(crate) fn run_script<O: Sink>(
     output: &mut O,
 ) -> Result<(), RunError>
     requires bounds { All IsWithinBounds (parts_of script.now).events }
+    requires rising { AreForksRising 0 (parts_of script.now).events }
     requires cells { (parts_of script.now).cells ≤ 512 }
     ensures ok { OnOk result (WroteLines (parts_of script.now)
         (policy_sum (standing (map (λ policy. told policy) policies.items)))
@@ -80,6 +82,7 @@ fn run_events<O: Sink>(
     output: &mut O,
 ) -> Result<(), RunError>
     requires bounds { All IsWithinBounds (parts_of script.now).events }
+    requires rising { AreForksRising (⟦<Kernel as Standing>⟧.parts kernel.old).last (parts_of script.now).events }
     ensures ok { OnOk result ((policies : PolicySum)
         → HasRun (⟦<Kernel as Standing>⟧.parts kernel.old) (machine_of (parts_of script.now)) 0 policies [] []
         → WroteLines (parts_of script.now) policies (O.written output.old) (O.written output.new)) }
@@ -108,12 +111,17 @@ fn push_line(
     lines: &mut Bytes,
 ) -> Result<(), RunError>
     requires within { IsWithinBounds event.now }
+    requires numbered { IsAboveLast (⟦<Kernel as Standing>⟧.parts kernel.old).last event.now }
 
     // A run goes on by the event and its outcome, whose line was appended.
     ensures ran { OnOk result ((outcome : Outcome) × ((lines.new ≡ lines.old ++ outcome_line outcome)
         × ((machine : Machine) (last : ℕ) (policies : PolicySum) (events : List Event) (outcomes : List Outcome)
         → HasRun (⟦<Kernel as Standing>⟧.parts kernel.old) machine last policies events outcomes
         → HasRun (⟦<Kernel as Standing>⟧.parts kernel.new) machine last policies (events ++ event.now ∷ []) (outcomes ++ outcome ∷ [])))) }
+
+    // The number of a fork that was refused is not the last one, and still bars those behind it.
+    ensures last { OnOk result ((⟦<Kernel as Standing>⟧.parts kernel.new).last
+        ≤ unwrap_or (fork_number event.now) (⟦<Kernel as Standing>⟧.parts kernel.old).last) }
     ensures no_memory { IfErr result (λ error. error ≡ RunError.NoMemory) }
 {
     let outcome = kernel.step(alloc, event)?;

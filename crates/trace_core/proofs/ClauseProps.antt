@@ -1,24 +1,23 @@
 -- The clauses on a memory and on a process have one proof at most, so that a fact whose proof is not told gives them.
-use Rattle.std.proofs.Common.{◌≡◌, ℕ, ◌≤◌, List, [], Option, Some, None, Result, refl, sym, ◌∙◌, inl, inr, ◌⊎◌}
-use Rattle.std.specs.Prelude.{Bool, IsTrue, true, false, ◌==◌, if◌then◌else◌, is_ok, is_some, IfSome}
+use Rattle.std.proofs.Common.{◌≡◌, ℕ, ◌≤◌, List, [], Option, Result, refl, sym, ◌∙◌, inl, inr, ◌⊎◌}
+use Rattle.std.specs.Prelude.{Bool, IsTrue, true, false, ◌==◌, if◌then◌else◌, is_ok, is_some}
 use Rattle.std.specs.FinMap.{get}
 use Rattle.std.specs.FinSet as set
 use Rattle.std.specs.List.{list_any}
-use Rattle.std.specs.Coded.{Coded, Coded-set, code_by, coded×, coded_ℕ, coded_bool, coded_list, coded_option, coded_result, ×_prop, Unit-prop, le_prop}
+use Rattle.std.specs.Coded.{Coded, Coded-set, code_by, coded×, coded_ℕ, coded_bool, coded_list, coded_option, coded_result, ×_prop, le_prop}
 use Rattle.std.proofs.lemmas.Bool.{cases_Bool, false≢true}
 use Rattle.std.proofs.Math.Logic.{∥∥₁_elim}
 use mathlib.Core.HLevel.{⊥_prop, ×₃_prop}
 use Rattle.vm_base.specs.declared.faults.Fault.{Fault}
 use Rattle.vm_base.specs.declared.faults.Fault.TheVariants.{NoArea, NoWrite, NoFrame, Overlap, AreasFull, CellsFull}
 use Rattle.vm_base.specs.Codes.{flat_memory_code}
-use Rattle.vm_base.specs.Counts.{Rose}
 use Rattle.vm_base.specs.FlatMemory.{FlatMemory}
 use Rattle.vm_base.specs.MemoryState.{MemoryState, Numbers, IsIn, IsListed, IsMemory, IsKept, KeepsReady}
 use Rattle.vm_base.specs.MemoryCalls.{Touches, LacksFrame, TouchFails, Refuses, Maps, Changes, touch_answer}
 use Rattle.vm_base.specs.declared.faults.ForkFault.{ForkFault}
 use Rattle.vm_base.specs.declared.faults.ForkFault.TheVariants.{NoFrame as FrameLacking, TooMany, NumbersSpent}
 use Rattle.vm_base.specs.ProcessState.{Children, AreChildren, MayFork, ForkFails, LeavesMemory, Reaps, LeavesAtReap}
-use Rattle.trace_core.proofs.KernelMemories.{if-some-prop, IsMemory-prop}
+use Rattle.trace_core.proofs.KernelMemories.{IsMemory-prop}
 
 -- ---- memories and faults told apart
 

@@ -22,7 +22,6 @@ use Rattle.kernel_meaning.specs.FrameLaw.{cell_at}
 use Rattle.frame_pool.specs.Policies.{PolicyView}
 use Rattle.kernel_meaning.specs.RefusedRequests.{count_after}
 use Rattle.trace_events.specs.declared.outcome.Outcome.{Outcome}
-use Rattle.trace_events.specs.declared.outcome.Outcome.TheVariants.{Done, Bytes, Held, AreaRow, Copied, Nothing, Refused, Lost, NoArea, NoWrite, Overlap, AreasFull, CellsFull, NoFrame, TooMany, NoSnap}
 use Rattle.page_tables.specs.declared.tables.PageTables.{PageTables}
 use Rattle.page_tables.specs.Standing.{slot_in, numbers_at}
 use Rattle.trace_core.specs.declared.parts.SnapshotAreas.{SnapshotAreas}
@@ -30,7 +29,7 @@ use Rattle.trace_core.specs.Answering.{AreCounted, LeadOn, made_after, pending_o
 use Rattle.trace_core.specs.KernelState.{Machine, KernelState, opening_state}
 use Rattle.trace_core.specs.EventMeaning.{EventEnd}
 use Rattle.trace_core.specs.KernelStanding.{KernelParts, KernelStands, EventRan, kept_memories, kept_number, sides_of}
-use Rattle.trace_core.specs.KernelSeen.{KernelNotes, IsSound, IsKernelNoted, NotesHold, pages_of, kept_in, enough_of, most_answered, most_behind_touch}
+use Rattle.trace_core.specs.KernelSeen.{KernelNotes, IsSound, IsKernelNoted, NotesHold, pages_of, kept_in, enough_of, most_behind_touch}
 use Rattle.trace_core.specs.TablesSeen.{lost_in}
 use Rattle.trace_core.specs.TouchAnswers.{touch_outcome, with_stored}
 use Rattle.trace_core.proofs.AnswerLemmas.{deals_lead_on, no_request_has_led}

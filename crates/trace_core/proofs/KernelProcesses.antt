@@ -266,7 +266,7 @@ module _ (old new : KernelParts) (notes later : KernelNotes) (n : ℕ) (known : 
         forked-only few same =
             let last : new.last ≡ old.last + 1 = ap (λ children. children.last) same in
             let none : (k : ℕ) → k ≤ old.last → IsListed k (live_numbers new.snapshot) → ⊥ =
-                λ k old-one listed. above k old-one (one-new old.snapshot k (old.last + 1) few (subst (IsListed k) (ap (λ children. children.numbers) same) listed)) in
+            λ k old-one listed. above k old-one (one-new old.snapshot k (old.last + 1) few (subst (IsListed k) (ap (λ children. children.numbers) same) listed)) in
             record {
               last = omega (arith, last);
               lived = λ k old-one listed. absurd (none k old-one listed);
@@ -282,7 +282,7 @@ module _ (old new : KernelParts) (notes later : KernelNotes) (n : ℕ) (known : 
         unforked-only few same =
             let last : new.last ≡ old.last = ap (λ children. children.last) same in
             let none : (k : ℕ) → IsListed k (live_numbers new.snapshot) → ⊥ =
-                λ k listed. none-there old.snapshot k few (subst (IsListed k) (ap (λ children. children.numbers) same) listed) in
+            λ k listed. none-there old.snapshot k few (subst (IsListed k) (ap (λ children. children.numbers) same) listed) in
             record {
               last = omega (arith, last);
               lived = λ k old-one listed. absurd (none k listed);

@@ -1,6 +1,6 @@
 -- A touch and a store of the kernel keep what clauses know of a memory, whatever state it stands for.
-use Rattle.std.proofs.Common.{◌≡◌, ℕ, ◌+◌, ◌-◌, Fits, w8, slice_index_or, None, ◌≤◌, ◌<◌, ◌^◌, List, [], length, Result, Ok, Err, refl, sym, ◌∙◌, ap, subst, arith, inl}
-use Rattle.std.specs.Prelude.{max, OnOk, IfErr, IfSome}
+use Rattle.std.proofs.Common.{◌≡◌, ℕ, ◌+◌, ◌-◌, Fits, w8, slice_index_or, ◌≤◌, ◌<◌, ◌^◌, List, [], length, Result, Ok, Err, refl, sym, ◌∙◌, ap, subst, arith, inl}
+use Rattle.std.specs.Prelude.{max, OnOk, IfErr}
 use Rattle.std.proofs.lemmas.Bool.{le-ltb}
 use Rattle.std.proofs.lemmas.List.Elements.{All-from_get_or}
 use Rattle.std.specs.List.{All}

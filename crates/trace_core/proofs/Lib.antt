@@ -44,6 +44,7 @@ pub mod ToldRefusals
 pub mod SeenTouches
 pub mod SoundTouches
 pub mod ClauseProps
+pub mod LastNumbers
 pub mod AreaCalls
 pub mod SeenReads
 pub mod KernelTouches

@@ -1,8 +1,7 @@
 -- What a call does to a memory that does not tell how many frames are enough, it does to one that tells it.
-use Rattle.std.proofs.Common.{◌≡◌, ℕ, ◌<◌, ◌≤◌, List, Option, Some, None, Result, Ok, Err, refl, sym, ap, subst, arith}
+use Rattle.std.proofs.Common.{◌≡◌, ℕ, ◌<◌, ◌≤◌, List, Option, Some, None, Result, Ok, Err, refl, sym, ap, subst}
 use Rattle.std.specs.Prelude.{OnOk, IfErr, IfSome}
 use Rattle.std.specs.Option.{ForSome}
-use Rattle.vm_base.specs.Counts.{Rose}
 use Rattle.vm_base.specs.declared.faults.Fault.{Fault}
 use Rattle.vm_base.specs.declared.faults.Fault.TheVariants as fault
 use Rattle.vm_base.specs.declared.faults.ForkFault.{ForkFault}

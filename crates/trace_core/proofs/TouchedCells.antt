@@ -1,12 +1,11 @@
 -- The touch of pages gives slots to their cells alone.
-use Rattle.std.proofs.Common.{◌≡◌, ℕ, zero, suc, ◌+◌, ◌-◌, ◌≤◌, ◌<◌, Bool, true, false, cond, List, [], ◌∷◌, ◌++◌, filter, Option, Some, None, refl, sym, ◌∙◌, ap, subst, arith, inl, inr, ◌⊎◌}
-use Rattle.std.specs.Prelude.{not, ◌==◌, ◌||◌, is_some}
-use Rattle.std.specs.List.{AllByRecursion, list_any, range_with_len}
+use Rattle.std.proofs.Common.{◌≡◌, ℕ, zero, suc, ◌+◌, ◌≤◌, ◌<◌, Bool, true, false, cond, List, [], ◌∷◌, ◌++◌, filter, Option, Some, None, refl, sym, ◌∙◌, ap, subst, arith, inl, inr, ◌⊎◌}
+use Rattle.std.specs.Prelude.{not, ◌==◌, is_some}
+use Rattle.std.specs.List.{AllByRecursion}
 use Rattle.std.specs.Ordering.{nat_cmp, eq_by_cmp}
 use Rattle.std.specs.FinMap.{find}
-use Rattle.std.proofs.lemmas.Bool.{cases_Bool, cases_eq, cond-false, ne_eqb, eq-eqb}
-use Rattle.vm_base.specs.Places.{cell_of, page_of, page_count, cells_of_range}
-use Rattle.vm_base.specs.MemoryState.{IsListed}
+use Rattle.std.proofs.lemmas.Bool.{cases_Bool, cases_eq, cond-false}
+use Rattle.vm_base.specs.Places.{cell_of}
 use Rattle.kernel_meaning.specs.Requests.{asked_in_row}
 use Rattle.kernel_meaning.specs.Leaves.{CellLeaves, without_versions}
 use Rattle.kernel_meaning.specs.CellActs.{Course, touched}

@@ -1,6 +1,6 @@
 -- What each call makes of a kernel: no number is used again, what is told of a snapshot that lives goes on, and each request was answered as it may be.
-use Rattle.std.proofs.Common.{◌≡◌, ◌⊎◌, inl, inr, ℕ, ◌+◌, ◌-◌, ◌<◌, ◌≤◌, ◌^◌, List, [], ◌∷◌, ◌++◌, length, Option, Some, None, Result, Ok, Err, refl, sym, ◌∙◌, ap, subst, arith}
-use Rattle.std.specs.Prelude.{false, ◌==◌, IsTrue, is_some}
+use Rattle.std.proofs.Common.{◌≡◌, inl, inr, ℕ, ◌+◌, ◌-◌, ◌<◌, ◌≤◌, ◌^◌, List, [], ◌∷◌, ◌++◌, Some, None, Result, refl, sym, ◌∙◌, ap, subst, arith}
+use Rattle.std.specs.Prelude.{◌==◌, is_some}
 use Rattle.std.specs.FinMap.{get}
 use Rattle.std.proofs.lemmas.Bool.{false≢true}
 use Rattle.std.proofs.lemmas.List.{append-nil}
@@ -12,27 +12,23 @@ use Rattle.vm_base.specs.declared.frame_request.Asker.TheVariants.{Parent, Snaps
 use Rattle.vm_base.specs.Deals.{Deal, Granted, Denied, Returned, LeadsAlong}
 use Rattle.vm_base.specs.FlatStep.{touch_of, map_of, unmap_of, protect_of}
 use Rattle.vm_base.specs.MemoryState.{IsListed}
-use Rattle.vm_base.specs.SnapshotState.{GoesOn}
 use Rattle.kernel_meaning.specs.Requests.{Answer, answers_of}
 use Rattle.kernel_meaning.specs.FrameLaw.{held_frames}
-use Rattle.kernel_meaning.specs.EventRequests.{pages_unmapped, pages_protected}
-use Rattle.kernel_meaning.specs.RefusedRequests.{Request, PolicySum, requests_of, out_after, count_after}
+use Rattle.kernel_meaning.specs.RefusedRequests.{Request, PolicySum, requests_of, out_after}
 use Rattle.kernel_meaning.specs.Stretches.{dealings_of, requests_among, made_among, requested_among, AreCountedAmong, IsCountedFrom}
 use Rattle.kernel_meaning.proofs.DealingLemmas.{requests_among-of, out_among-of, counted_up-parent, requested_among-parent, stays-counted}
 use Rattle.trace_events.specs.declared.event.Event.TheVariants.{Map, Unmap, Protect, Fork, Drop}
 use Rattle.trace_events.specs.declared.outcome.Outcome.{Outcome}
 use Rattle.trace_core.specs.declared.snapshots.ForkRefusal.{ForkRefusal}
-use Rattle.trace_core.specs.declared.snapshots.ForkRefusal.TheVariants.{NoFrame as FrameRefused, TooMany as LivesAlready}
 use Rattle.trace_core.specs.CallAnswers.{fork_outcome}
 use Rattle.trace_core.specs.Answering.{AreCounted, HaveLed, LeadOn, made_after}
-use Rattle.trace_core.specs.EventMeaning.{EventEnd, begun, touch_judged, fork_end, drop_end}
+use Rattle.trace_core.specs.EventMeaning.{EventEnd, touch_judged, fork_end, drop_end}
 use Rattle.trace_core.specs.KernelState.{Machine, KernelState}
 use Rattle.trace_core.specs.KernelStanding.{KernelParts, IsKernel, KernelStands, EventRan, sides_of, copies_refused_in}
-use Rattle.trace_core.specs.KernelSeen.{KernelNotes, IsKernelNoted, live_numbers, kept_in, nest_of}
+use Rattle.trace_core.specs.KernelSeen.{KernelNotes, IsKernelNoted, live_numbers, kept_in}
 use Rattle.trace_core.specs.TablesSeen.{lost_in, waiting_in}
 use Rattle.trace_core.specs.TouchAnswers.{touch_outcome, with_stored}
 use Rattle.trace_core.specs.KernelWent.{as_asker, DealtAlong, IsStretch, HasDealt, KeepsChildren, KernelWent, AreGiven}
-use Rattle.trace_core.specs.WentOn.{goes_on-none, went-none}
 use Rattle.trace_core.proofs.AnswerLemmas.{deals_lead_on, no_request_has_led}
 use Rattle.trace_core.proofs.AreaCalls.{HasMapped, HasUnmapped, HasProtected}
 use Rattle.trace_core.proofs.ClauseProps.{number-prop, option-prop}
@@ -67,12 +63,20 @@ goes-asker old new Returned goes = ap (λ supply. supply.asker) goes.is
 led-dealt : (deals : List Deal) (old new : SupplyState) → old.asker ≡ Parent → LeadsAlong SupplyGoes old deals new → DealtAlong old (dealings_of Parent deals) new
 led-dealt [] old new parents led = ap (as_asker old.asker old.refused) led
 led-dealt (deal ∷ deals) old new parents led =
-    let next : led.0.asker ≡ Parent = goes-asker old led.0 deal led.1.0 ∙ parents in
-    (led.0, (old.refused, (led.0.refused, (
-      subst (λ supply. SupplyGoes supply deal (as_asker Parent led.0.refused led.0)) (λ i. as_asker (parents i) old.refused old)
-      (subst (λ supply. SupplyGoes old deal supply) (λ i. as_asker (next i) led.0.refused led.0) led.1.0),
-      led-dealt deals led.0 new next led.1.1,
-    ))))
+    let next : led.0.asker ≡ Parent = goes-asker old led.0 deal led.1.0 ∙ parents in (
+      led.0,
+      (
+        old.refused,
+        (
+          led.0.refused,
+          (
+            subst (λ supply. SupplyGoes supply deal (as_asker Parent led.0.refused led.0)) (λ i. as_asker (parents i) old.refused old)
+                (subst (λ supply. SupplyGoes old deal supply) (λ i. as_asker (next i) led.0.refused led.0) led.1.0),
+            led-dealt deals led.0 new next led.1.1,
+          ),
+        ),
+      ),
+    )
 
 -- refusals of the parent that carry its count
 counted-parents : (count : ℕ) (deals : List Deal) → AreCounted count deals → AreCountedAmong Parent count (dealings_of Parent deals)
@@ -251,20 +255,23 @@ pub store-went : (old new : KernelParts) (notes : KernelNotes) (addr : ℕ) (byt
     → AreGiven old → KernelWent old notes new notes
 store-went old new notes addr bytes known stored others given = record {
   children = keeps-children old new notes notes snapshot (ap (λ parts. parts.last) others) refl stays none risen lost;
-  dealt = λ machine state st. ([], record {
-    after = with_stored state addr bytes;
-    dealt = ap (λ parts. as_asker old.supply.asker old.supply.refused parts.supply) others;
-    led = λ opening earlier led. subst (λ requests. HaveLed machine.frames opening requests new.supply.policies) (sym (append-nil earlier))
-        (subst (λ parts. HaveLed machine.frames opening earlier parts.supply.policies) (sym others) led);
-    made = refl;
-    named = refl;
-    out = refl;
-    refused = record { told = tt; rose = ap (λ parts. parts.supply.refused) others };
-    kept = λ n below lives. record { told = tt; rose = ap copies_refused_in snapshot };
-    fresh = λ n above lives. absurd (none-fresh n above lives);
-    askers = λ n some. absurd (none-asked some);
-    stands = stored machine state st;
-  });
+  dealt = λ machine state st. (
+    [],
+    record {
+      after = with_stored state addr bytes;
+      dealt = ap (λ parts. as_asker old.supply.asker old.supply.refused parts.supply) others;
+      led = λ opening earlier led. subst (λ requests. HaveLed machine.frames opening requests new.supply.policies) (sym (append-nil earlier))
+          (subst (λ parts. HaveLed machine.frames opening earlier parts.supply.policies) (sym others) led);
+      made = refl;
+      named = refl;
+      out = refl;
+      refused = record { told = tt; rose = ap (λ parts. parts.supply.refused) others };
+      kept = λ n below lives. record { told = tt; rose = ap copies_refused_in snapshot };
+      fresh = λ n above lives. absurd (none-fresh n above lives);
+      askers = λ n some. absurd (none-asked some);
+      stands = stored machine state st;
+    },
+  );
 }
   where
     snapshot : new.snapshot ≡ old.snapshot

@@ -2,7 +2,9 @@
 use Rattle.std.specs.Prelude.{ℕ, List, ◌++◌}
 use Rattle.vm_base.specs.Deals.{Deal}
 use Rattle.trace_events.specs.declared.event.Event.{Event}
+use Rattle.trace_events.specs.declared.event.Event.TheVariants.{Fork}
 use Rattle.trace_events.specs.declared.outcome.Outcome.{Outcome}
+use Rattle.trace_events.specs.declared.outcome.Outcome.TheVariants.{Done}
 use Rattle.kernel_meaning.specs.RefusedRequests.{Request, PolicySum}
 use Rattle.trace_core.specs.Answering.{HaveLed}
 use Rattle.trace_core.specs.KernelState.{Machine, KernelState, opening_state}
@@ -21,6 +23,12 @@ pub record EventFollows (from new : KernelParts) (machine : Machine) (state : Ke
 -- whatever state the kernel stood for, the event followed there
 abbrev pub Ran : KernelParts → KernelParts → Event → Outcome → Type 0
 Ran from new event outcome = (machine : Machine) (state : KernelState) → KernelStands from machine state → EventFollows from new machine state event outcome
+
+-- the number of the last fork behind an event: a fork that succeeds gives its own, and all else leaves the one before
+abbrev pub last_behind : Event → Outcome → ℕ → ℕ
+last_behind (Fork n mode) Done last = n
+last_behind (Fork n mode) other last = last
+last_behind event outcome last = last
 
 -- the kernel has run these events, with these answers, behind snapshots up to the last number and under policies of which this was known at the start
 pub record HasRun (parts : KernelParts) (machine : Machine) (last : ℕ) (policies : PolicySum) (events : List Event) (outcomes : List Outcome) : Type 0 where

@@ -4,13 +4,13 @@ ghost use Rattle.vm_base.specs.MemoryState.{own_of};
 ghost use Rattle.std.specs.Option.{ForSome};
 ghost use Rattle.trace_events.specs.declared.event.Event.{Event};
 ghost use Rattle.trace_events.specs.declared.outcome.Outcome.{Outcome};
-ghost use Rattle.trace_events.specs.EventBounds.{IsWithinBounds};
+ghost use Rattle.trace_events.specs.EventBounds.{IsWithinBounds, IsAboveLast};
 ghost use Rattle.kernel_meaning.specs.FrameLaw.{held_frames};
 ghost use Rattle.kernel_meaning.specs.RefusedRequests.{PolicySum};
 ghost use Rattle.frame_pool.specs.Policies.{standing};
 ghost use Rattle.trace_core.specs.SupplyState.{state_of, opening_supply, policy_sum};
 ghost use Rattle.trace_core.specs.KernelState.{Machine, KernelState, opening_state};
-ghost use Rattle.trace_core.specs.KernelRun.{Ran, HasRun};
+ghost use Rattle.trace_core.specs.KernelRun.{Ran, HasRun, last_behind};
 ghost use Rattle.trace_core.specs.KernelStanding.{KernelStands};
 ghost use Rattle.trace_core.specs.KernelWent.{AreGiven};
 ghost use Rattle.trace_core.specs.KernelSeen.{KernelNotes, IsKernelNoted, IsNoted, NotesHold, AreSlotsUsed, AreKeptUsed, HasReached, parts_of, notes_of, kernel_memory, opening_memory, enough_of};
@@ -105,9 +105,11 @@ impl Kernel {
         Ok(Kernel { parts, notes })
     }
 
-    /// Runs an event whose fields lie within their bounds. After `NoMemory` nothing has happened.
+    /// Runs an event whose fields lie within their bounds; a fork's number lies above the last one.
+    /// After `NoMemory` nothing has happened.
     pub fn step(&mut self, alloc: Global, event: &Event) -> Result<Outcome, NoMemory>
         requires within { IsWithinBounds event.now }
+        requires numbered { IsAboveLast (⟦<Kernel as Standing>⟧.parts self.old).last event.now }
         ensures ran { IfOk result (Ran (⟦<Kernel as Standing>⟧.parts self.old) (⟦<Kernel as Standing>⟧.parts self.new) event.now) }
 
         // A run goes on by this event and its answer, whatever was run before.
@@ -115,6 +117,10 @@ impl Kernel {
             → HasRun (⟦<Kernel as Standing>⟧.parts self.old) machine last policies events outcomes
             → HasRun (⟦<Kernel as Standing>⟧.parts self.new) machine last policies (events ++ event.now ∷ []) (outcomes ++ outcome ∷ [])) }
         ensures kept { OnErr result (⟦<Kernel as Standing>⟧.parts self.new ≡ ⟦<Kernel as Standing>⟧.parts self.old) }
+
+        // The last number is a fork's own exactly where the fork succeeds.
+        ensures last { IfOk result (λ outcome. (⟦<Kernel as Standing>⟧.parts self.new).last
+            ≡ last_behind event.now outcome (⟦<Kernel as Standing>⟧.parts self.old).last) }
 
         // What is noted of it.
         ensures noted { IfOk result (λ outcome. IsNoted (⟦<Kernel as Standing>⟧.parts self.old).tables event.now outcome

@@ -1,5 +1,5 @@
--- The bounds of an event's fields. What keeps them may be handed to the kernel, and may stand in a script.
-use Rattle.std.specs.Prelude.{◌≡◌, ℕ, ◌+◌, ◌^◌, ◌≤◌, ◌<◌, Bool, true, false, length, All}
+-- The bounds of an event's fields, and the numbers of forks. What keeps them may be handed to the kernel, and may stand in a script.
+use Rattle.std.specs.Prelude.{◌≡◌, ℕ, ◌+◌, ◌^◌, ◌≤◌, ◌<◌, Bool, true, false, length, All, Option, Some, None, IfSome}
 use Rattle.vm_base.specs.declared.fork_mode.Mode.{Mode}
 use Rattle.vm_base.specs.declared.fork_mode.Mode.TheVariants.{Eager, OnDemand, Async}
 use Rattle.trace_events.specs.declared.event.Event.{Event}
@@ -38,3 +38,23 @@ IsWithinBounds (SnapRead number addr len) = IsCounted number × IsRange 65536 ad
 IsWithinBounds Frames = Unit {0}
 IsWithinBounds ListAreas = Unit {0}
 IsWithinBounds (Refuse nth) = IsCounted nth
+
+-- the number that an event gives to a snapshot, if it forks
+abbrev pub fork_number : Event → Option ℕ
+fork_number (Map first pages perm) = None
+fork_number (Unmap first pages) = None
+fork_number (Protect first pages perm) = None
+fork_number (Read addr len) = None
+fork_number (Write addr bytes) = None
+fork_number (Fill addr len byte) = None
+fork_number (Fork number mode) = Some number
+fork_number (Copy number cell) = None
+fork_number (Drop number) = None
+fork_number (SnapRead number addr len) = None
+fork_number Frames = None
+fork_number ListAreas = None
+fork_number (Refuse nth) = None
+
+-- where the event forks, its number lies above the last one
+abbrev pub IsAboveLast : ℕ → Event → Type 0
+IsAboveLast last event = IfSome (fork_number event) (λ number. last < number)

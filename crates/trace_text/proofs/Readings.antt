@@ -7,9 +7,9 @@ use Rattle.std.proofs.lemmas.Bool.{lt-ltb, ltb-true}
 use Rattle.std.proofs.lemmas.List.{append-nil, map-append}
 use Rattle.std.proofs.lemmas.List.Elements.{All-push, All-from_recursion}
 use Rattle.trace_events.specs.declared.event.Event.{Event}
-use Rattle.trace_events.specs.EventBounds.{IsWithinBounds}
+use Rattle.trace_events.specs.EventBounds.{IsWithinBounds, fork_number}
 use Rattle.trace_text.specs.declared.machine.Machine.{Machine}
-use Rattle.trace_text.specs.ScriptGrammar.{ScriptParts, AreForksRising, AreLinesOf, IsMachineLine, event_line, fork_number, is_skipped, kept}
+use Rattle.trace_text.specs.ScriptGrammar.{ScriptParts, AreForksRising, AreLinesOf, IsMachineLine, event_line, is_skipped, kept}
 use Rattle.trace_text.specs.ScriptReading.{event_of, machine_of}
 use Rattle.trace_text.specs.SoFar.{SoFar, and_then, is_above, line_taken, lines_taken, next_event, nothing_read, said, with_kept, with_machine}
 use Rattle.trace_text.proofs.Steps.{bind_some, only_if_some, some_is}

@@ -1,5 +1,5 @@
 -- The text of a script: which lines it has, and what they say. Each number, each address and each event has one spelling.
-use Rattle.std.specs.Prelude.{◌≡◌, ℕ, ◌+◌, ◌-◌, ◌*◌, ◌≤◌, ◌<◌, ◌==◌, ◌⊎◌, Bool, true, false, if◌then◌else◌, List, [], ◌∷◌, ◌++◌, length, take, map, codes, All, Option, Some, None, unwrap_or, IfSome}
+use Rattle.std.specs.Prelude.{◌≡◌, ℕ, ◌+◌, ◌-◌, ◌*◌, ◌≤◌, ◌<◌, ◌==◌, ◌⊎◌, Bool, true, false, if◌then◌else◌, List, [], ◌∷◌, ◌++◌, length, take, map, codes, All, unwrap_or}
 use Rattle.std.specs.Fmt.{decimal, digits}
 use Rattle.hex.specs.Hex.{encode_lower}
 use Rattle.vm_base.specs.declared.permission.Perm.{Perm}
@@ -8,7 +8,7 @@ use Rattle.vm_base.specs.declared.fork_mode.Mode.{Mode}
 use Rattle.vm_base.specs.declared.fork_mode.Mode.TheVariants.{Eager, OnDemand, Async}
 use Rattle.trace_events.specs.declared.event.Event.{Event}
 use Rattle.trace_events.specs.declared.event.Event.TheVariants.{Map, Unmap, Protect, Read, Write, Fill, Fork, Copy, Drop, SnapRead, Frames, ListAreas, Refuse}
-use Rattle.trace_events.specs.EventBounds.{IsWithinBounds}
+use Rattle.trace_events.specs.EventBounds.{IsWithinBounds, IsAboveLast, fork_number}
 
 -- ---- lines
 
@@ -75,27 +75,11 @@ event_line (Refuse nth) = codes "refuse " ++ decimal nth
 
 -- ---- the events of a script
 
--- the number that an event gives to a snapshot, if it forks
-abbrev pub fork_number : Event → Option ℕ
-fork_number (Map first pages perm) = None
-fork_number (Unmap first pages) = None
-fork_number (Protect first pages perm) = None
-fork_number (Read addr len) = None
-fork_number (Write addr bytes) = None
-fork_number (Fill addr len byte) = None
-fork_number (Fork number mode) = Some number
-fork_number (Copy number cell) = None
-fork_number (Drop number) = None
-fork_number (SnapRead number addr len) = None
-fork_number Frames = None
-fork_number ListAreas = None
-fork_number (Refuse nth) = None
-
 -- the number of each fork lies above that of the fork before it, and that of the first above `last`
 abbrev pub AreForksRising : ℕ → List Event → Type 0
 AreForksRising last [] = Unit {0}
 AreForksRising last (event ∷ events) =
-    IfSome (fork_number event) (λ number. last < number) × AreForksRising (unwrap_or (fork_number event) last) events
+    IsAboveLast last event × AreForksRising (unwrap_or (fork_number event) last) events
 
 -- ---- scripts
 

@@ -2,12 +2,13 @@
 use Rattle.std.specs.Prelude.{◌≡◌, ℕ, suc, nat_lt, Bool, true, if◌then◌else◌, List, [], ◌∷◌, ◌++◌, length, Option, Some, None, unwrap_or, Result, Ok, Err}
 use Rattle.std.specs.Option.{option_map, ok_or}
 use Rattle.trace_events.specs.declared.event.Event.{Event}
+use Rattle.trace_events.specs.EventBounds.{fork_number}
 use Rattle.trace_text.specs.declared.machine.Machine.{Machine}
 use Rattle.trace_text.specs.declared.script.Script.{Script}
 use Rattle.trace_text.specs.declared.reader.Reading.{Reading}
 use Rattle.trace_text.specs.declared.fault.ScriptFault.{ScriptFault}
 use Rattle.trace_text.specs.declared.fault.ScriptFault.TheVariants.{Bad, NoMemory}
-use Rattle.trace_text.specs.ScriptGrammar.{ScriptParts, IsFaultAt, fork_number, is_skipped, lines_of}
+use Rattle.trace_text.specs.ScriptGrammar.{ScriptParts, IsFaultAt, is_skipped, lines_of}
 use Rattle.trace_text.specs.ScriptReading.{◌>>=◌, only_if, event_of, machine_of}
 
 -- what was read: the machine's line if it has come, the events, and the number of the last fork, 0 before the first

@@ -1,7 +1,8 @@
 //! The reader of scripts.
 ghost use Rattle.std.specs.Prelude.{◌≡◌, ◌∷◌, ◌+◌, ◌<◌, ◌^◌, length, None, IfOk, IfErr, IsSome, ok_or};
 ghost use Rattle.trace_events.specs.declared.event.Event.{Event};
-ghost use Rattle.trace_text.specs.ScriptGrammar.{IsScript, fork_number, is_skipped, lines_of};
+ghost use Rattle.trace_events.specs.EventBounds.{fork_number};
+ghost use Rattle.trace_text.specs.ScriptGrammar.{IsScript, is_skipped, lines_of};
 ghost use Rattle.trace_text.specs.SoFar.{Gives, Refuses, ended, is_above, line_taken, next_event, nothing_read, parts_of, script_of, so_far, with_kept};
 ghost use Rattle.trace_text.specs.ScriptReading.{only_if};
 

@@ -1,4 +1,4 @@
-use Rattle.std.proofs.Common.{◌≡◌, [], refl, sym, ◌∙◌, ap, subst, length, ℕ}
+use Rattle.std.proofs.Common.{[], refl, sym, ◌∙◌, subst, length}
 use Rattle.std.proofs.lemmas.Bool.{false≢true}
 use Rattle.vm_base.specs.Places.{cells_of_range}
 use Rattle.vm_base.specs.MemoryState.{IsListed}
@@ -16,9 +16,14 @@ returns-clause-written g c = record {
 }
 
 pub returns-clause-copied : goal.returns-clause-copied
-returns-clause-copied g c =
-    (g.P.Nest.nested c.write_and_copy-copied.new.process c.write_and_copy-copied.new.child, (c.write_and_copy-copied.ensures.copied, c.write_and_copy-copied.ensures.goes_on.1,
-    since-same _ _ _ _ (g.P.Nest.nested c.write_and_copy-copied.new.process c.write_and_copy-copied.new.child) refl (sym c.reap.ensures.memory.0.refused) c.write_and_copy-copied.ensures.since))
+returns-clause-copied g c = (
+  g.P.Nest.nested c.write_and_copy-copied.new.process c.write_and_copy-copied.new.child,
+  (
+    c.write_and_copy-copied.ensures.copied,
+    c.write_and_copy-copied.ensures.goes_on.1,
+    since-same _ _ _ _ (g.P.Nest.nested c.write_and_copy-copied.new.process c.write_and_copy-copied.new.child) refl (sym c.reap.ensures.memory.0.refused) c.write_and_copy-copied.ensures.since,
+  ),
+)
 
 pub returns-clause-ended : goal.returns-clause-ended
 returns-clause-ended g c lives =

@@ -1,4 +1,4 @@
-use Rattle.std.proofs.Common.{[], ◌∷◌, length, subst, sym}
+use Rattle.std.proofs.Common.{[], ◌∷◌, subst, sym}
 use Rattle.std.proofs.lemmas.Result.{err_from_is_err_and}
 use Rattle.std.proofs.lemmas.Bool.{false≢true}
 use Rattle.vm_base.proofs.IsKeptOn.{IsKept-on}

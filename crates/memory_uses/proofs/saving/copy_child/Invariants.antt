@@ -1,7 +1,7 @@
 use Rattle.std.proofs.Common.{◌≡◌, ◌≤◌, ◌+◌, ◌⊎◌, IsTrue, length}
 use Rattle.vm_base.specs.Places.{distinct}
 use Rattle.vm_base.specs.FlatMemory.{cells_of}
-use Rattle.vm_base.specs.SnapshotState.{Quiet, GoesOn}
+use Rattle.vm_base.specs.SnapshotState.{Quiet}
 use Rattle.memory_uses.proofs.saving.copy_child.Given as goal
 
 -- cells were copied, and none was refused or found lost

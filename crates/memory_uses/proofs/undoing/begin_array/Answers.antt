@@ -1,4 +1,4 @@
-use Rattle.std.proofs.Common.{◌*◌, [], ◌∷◌}
+use Rattle.std.proofs.Common.{◌*◌, []}
 use Rattle.std.proofs.lemmas.Result.{err_from_is_err_and}
 use Rattle.memory_uses.proofs.Undone.{mapped_into, mapped-same}
 use Rattle.memory_uses.proofs.Touched.{touch_fails_mem}

@@ -7,14 +7,20 @@ use Rattle.trace_text.specs.SoFar.{parts_of}
 use Rattle.server_top.specs.RunPromise.{machine_of}
 use Rattle.server_top.proofs.Written.{on_err, on_err_then, on_ok_then}
 use Rattle.server_top.proofs.Lines.{gone_nowhere, gone_further, gone_written, gone_renamed, lines_in_front, lines_in_part, all_lines}
+use Rattle.server_top.proofs.ForkNumbers.{first-above, rising-behind}
 use Rattle.server_top.proofs.run.run_events.Goals as goal
 use Rattle.server_top.proofs.run.run_events.Goals.{then-as_slice-ge-PIECE+in_ok-write_text, else-as_slice-ge-PIECE}
 
 pub loop-place-init : goal.loop-place-init
 loop-place-init g c = record {
   gone = gone_renamed _ _ _ _ _ _ _ [] _ refl c.new-lines.ensures (gone_nowhere _ _ _);
+  rising = c.requires.rising;
   faults = omega arith;
 }
+
+pub push_line-requires-clause-numbered : goal.push_line-requires-clause-numbered
+push_line-requires-clause-numbered g c =
+    first-above _ (parts_of c.args.script.now).events c.loop-place.place c.event.result.now (omega arith) c.event.ensures c.loop-place.invariant.rising
 
 pub returns-in_err-push_line-clause-err : goal.returns-in_err-push_line-clause-err
 returns-in_err-push_line-clause-err g c =
@@ -37,6 +43,7 @@ loop-place-preserved g c =
             (gone_written _ _ _ _ _ _ _ _ gone (subst (Adds (g.O.Sink.written c.loop-place.output) (g.O.Sink.written w.write_text.new.output)) w.as_slice-then-as_slice-ge-PIECE.ensures w.in_ok-write_text.ensures.ok))
         | else-as_slice-ge-PIECE w ↦ gone_renamed _ _ _ _ _ (g.O.Sink.written c.loop-place.output) _ c.push_line.new.lines _ (ap (λ o. g.O.Sink.written o) w.output-is) w.lines-is gone
       ];
+      rising = rising-behind _ _ (parts_of c.args.script.now).events c.loop-place.place c.event.result.now (omega arith) c.event.ensures c.in_ok-push_line.ensures.last c.loop-place.invariant.rising;
       faults = elim c.if-as_slice-ge-PIECE.branch [
         | then-as_slice-ge-PIECE+in_ok-write_text w ↦ omega (arith, c.loop-place.invariant.faults, w.write_text.ensures.faults, ap (λ o. g.O.Sink.faults o) w.output-is)
         | else-as_slice-ge-PIECE w ↦ omega (arith, c.loop-place.invariant.faults, ap (λ o. g.O.Sink.faults o) w.output-is)

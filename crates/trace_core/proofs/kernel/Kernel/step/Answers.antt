@@ -1,5 +1,6 @@
 use Rattle.trace_core.specs.KernelSeen.{parts_of, notes_of}
 use Rattle.trace_core.proofs.Stood.{known-under}
+use Rattle.trace_core.proofs.LastNumbers.{last-if-ok}
 use Rattle.trace_core.proofs.SeenTables.{seen-pages}
 use Rattle.trace_core.proofs.SoundSteps.{known-noted, noted-under, sound-step, err-seen}
 use Rattle.trace_core.proofs.HeldNotes.{holds-under, under-holds}
@@ -49,3 +50,7 @@ invariant_of-self-2-clause-given g c = known-given _ _ (invariant_of-self-2-clau
 
 pub invariant_of-self-2-clause-housed : goal.invariant_of-self-2-clause-housed
 invariant_of-self-2-clause-housed g c = kept-used _ _ (invariant_of-self-2-clause-stood g c)
+
+pub returns-clause-last : goal.returns-clause-last
+returns-clause-last g c =
+    last-if-ok _ _ c.args.event.now c.step-answer.result c.step-answer.ensures.ran (known-under _ _ (known-noted _ _ c.args.self.now.stood))
