@@ -201,7 +201,7 @@ times_open n stretches = count_by (λ it. it.number == n) stretches
 abbrev pub times_seated : ℕ → List Stretch → ℕ
 times_seated seat stretches = count_by (λ it. it.seat == seat) stretches
 
--- what holds of the account of a pool that made so many frames: no more was given than taken, no more is out than was made or than the load, each number is open and each seat in a stretch at most once, and each stretch has taken its amount at most
+-- what holds of the account of a pool that made so many frames: no more was given than taken, no more is out than was made or than the load, each number and each seat is in one stretch at most, and each stretch has taken its amount at most
 pub record IsPoolAccount (made : ℕ) (account : PoolAccount) : Type 0 where
   pub given : all_given account ≤ all_taken account
   pub out : frames_out account ≤ made

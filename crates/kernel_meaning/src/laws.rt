@@ -24,8 +24,8 @@ pub fn a_cell_log_keeps_each_number_once()
     ensures { (entries : List CellEntry) → AreEntries entries → AreRising (account_of entries).state.leaves.kept }
 {}
 
-/// In a log of the pool's lock no more is given than taken, and no more is out than was made or than
-/// the load; each number is open and each seat in a stretch at most once.
+/// In a log of the pool's lock no more is given than taken, and no more is out than was made or
+/// than the load; each number is open and each seat in a stretch at most once.
 pub fn a_pool_log_keeps_its_account()
     ensures { (made : ℕ) (log : List PoolEntry) → ArePoolEntries made log → IsPoolAccount made (pool_account_of log) }
 {}

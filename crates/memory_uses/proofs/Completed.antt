@@ -29,6 +29,6 @@ pub lost_alone : (result : Result ℕ CopyFault) (old new : SnapshotState) (born
     → IfErr result (λ fault. NotCopied old new born refused fault) → IfErr result IsCopyLost
 lost_alone (Ok copies) old new born refused none fails = tt
 lost_alone (Err (Refused at)) old new born refused none fails =
-    let rose : min (old.refused + 1) (2 ^ 64 - 1) ≤ new.refused = fails.0.0.2 in
+    let rose : new.refused ≡ min (old.refused + 1) (2 ^ 64 - 1) = fails.0.0.2 in
     absurd (omega (arith, rose, none))
 lost_alone (Err (Lost at)) old new born refused none fails = tt

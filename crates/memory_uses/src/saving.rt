@@ -45,7 +45,7 @@ pub fn save_child<P: Housing>(
     ensures fault { IfErr result.0 (λ fault. NotCopied (P.nested process.old child.old) (P.nested process.new child.new)
         (P.Nest.born (P.Nest.beside process.old child.old)) (P.state process.old).refused fault) }
 
-    // The bytes are those at the fork. A lost cell was lost since, and where all was copied none is.
+    // The bytes are those at the fork. A lost cell was lost since; none is where all was copied.
     ensures bytes { OnOk result.1 (bytes_at (P.kept (P.Process.beside process.old) child.old).present addr (length buf.old) ≡ buf.new) }
     ensures unread { IfErr result.1 (λ fault. (snapshot_answer (P.nested process.new child.new) addr (length buf.old) ≡ Err fault)
         × IsReadSince (P.Nest.born (P.Nest.beside process.old child.old)) (P.state process.old).refused fault) }

@@ -1,7 +1,7 @@
 -- What a run of a top call read, wrote and published, by its words and its status.
 use Rattle.std.specs.Prelude.{◌≡◌, ◌⊎◌, ℕ, ◌+◌, ◌-◌, ◌^◌, ◌≤◌, List, [], ◌++◌, Option, Some, None, Result, Ok, Err, min}
 use Rattle.std.specs.FinMap.{empty}
-use Rattle.io_face.specs.Told.{TakesAtMost, TakesCount, TakesSome, Adds, AddsPrefix}
+use Rattle.io_face.specs.Told.{TakesAtMost, TakesCount, Adds, AddsPrefix}
 use Rattle.io_face.specs.Folder.{Files}
 use Rattle.resp_text.specs.Grammar.{IsStream}
 use Rattle.service_meaning.specs.History.{Moment, Entry, opening, LeadAlong, IsLegal, refusals, calls_of, ends_of}
@@ -145,7 +145,7 @@ RanReplay sides (Protocol place) = ReadAndRan sides (Protocol place)
 RanReplay sides TooLong =
     TakesCount sides.left sides.left_after (replay_limit + 1) × IsUntouched sides.outside
 RanReplay sides NoMemory =
-    (TakesSome sides.left sides.left_after × IsUntouched sides.outside) ⊎ ReadAndRan sides NoMemory
+    (TakesAtMost sides.left sides.left_after replay_limit × IsUntouched sides.outside) ⊎ ReadAndRan sides NoMemory
 
 -- what a top call read, wrote and published, by the command of its words; of the policies that it was handed this was known
 abbrev pub RanBy : Result Plan ℕ → PolicySum → Sides → Status → Type 0

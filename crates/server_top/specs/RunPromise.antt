@@ -1,7 +1,7 @@
 -- What a run of `trace` read and wrote, by its status.
 use Rattle.std.specs.Prelude.{◌≡◌, ◌⊎◌, ℕ, ◌+◌, ◌^◌, ◌≤◌, List, ◌++◌, Option, Some, None, length}
 use Rattle.std.specs.List.{flat_map}
-use Rattle.io_face.specs.Told.{Takes, TakesAtMost, TakesCount, TakesSome, IsAtEnd, Adds, AddsPrefix}
+use Rattle.io_face.specs.Told.{Takes, TakesAtMost, TakesCount, IsAtEnd, Adds, AddsPrefix}
 use Rattle.trace_events.specs.declared.event.Event.{Event}
 use Rattle.trace_events.specs.declared.outcome.Outcome.{Outcome}
 use Rattle.trace_text.specs.ScriptGrammar.{ScriptParts, IsScript, IsFaultAt}
@@ -98,7 +98,7 @@ Ran policies streams (Protocol place) = ⊥
 Ran policies streams TooLong =
     TakesCount streams.left streams.left_after (script_limit + 1) × WroteNothing streams
 Ran policies streams NoMemory =
-    (TakesSome streams.left streams.left_after × WroteNothing streams) ⊎ ReadAndRanText policies streams NoMemory
+    (TakesAtMost streams.left streams.left_after script_limit × WroteNothing streams) ⊎ ReadAndRanText policies streams NoMemory
 
 -- the place of a bad word
 abbrev pub usage_of : Status → Option ℕ

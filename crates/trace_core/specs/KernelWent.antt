@@ -25,7 +25,7 @@ DealtAlong old [] new = as_asker old.asker old.refused new ≡ old
 DealtAlong old (By asker deal ∷ dealings) new = (next : SupplyState) × ((before : ℕ) × ((behind : ℕ)
     × (SupplyGoes (as_asker asker before old) deal (as_asker asker behind next) × DealtAlong next dealings new)))
 
--- these dealings were made between two moments of a kernel that stood for this state: they led its supply on, their requests were answered as they may be, each asker's count rose by its own refused ones, and the kernel stands for what they led to
+-- these dealings were made between two moments of a kernel that stood for this state: they led its supply on, their requests were answered as they may be, each asker's count rose by its own refused ones, and it stands for what they left
 pub record IsStretch (old new : KernelParts) (machine : Machine) (state : KernelState) (dealings : List Dealing) : Type 0 where
   pub after : KernelState
   pub dealt : DealtAlong old.supply dealings new.supply

@@ -11,7 +11,7 @@ use Rattle.frame_pool.specs.Policies.{PolicyView, AllGrant, DeniesAt, standing, 
 use Rattle.frame_pool.specs.Frames.{PoolView}
 use Rattle.kernel_meaning.specs.RefusedRequests.{PolicySum}
 
--- the frames that were made and those that are out, who asks and how often it was refused, which of the requests that follow is to be refused, counted from 1, how often policies were asked, the policies in the order in which they are asked, and what is known of them all
+-- the frames made and those out, who asks and how often it was refused, which of the requests that follow is to be refused, counted from 1, how often policies were asked, the policies in their order, and what is known of them all
 pub record SupplyState : Type 0 where
   pub made : ℕ
   pub out : ℕ

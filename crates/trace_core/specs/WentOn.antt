@@ -22,6 +22,7 @@ use Rattle.trace_core.specs.KernelWent.{as_asker, DealtAlong, IsStretch, KernelW
 
 -- ---- no call
 
+-- what is told of a snapshot goes on where nothing happens
 pub goes_on-none : (snap : SnapshotState) → GoesOn snap snap
 goes_on-none snap = record {
   mem = refl;
@@ -50,6 +51,7 @@ stretch-none parts given machine state stands = record {
     none-asked : 0 < 0 → ⊥
     none-asked some = omega (arith, some)
 
+-- no call makes nothing of a kernel
 pub went-none : (parts : KernelParts) (notes : KernelNotes) → AreGiven parts → KernelWent parts notes parts notes
 went-none parts notes given = record {
   children = record {
@@ -157,6 +159,7 @@ lost-on at old mid one (Some here) three rose none some first second stays =
     let before : next_count old ≤ here = first here none refl in
     omega (arith, same, before)
 
+-- calls one after another make of a kernel what calls may
 pub went-on : (p q r : KernelParts) (notes mid later : KernelNotes) → AreGiven p → AreGiven q → KernelWent p notes q mid → KernelWent q mid r later → KernelWent p notes r later
 went-on p q r notes mid later started given one two = record {
   children = record {

@@ -63,7 +63,8 @@ pub trait Housing: Process + Nest<Child = <Self as Process>::Child> {
     ghost used_kept: { (p : Self) (c : Self.Child) (cell : ℕ) → IsTrue (Self.Nest.lives (Self.Nest.beside p c))
         → IsListed cell (cells_of (Self.Nest.nested p c).mem) → IsIn cell (Self.Memory.state p).used };
 
-    /// Where it is told how many frames are enough, a copy is refused only once the process had as many.
+    /// Where it is told how many frames are enough, a copy is refused only once the process had as
+    /// many.
     ghost copies_reached: { (p : Self) (c : Self.Child) → IsTrue (Self.Nest.lives (Self.Nest.beside p c))
         → 0 < (Self.Nest.nested p c).refused → IfSome (Self.Memory.state p).enough (λ enough. enough ≤ (Self.Memory.state p).most) };
 

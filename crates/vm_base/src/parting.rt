@@ -4,7 +4,8 @@ ghost use Rattle.std.specs.Prelude.{◌≡◌};
 use crate::copying::Copying;
 use crate::process::Process;
 
-/// A process whose children are snapshots of their own, which others read and copy while it goes on.
+/// A process whose children are snapshots of their own, which others read and copy while it goes
+/// on.
 pub trait Parting: Process<Child = <Self as Parting>::Own> {
     /// A child.
     type Own: Copying;

@@ -1,8 +1,8 @@
 //! The kernel on frames beside the one on plain pages: where no request is refused, both print the
 //! same lines.
-ghost use Rattle.std.specs.Prelude.{◌≡◌, ◌≤◌, length, IfOk, OnOk};
+ghost use Rattle.std.specs.Prelude.{◌≡◌, ◌≤◌, length, unwrap_or, None, IfOk, OnOk};
 ghost use Rattle.vm_base.specs.TwoSides.{World};
-ghost use Rattle.trace_events.specs.EventBounds.{IsWithinBounds};
+ghost use Rattle.trace_events.specs.EventBounds.{IsWithinBounds, IsAboveLast, fork_number};
 ghost use Rattle.plain_kernel.specs.KernelStep.{IsServed, world_after};
 
 use plain_kernel::{
@@ -46,6 +46,9 @@ fn outcome_of(outcome: PlainOutcome) -> Outcome {
 /// The line that the kernel on frames prints for the event.
 fn framed_line(alloc: Global, framed: &mut Kernel, event: &Event) -> Result<Bytes, NoMemory>
     requires within { IsWithinBounds event.now }
+    requires numbered { IsAboveLast (⟦<Kernel as Standing>⟧.parts framed.old).last event.now }
+    ensures last { OnOk result ((⟦<Kernel as Standing>⟧.parts framed.new).last
+        ≤ unwrap_or (fork_number event.now) (⟦<Kernel as Standing>⟧.parts framed.old).last) }
 {
     let outcome = framed.step(alloc, event)?;
     let mut line = Bytes::new(alloc);
@@ -73,7 +76,10 @@ fn is_answered_alike(
     event: &Event,
 ) -> Result<bool, NoMemory>
     requires served { IsServed plain.old plain_event.now }
+    requires numbered { IsAboveLast (⟦<Kernel as Standing>⟧.parts framed.old).last event.now }
     ensures world { OnOk result (plain.new ≡ world_after plain.old plain_event.now) }
+    ensures last { OnOk result ((⟦<Kernel as Standing>⟧.parts framed.new).last
+        ≤ unwrap_or (fork_number event.now) (⟦<Kernel as Standing>⟧.parts framed.old).last) }
 {
     let plain_line = plain_line(alloc, plain, plain_event)?;
     if !event.is_within_bounds() {
@@ -98,6 +104,7 @@ fn access(alloc: Global, seed: u64) -> Result<(PlainEvent, Event), NoMemory>
     ensures served { IfOk result (λ events. (world : World) → IsServed world events.0) }
     ensures kept { IfOk result (λ events. (world : World)
         → ((world_after world events.0).snapshots ≡ world.snapshots) × ((world_after world events.0).last ≡ world.last)) }
+    ensures unforked { IfOk result (λ events. fork_number events.1 ≡ None) }
 {
     let addr = (seed >> 8) % (PAGES * 4096 + 64);
     let len = 1 + (seed >> 40) as u32 % 8;
@@ -130,6 +137,7 @@ fn are_answered_alike(
     seed: u64,
 ) -> Result<bool, NoMemory>
     ensures kept { OnOk result ((plain.new.snapshots ≡ plain.old.snapshots) × (plain.new.last ≡ plain.old.last)) }
+    ensures last { OnOk result ((⟦<Kernel as Standing>⟧.parts framed.new).last ≤ (⟦<Kernel as Standing>⟧.parts framed.old).last) }
 {
     let mut seed = seed;
     let mut alike = true;
