@@ -18,6 +18,24 @@ use crate::release::release_leaf;
 use crate::snapshot::{Snapshot, SnapshotLeaf};
 use vm_base::{Allot, Frame, Want};
 
+// The copy before a change
+//
+// What it is for. After a fork the parent's table and the snapshot's own name the same frames. A
+// store through the one would change what the other reads, so before the parent stores to a page
+// the page becomes the parent's alone.
+//
+// How it goes. Each page has two places for frames, its number and its number plus 512. At most two
+// versions of it live: the parent's and the snapshot's. So one of the places is free while both
+// name the other. The copy goes there, the parent's entry moves to it with the bit for writing, and
+// the snapshot keeps the frame that it names. Nothing is moved that a snapshot reads.
+//
+// What if the frame is refused. The write goes on: the parent is never refused for a copy. The
+// snapshot loses the whole cell instead, with the count of this refusal, and gives back its table
+// and the frames that it alone names. From then on it says `Lost` where it is read here. The page
+// is the parent's alone where it is.
+//
+// Limits. The leaf must be the snapshot's own: one that is joined gets a table first (`own_leaf`),
+// since two sides that share a table can't name different frames.
 impl Cell {
     /// Copies a page that the snapshot's own leaf names too. Where the frame is refused the
     /// snapshot loses the cell, and the page is the parent's alone where it is.

@@ -26,6 +26,24 @@ pub struct FrameRefused {
     pub page: u64,
 }
 
+// The touch of a range
+//
+// What it is for. A write, a fill and whoever stores by pieces need each page of a range present
+// and the parent's alone before the first byte is stored, so that a write is made whole or not.
+//
+// How it goes. Page by page in rising order, which is the order in which the requests are numbered.
+// For each page first the tables that its cell lacks, then the leaf table, then the copies that a
+// snapshot needs, then the page's own frame. Each page is looked up once before it is touched, so
+// that the call knows which were absent.
+//
+// What if a frame is refused. A copy that is refused loses the snapshot's cell and the touch goes
+// on. A table or a new page that is refused ends it: the pages that this call added are taken back,
+// from the lowest on, with the tables that they alone needed, in whatever cell they lie. Copies and
+// losses that came before stay, for the snapshot was told of them already. Both sides read as
+// before, and a caller may try again.
+//
+// Limits. `added` has to have room for the whole range: a call that had to take memory in the
+// middle could neither go on nor go back. The caller has looked at areas and slots before.
 impl PageTables {
     /// Touches `count` pages from `first` on in rising order, as `pages_touched` of
     /// `kernel_meaning` has it. After a refusal those that were absent are gone again, with the

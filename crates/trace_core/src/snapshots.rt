@@ -16,6 +16,23 @@ use crate::writing::{PAGE_BYTES, first_outside, page_count};
 use leaf_cell::LeafState;
 use trace_events::Outcome;
 
+// The fork
+//
+// What it is for. A snapshot reads what the parent had at one moment, whatever the parent does
+// later. A save writes its image from one.
+//
+// How it goes. The snapshot gets the parent's areas, a directory of its own with the same cells,
+// and in each cell a leaf table that names the parent's frames. No page is copied. From then on a
+// touch of the parent copies a page before it changes it, and tells it by the entries of both
+// tables who names a frame.
+//
+// What if a frame is refused. The tables of the directory are asked for first, then the leaves in
+// rising order of cells. At the first refusal all that was granted goes back, in both, and there is
+// no snapshot. The number is not used up. The parent's pages may have to be touched again before
+// they are stored to, since the bit for writing was taken from the cells that had been forked.
+//
+// Limits. All leaf tables are copied here, so it costs a frame and a copy for each cell; one
+// snapshot lives at a time.
 impl Parts {
     /// Forks the snapshot of this number, which has the parent's areas and pages as they are now.
     /// It asks for the tables of the snapshot's directory, and for a leaf table for each cell in
