@@ -11,13 +11,20 @@ use Rattle.kernel_meaning.specs.Leaves.{holds_number}
 
 -- The list of a run's refused requests
 --
--- What it is for. A run is not a function of its script: a policy may refuse a request or not. One list of numbers says all that is open, so that whoever has it knows every answer.
+-- What it is for. A run is not a function of its script: a policy may refuse a request or not. One
+-- list of numbers says all that is open, so that whoever has it knows every answer.
 --
--- How it goes. Each request for a frame has a number, counted from 1 over the whole run and over all who ask. A request is forced where all frames made are out at that moment, or where a refuse line names it. The list has each forced one. With no policy it has no other; with policies at most as many others as they had denials left, and none of the parent where all of them spare it.
+-- How it goes. Each request for a frame has a number, counted from 1 over the whole run and over
+-- all who ask. A request is forced where all frames made are out at that moment, or where a refuse
+-- line names it. The list has each forced one. With no policy it has no other; with policies at
+-- most as many others as they had denials left, and none of the parent where all of them spare it.
 --
--- What a refusal does is said by the acts: it raises the count of who asked, and then a touch is taken back, a snapshot loses a cell, or a fork is not made. So an answer that comes later may differ, and the numbers of later requests too.
+-- What a refusal does is said by the acts: it raises the count of who asked, and then a touch is
+-- taken back, a snapshot loses a cell, or a fork is not made. So an answer that comes later may
+-- differ, and the numbers of later requests too.
 --
--- Limits. The list names no cause: which request a policy denies is said by the policy's own clauses, where the pool is asked.
+-- Limits. The list names no cause: which request a policy denies is said by the policy's own
+-- clauses, where the pool is asked.
 
 -- a number is in the list
 abbrev pub is_in : List ℕ → ℕ → Bool
