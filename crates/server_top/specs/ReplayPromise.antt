@@ -145,7 +145,8 @@ RanReplay sides (Protocol place) = ReadAndRan sides (Protocol place)
 RanReplay sides TooLong =
     TakesCount sides.left sides.left_after (replay_limit + 1) × IsUntouched sides.outside
 RanReplay sides NoMemory =
-    (TakesAtMost sides.left sides.left_after replay_limit × IsUntouched sides.outside) ⊎ ReadAndRan sides NoMemory
+    (TakesAtMost sides.left sides.left_after replay_limit × IsUntouched sides.outside)
+    ⊎ ReadAndRan sides NoMemory
 
 -- what a top call read, wrote and published, by the command of its words; of the policies that it was handed this was known
 abbrev pub RanBy : Result Plan ℕ → PolicySum → Sides → Status → Type 0

@@ -103,7 +103,8 @@ fn bytes_of(alloc: Global, seed: u64, len: usize) -> Result<Bytes, NoMemory>
 fn access(alloc: Global, seed: u64) -> Result<(PlainEvent, Event), NoMemory>
     ensures served { IfOk result (λ events. (world : World) → IsServed world events.0) }
     ensures kept { IfOk result (λ events. (world : World)
-        → ((world_after world events.0).snapshots ≡ world.snapshots) × ((world_after world events.0).last ≡ world.last)) }
+        → ((world_after world events.0).snapshots ≡ world.snapshots)
+        × ((world_after world events.0).last ≡ world.last)) }
     ensures unforked { IfOk result (λ events. fork_number events.1 ≡ None) }
 {
     let addr = (seed >> 8) % (PAGES * 4096 + 64);
