@@ -29,8 +29,8 @@ impl Bytes {
         }
     }
 
-    /// Appends the whole text. The room doubles as it grows, so pushing pieces is linear in the
-    /// bytes of all of them. After `NoMemory` the list is as it was and good for further calls.
+    /// Appends the whole text. After `NoMemory` the list is as it was and good for further calls.
+    /// How much room it takes is std's to choose, and no clause tells it.
     pub fn push_all(&mut self, text: &[u8]) -> Result<(), NoMemory>
         ensures ok { OnOk result (self.new ≡ self.old ++ text.now) }
         ensures no_memory { OnErr result (self.new ≡ self.old) }
@@ -39,7 +39,7 @@ impl Bytes {
         Ok(())
     }
 
-    /// Empties the list, and keeps its room for the bytes that come.
+    /// Empties the list. Whether it keeps the room that it had is std's to choose too.
     pub fn clear(&mut self)
         ensures { self.new ≡ [] }
     {
