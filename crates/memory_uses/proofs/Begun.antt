@@ -67,7 +67,7 @@ fails_touch old middle after new first n address k fault maps fails reached coun
   before = middle;
   after = after;
   maps = front_mapped old middle first n [] maps;
-  most = same_most old middle first n maps;
+  before_is = maps.1;
   fails = fails;
   reached = reached;
   counted = counted;
@@ -81,7 +81,7 @@ fails_more old middle inner new first n address k areas fault maps (inr lacks) r
   before = lacks.before;
   after = lacks.after;
   maps = front_mapped old middle first n areas maps ∙ lacks.maps;
-  most = lacks.most ∙ same_most old middle first n maps;
+  before_is = lacks.before_is ∙ ap {A = MemoryState} (λ s. record s { mem = lacks.before.mem }) maps.1;
   fails = lacks.fails;
   reached = reached ∙ lacks.reached;
   counted = omega (arith, lacks.counted);

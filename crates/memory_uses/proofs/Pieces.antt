@@ -66,6 +66,7 @@ touched-split memory first j k =
 -- no page was touched yet
 pub pages_none : (state : MemoryState) (first : ℕ) → IsMemory state → TouchesPages state state first 0
 pages_none state first is = record {
+  counted = omega arith;
   mem = refl;
   most = let own : own_of state.mem ≤ state.most = is.own in omega (arith, own);
   ready = λ page within. let parts = in_pages first 0 page within in absurd (omega (arith, parts.0, parts.1));
@@ -77,10 +78,11 @@ more_most old middle new a b first second below = omega (arith, first, second, b
 
 -- one piece more was touched
 pub pages_more : (old middle new : MemoryState) (first done piece : ℕ) → TouchesPages old middle first done → Touches middle new ((first + done) * 4096) (piece * 4096)
-    → TouchesPages old new first (done + piece)
-pages_more old middle new first done piece front touch =
+    → middle.refused ≤ new.refused → TouchesPages old new first (done + piece)
+pages_more old middle new first done piece front touch counted =
     let mem = touches_mem middle new ((first + done) * 4096) (piece * 4096) touch in
     record {
+      counted = omega (arith, front.counted, counted);
       mem = mem ∙ ap (λ m. touched m ((first + done) * 4096) (piece * 4096)) front.mem ∙ touched-split old.mem first done piece;
       most = more_most old.most middle.most new.most (own_of middle.mem) (own_of new.mem) front.most
           (touch.most ∙ ap (λ m. max middle.most (own_of m)) (sym mem))

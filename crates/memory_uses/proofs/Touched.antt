@@ -1,5 +1,5 @@
 -- What touches and refused touches leave of a memory.
-use Rattle.std.proofs.Common.{◌≡◌, ℕ, max, Bool, true, false, List, [], ◌∷◌, length, Some, None, Ok, refl, sym, ◌∙◌, ap, subst}
+use Rattle.std.proofs.Common.{◌≡◌, ℕ, ◌≤◌, max, Bool, true, false, List, [], ◌∷◌, length, Some, None, Ok, refl, sym, ◌∙◌, ap, subst, arith}
 use Rattle.std.specs.Prelude.{Option, is_ok}
 use Rattle.std.proofs.lemmas.Bool.{false≢true}
 use Rattle.vm_base.specs.declared.faults.Fault.{Fault}
@@ -9,7 +9,7 @@ use Rattle.vm_base.specs.FlatMemory.{FlatMemory}
 use Rattle.vm_base.specs.FlatStep.{OutsideAreas, ReadOnly, or_refused, outside, unwritable}
 use Rattle.vm_base.specs.MemoryState.{MemoryState, KeepsReady, IsIn, own_of}
 use Rattle.vm_base.specs.MemoryCalls.{Touches, TouchFails, touched, if_slots, faulted, is_out_of_slots, after_store}
-use Rattle.memory_uses.specs.Steps.{Ranges, StoresAll, TouchesFront, touched_all, stored_all}
+use Rattle.memory_uses.specs.Steps.{Ranges, StoresAll, TouchesFront, touched_all, stored_all, most_after}
 use Rattle.memory_uses.proofs.Undone.{memory_of}
 
 if_touched : (out_of unwritten : Option ℕ) (out : Bool) (memory new : FlatMemory)
@@ -87,12 +87,14 @@ fails_first s0 s1 range back fault fails = record {
   mem = touch_fails_mem s0 s1 range.0 (length range.1) fault fails;
   keeps = touch_fails_keeps s0 s1 range.0 (length range.1) fault fails;
   before = s0;
+  counted = omega arith;
+  reached = refl;
   fails = fails;
 }
 
 pub fails_later : (s0 s1 s2 : MemoryState) (range : ℕ × List ℕ) (ranges : Ranges) (fault : Fault) → Touches s0 s1 range.0 (length range.1)
-    → TouchesFront s1 s2 ranges fault → TouchesFront s0 s2 (range ∷ ranges) fault
-fails_later s0 s1 s2 range ranges fault touch fails = record {
+    → s0.refused ≤ s1.refused → TouchesFront s1 s2 ranges fault → TouchesFront s0 s2 (range ∷ ranges) fault
+fails_later s0 s1 s2 range ranges fault touch counted fails = record {
   front = range ∷ fails.front;
   range = fails.range;
   back = fails.back;
@@ -100,5 +102,9 @@ fails_later s0 s1 s2 range ranges fault touch fails = record {
   mem = fails.mem ∙ ap (λ m. touched_all m fails.front) (touches_mem s0 s1 range.0 (length range.1) touch);
   keeps = λ page is. fails.keeps page (touch.keeps page is);
   before = fails.before;
+  counted = omega (arith, counted, fails.counted);
+  reached = fails.reached ∙ ap (λ k. most_after k s1.mem fails.front) touch.most
+      ∙ ap (λ m. most_after (max s0.most (own_of (touched s0.mem range.0 (length range.1)))) m fails.front)
+      (touches_mem s0 s1 range.0 (length range.1) touch);
   fails = fails.fails;
 }

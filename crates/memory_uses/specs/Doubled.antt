@@ -7,6 +7,7 @@ use Rattle.vm_base.specs.MemoryCalls.{Touches, TouchFails, Maps, Changes, Refuse
 
 -- n pages were touched, whatever the pieces
 pub record TouchesPages (old new : MemoryState) (first n : ℕ) : Type 0 where
+  pub counted : old.refused ≤ new.refused
   pub mem : new.mem ≡ touched old.mem (first * 4096) (n * 4096)
   pub most : new.most ≡ max old.most (own_of new.mem)
   pub ready : IsReady new (first * 4096) (n * 4096)

@@ -55,7 +55,10 @@ pub record TouchesFront (old new : MemoryState) (ranges : Ranges) (fault : Fault
   pub among : front ++ range ∷ back ≡ ranges
   pub mem : new.mem ≡ touched_all old.mem front
   pub keeps : KeepsReady old new
+  -- the memory in front of that touch
   pub before : MemoryState
+  pub counted : old.refused ≤ before.refused
+  pub reached : before.most ≡ most_after old.most old.mem front
   pub fails : TouchFails before new range.0 (length range.1) fault
 
 -- what is answered where the memory before was, and else its refusal
@@ -82,7 +85,7 @@ pub record LacksTouch (old new : MemoryState) (areas : List (ℕ × ℕ)) (addre
   pub before : MemoryState
   pub after : MemoryState
   pub maps : map_all old.mem areas ≡ Ok before.mem
-  pub most : before.most ≡ old.most
+  pub before_is : before ≡ record old { mem = before.mem }
   pub fails : TouchFails before after address n fault
   -- what was taken back behind that raises no frames, and may raise the count
   pub reached : new.most ≡ after.most

@@ -1,10 +1,12 @@
 //! Callers of a memory that touch before they store.
-ghost use Rattle.std.specs.Prelude.{List, ◌≡◌, ℕ, ◌+◌, ◌≤◌, ◌^◌, length, OnOk, OnErr, IfErr, Ok};
+ghost use Rattle.std.specs.Prelude.{List, ◌≡◌, ℕ, ◌+◌, ◌≤◌, ◌^◌, [], ◌∷◌, length};
+ghost use Rattle.std.specs.Prelude.{OnOk, OnErr, IfErr, Ok};
 ghost use Rattle.vm_base.specs.Places.{cells_of_range};
 ghost use Rattle.vm_base.specs.FlatStep.{write_of};
-ghost use Rattle.vm_base.specs.MemoryState.{IsKept, IsListed};
+ghost use Rattle.vm_base.specs.MemoryState.{IsKept};
 ghost use Rattle.vm_base.specs.MemoryCalls.{TouchFails};
 ghost use Rattle.memory_uses.specs.Written.{Writes};
+ghost use Rattle.memory_uses.specs.Steps.{StoresAll, TouchesFront, IsWithin, AreListed};
 
 use vm_base::{Fault, Memory};
 
@@ -30,7 +32,7 @@ pub fn write_at<M: Memory>(memory: &mut M, addr: u64, bytes: &[u8]) -> Result<()
     Ok(())
 }
 
-/// Touches two ranges, and then stores bytes in both.
+/// Touches two ranges, and then stores bytes in both. Where a touch is refused nothing is stored.
 pub fn write_both<M: Memory>(
     memory: &mut M,
     addr: u64,
@@ -38,12 +40,15 @@ pub fn write_both<M: Memory>(
     second: u64,
     two: &[u8],
 ) -> Result<(), Fault>
-    requires within { addr + length one.now ≤ 2 ^ 48 }
-    requires few { length one.now ≤ 4194304 }
-    requires within_second { second + length two.now ≤ 2 ^ 48 }
-    requires few_second { length two.now ≤ 4194304 }
-    ensures keeps { (cells : List ℕ) → ((cell : ℕ) → IsListed cell (cells_of_range addr (length one.now)) → IsListed cell cells)
-        → ((cell : ℕ) → IsListed cell (cells_of_range second (length two.now)) → IsListed cell cells) → IsKept (M.state memory.old) (M.state memory.new) cells }
+    requires first { IsWithin addr one.now }
+    requires second { IsWithin second two.now }
+    ensures stored { OnOk result (StoresAll (M.state memory.old) (M.state memory.new)
+        ((addr, one.now) ∷ (second, two.now) ∷ [])) }
+    ensures failed { IfErr result (λ fault. TouchesFront (M.state memory.old) (M.state memory.new)
+        ((addr, one.now) ∷ (second, two.now) ∷ []) fault) }
+    ensures keeps { (cells : List ℕ) → AreListed (cells_of_range addr (length one.now)) cells
+        → AreListed (cells_of_range second (length two.now)) cells
+        → IsKept (M.state memory.old) (M.state memory.new) cells }
     ensures aside { M.aside memory.new ≡ M.aside memory.old }
     ensures went { M.went memory.old memory.new }
 {

@@ -1,6 +1,6 @@
 //! How a seat comes to sleep, as three steps of which each takes what the one before it made.
-ghost use Rattle.std.specs.Prelude.{◌≡◌, IfErr, MatchResult};
-ghost use Rattle.turn_cell.specs.Seats.{IsSeatOf, Rests, Began, cell_id};
+ghost use Rattle.std.specs.Prelude.{◌≡◌, ℕ, IfErr, MatchResult};
+ghost use Rattle.turn_cell.specs.Seats.{IsSeatOf, WasBusy, Began, cell_id};
 
 use crate::cell::TurnCell;
 use crate::seat::Seat;
@@ -52,7 +52,7 @@ impl<T: Told> TurnCell<T> {
         requires { IsSeatOf T.seat_of (cell_id self.now) seat.old }
         ensures asked { MatchResult result
             (λ x. Began T.opening T.stands T.seat_of (cell_id self.now) seat.old seat.new x)
-            (λ m. Rests T.seat_of (cell_id self.now) seat.old seat.new) }
+            (λ m. (holder : ℕ) × WasBusy T.seat_of (cell_id self.now) seat.old seat.new holder) }
         ensures heard { IfErr result (λ m. m.calls ≡ said.calls) }
     {
         let Said { calls } = said;

@@ -26,7 +26,7 @@ loop-done-preserved g c =
     record {
       within = within;
       front = pages_more (g.M.Memory.state c.args.memory.now) (g.M.Memory.state c.loop-done.memory) (g.M.Memory.state c.touch.new.self) c.args.first
-          c.loop-done.done c.min-piece.result c.loop-done.invariant.front c.in_ok-touch.ensures.touched;
+          c.loop-done.done c.min-piece.result c.loop-done.invariant.front c.in_ok-touch.ensures.touched c.touch.ensures.keeps.counted;
       kept = kept_more (g.M.Memory.state c.args.memory.now) (g.M.Memory.state c.loop-done.memory) (g.M.Memory.state c.touch.new.self) c.args.first c.args.pages
           c.loop-done.done c.min-piece.result within c.loop-done.invariant.kept c.touch.ensures.keeps;
       aside = c.touch.ensures.aside ∙ c.loop-done.invariant.aside;

@@ -16,7 +16,7 @@ pub returns-in_err-touch-2-clause-failed : goal.returns-in_err-touch-2-clause-fa
 returns-in_err-touch-2-clause-failed g c =
     let exit = err_from_is_err_and c.from_residual-in_err-touch-2.result c.from_residual-in_err-touch-2.ensures.1 in
     rw (exit.1, exit.2) (
-    fails_later (g.M.Memory.state c.args.memory.now) (g.M.Memory.state c.touch.new.self) (g.M.Memory.state c.touch-2.new.self) (c.args.block, c.args.pair.now) ((c.args.link, c.args.word.now) ∷ (c.args.header, c.args.fields.now) ∷ []) c.in_err-touch-2.field-0.0 c.in_ok-touch.ensures.touched
+    fails_later (g.M.Memory.state c.args.memory.now) (g.M.Memory.state c.touch.new.self) (g.M.Memory.state c.touch-2.new.self) (c.args.block, c.args.pair.now) ((c.args.link, c.args.word.now) ∷ (c.args.header, c.args.fields.now) ∷ []) c.in_err-touch-2.field-0.0 c.in_ok-touch.ensures.touched c.touch.ensures.keeps.counted
     (fails_first (g.M.Memory.state c.touch.new.self) (g.M.Memory.state c.touch-2.new.self) (c.args.link, c.args.word.now) ((c.args.header, c.args.fields.now) ∷ []) c.in_err-touch-2.field-0.0 c.in_err-touch-2.ensures.fault))
 
 pub returns-in_err-touch-2-clause-keeps : goal.returns-in_err-touch-2-clause-keeps
@@ -27,8 +27,8 @@ pub returns-in_err-touch-3-clause-failed : goal.returns-in_err-touch-3-clause-fa
 returns-in_err-touch-3-clause-failed g c =
     let exit = err_from_is_err_and c.from_residual-in_err-touch-3.result c.from_residual-in_err-touch-3.ensures.1 in
     rw (exit.1, exit.2) (
-    fails_later (g.M.Memory.state c.args.memory.now) (g.M.Memory.state c.touch.new.self) (g.M.Memory.state c.touch-3.new.self) (c.args.block, c.args.pair.now) ((c.args.link, c.args.word.now) ∷ (c.args.header, c.args.fields.now) ∷ []) c.in_err-touch-3.field-0.0 c.in_ok-touch.ensures.touched
-    (fails_later (g.M.Memory.state c.touch.new.self) (g.M.Memory.state c.touch-2.new.self) (g.M.Memory.state c.touch-3.new.self) (c.args.link, c.args.word.now) ((c.args.header, c.args.fields.now) ∷ []) c.in_err-touch-3.field-0.0 c.in_ok-touch-2.ensures.touched
+    fails_later (g.M.Memory.state c.args.memory.now) (g.M.Memory.state c.touch.new.self) (g.M.Memory.state c.touch-3.new.self) (c.args.block, c.args.pair.now) ((c.args.link, c.args.word.now) ∷ (c.args.header, c.args.fields.now) ∷ []) c.in_err-touch-3.field-0.0 c.in_ok-touch.ensures.touched c.touch.ensures.keeps.counted
+    (fails_later (g.M.Memory.state c.touch.new.self) (g.M.Memory.state c.touch-2.new.self) (g.M.Memory.state c.touch-3.new.self) (c.args.link, c.args.word.now) ((c.args.header, c.args.fields.now) ∷ []) c.in_err-touch-3.field-0.0 c.in_ok-touch-2.ensures.touched c.touch-2.ensures.keeps.counted
     (fails_first (g.M.Memory.state c.touch-2.new.self) (g.M.Memory.state c.touch-3.new.self) (c.args.header, c.args.fields.now) [] c.in_err-touch-3.field-0.0 c.in_err-touch-3.ensures.fault)))
 
 pub returns-in_err-touch-3-clause-keeps : goal.returns-in_err-touch-3-clause-keeps
