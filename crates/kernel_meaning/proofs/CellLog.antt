@@ -145,7 +145,7 @@ act-rises (Store page at bytes) course allowed rises = rises
 act-rises (Clear first n) course allowed rises =
     either (has_present course.cell.parent first n) (pages_cleared first n (before_change course)) course (before_change-rises course rises) rises
 act-rises (Protect first n perm) course allowed rises = either (has_present course.cell.parent first n) (before_change course) course (before_change-rises course rises) rises
-act-rises (Fork n mode seat) course allowed rises = forked-rises n mode course allowed rises
+act-rises (Fork n mode seat) course allowed rises = forked-rises n mode course allowed.2 rises
 act-rises (Copy n) course allowed rises = copied_as-rises (kept_by course.cell.kept n) n course rises
 act-rises (Unmark n) course allowed rises = rising-without n course.cell.kept rises
 act-rises (Drop n) course allowed rises = rising-without n course.cell.kept rises

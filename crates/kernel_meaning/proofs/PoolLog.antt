@@ -258,8 +258,9 @@ module _ (made : ℕ) (account : PoolAccount) (is : IsPoolAccount made account) 
   }
 
   -- the parent takes
-  parent-takes : (answer : PoolAnswer) → FitsFrames made (frames_out account) answer → IsPoolAccount made (record account { parent = with_take answer account.parent })
-  parent-takes Lent fits = record {
+  parent-takes : (policies : ℕ) (answer : PoolAnswer) → FitsFrames made policies (frames_out account) answer
+      → IsPoolAccount made (record account { parent = with_take answer account.parent })
+  parent-takes policies Lent fits = record {
     given = omega (arith, is.given);
     out = omega (arith, fits, is.given);
     loaded = loaded (record account { parent = with_take Lent account.parent }) is.amounts;
@@ -267,8 +268,8 @@ module _ (made : ℕ) (account : PoolAccount) (is : IsPoolAccount made account) 
     seats = is.seats;
     amounts = is.amounts;
   }
-  parent-takes NoneFree fits = is
-  parent-takes (DeniedBy place) fits = is
+  parent-takes policies NoneFree fits = is
+  parent-takes policies (DeniedBy place) fits = is
 
   -- the parent gives
   parent-gives : 0 < frames_out account → IsPoolAccount made (record account { parent = with_give account.parent })
@@ -297,9 +298,10 @@ module _ (made : ℕ) (account : PoolAccount) (is : IsPoolAccount made account) 
       (omega (arith, is.given)) (omega (arith, is.out))
 
   -- a seat takes in its stretch
-  stretch-takes : (answer : PoolAnswer) → FitsFrames made (frames_out account) answer → IsInStretch account seat (FitsAmount answer)
+  stretch-takes : (policies : ℕ) (answer : PoolAnswer) → FitsFrames made policies (frames_out account) answer
+      → IsInStretch account seat (FitsAmount answer)
       → IsPoolAccount made (record account { stretches = with_stretch (λ it. record it { traffic = with_take answer it.traffic }) seat account.stretches })
-  stretch-takes Lent fits in_stretch =
+  stretch-takes policies Lent fits in_stretch =
       let change : Stretch → Stretch = λ it. record it { traffic = with_take Lent it.traffic } in
       stretches-go made 1 0 account (changed here change account.stretches) (record {
         takes = changed-more taken_by here change (λ it. refl) account.stretches ∙ ap (λ k. sum_by taken_by account.stretches + k) (in_one (FitsAmount Lent) in_stretch);
@@ -308,8 +310,8 @@ module _ (made : ℕ) (account : PoolAccount) (is : IsPoolAccount made account) 
         seats = λ s. subst (λ k. k ≤ 1) (sym (changed-sum (λ x. cond (x.seat == s) 1 0) here change (λ it. refl) account.stretches)) (is.seats s);
         amounts = lent-all here change (λ it less. omega (arith, less)) account.stretches (is.seats seat) in_stretch.0 is.amounts;
       }) (omega (arith, is.given)) (omega (arith, fits, is.given))
-  stretch-takes NoneFree fits in_stretch = still-go (λ it. record it { traffic = with_take NoneFree it.traffic }) (λ it. refl) (λ it. refl) (λ it. refl) (λ it. refl)
-  stretch-takes (DeniedBy place) fits in_stretch = still-go (λ it. record it { traffic = with_take (DeniedBy place) it.traffic }) (λ it. refl) (λ it. refl) (λ it. refl) (λ it. refl)
+  stretch-takes policies NoneFree fits in_stretch = still-go (λ it. record it { traffic = with_take NoneFree it.traffic }) (λ it. refl) (λ it. refl) (λ it. refl) (λ it. refl)
+  stretch-takes policies (DeniedBy place) fits in_stretch = still-go (λ it. record it { traffic = with_take (DeniedBy place) it.traffic }) (λ it. refl) (λ it. refl) (λ it. refl) (λ it. refl)
 
   -- a seat gives in its stretch
   stretch-gives : 0 < frames_out account → IsInStretch account seat (λ it. Unit {0})
@@ -375,26 +377,26 @@ not_parent : (seat : ℕ) → (seat == 0) ≡ false → seat ≡ 0 → ⊥
 not_parent seat apart same = grind (arith, apart, same)
 
 -- one entry more
-keeps : (made : ℕ) (account : PoolAccount) → IsPoolAccount made account → (act : PoolAct) (seat : ℕ) → MayStandIn made account act seat → IsPoolAccount made (pool_act act seat account)
-keeps made account is (Take want answer) seat may =
-    dealt-either made (seat == 0) _ _ (parent-takes made account is seat answer may.0)
+keeps : (made policies : ℕ) (account : PoolAccount) → IsPoolAccount made account → (act : PoolAct) (seat : ℕ) → MayStandIn made policies account act seat → IsPoolAccount made (pool_act act seat account)
+keeps made policies account is (Take want answer) seat may =
+    dealt-either made (seat == 0) _ _ (parent-takes made account is seat policies answer may.0)
     (λ apart. elim may.1 as (λ _. IsPoolAccount made (record account { stretches = with_stretch (λ it. record it { traffic = with_take answer it.traffic }) seat account.stretches })) [
       | inl parents ↦ absurd (not_parent seat apart parents)
-      | inr in_stretch ↦ stretch-takes made account is seat answer may.0 in_stretch
+      | inr in_stretch ↦ stretch-takes made account is seat policies answer may.0 in_stretch
     ])
-keeps made account is Give seat may =
+keeps made policies account is Give seat may =
     dealt-either made (seat == 0) _ _ (parent-gives made account is seat may.0)
     (λ apart. elim may.1 as (λ _. IsPoolAccount made (record account { stretches = with_stretch (λ it. record it { traffic = with_give it.traffic }) seat account.stretches })) [
       | inl parents ↦ absurd (not_parent seat apart parents)
       | inr in_stretch ↦ stretch-gives made account is seat may.0 in_stretch
     ])
-keeps made account is (Allow n other amount) seat may = begins made account is seat n other amount may.2 may.3
-keeps made account is (Parted n) seat may = still-go made account is seat (λ it. record it { has_parted = true }) (λ it. refl) (λ it. refl) (λ it. refl) (λ it. refl)
-keeps made account is (Reaped n) seat may = reaped made account is seat n
+keeps made policies account is (Allow n other amount) seat may = begins made account is seat n other amount may.2 may.3
+keeps made policies account is (Parted n) seat may = still-go made account is seat (λ it. record it { has_parted = true }) (λ it. refl) (λ it. refl) (λ it. refl) (λ it. refl)
+keeps made policies account is (Reaped n) seat may = reaped made account is seat n
 
-behind : (made : ℕ) (account : PoolAccount) (log : List PoolEntry) → IsPoolAccount made account → ArePoolEntriesBehind made account log → IsPoolAccount made (pool_account_behind account log)
-behind made account [] is are = is
-behind made account (entry ∷ log) is are = behind made (pool_account_after account entry) log (keeps made account is entry.act entry.seat are.0) are.1
+behind : (made policies : ℕ) (account : PoolAccount) (log : List PoolEntry) → IsPoolAccount made account → ArePoolEntriesBehind made policies account log → IsPoolAccount made (pool_account_behind account log)
+behind made policies account [] is are = is
+behind made policies account (entry ∷ log) is are = behind made policies (pool_account_after account entry) log (keeps made policies account is entry.act entry.seat are.0) are.1
 
 empty_is_one : (made : ℕ) → IsPoolAccount made empty_pool_account
 empty_is_one made = record {
@@ -407,8 +409,8 @@ empty_is_one made = record {
 }
 
 -- a list of entries leaves such an account
-pub pool_log-kept : (made : ℕ) (log : List PoolEntry) → ArePoolEntries made log → IsPoolAccount made (pool_account_of log)
-pool_log-kept made log are = behind made empty_pool_account log (empty_is_one made) are
+pub pool_log-kept : (made policies : ℕ) (log : List PoolEntry) → ArePoolEntries made policies log → IsPoolAccount made (pool_account_of log)
+pool_log-kept made policies log are = behind made policies empty_pool_account log (empty_is_one made) are
 
 -- ---- the load
 
@@ -428,13 +430,13 @@ other_seat : (seat : ℕ) → (seat ≡ 0 → ⊥) → (seat == 0) ≡ false
 other_seat seat apart = grind (arith, apart)
 
 -- only an entry of the parent changes the load
-pub other-load : (made : ℕ) (account : PoolAccount) (act : PoolAct) (seat : ℕ) → MayStandIn made account act seat → (seat ≡ 0 → ⊥) → load (pool_act act seat account) ≡ load account
-other-load made account (Take want answer) seat may apart =
+pub other-load : (made policies : ℕ) (account : PoolAccount) (act : PoolAct) (seat : ℕ) → MayStandIn made policies account act seat → (seat ≡ 0 → ⊥) → load (pool_act act seat account) ≡ load account
+other-load made policies account (Take want answer) seat may apart =
     chosen (seat == 0) _ _ (load account) (other_seat seat apart)
     (load-stretches account (λ it. it.seat == seat) (λ it. record it { traffic = with_take answer it.traffic }) (λ it. refl))
-other-load made account Give seat may apart =
+other-load made policies account Give seat may apart =
     chosen (seat == 0) _ _ (load account) (other_seat seat apart)
     (load-stretches account (λ it. it.seat == seat) (λ it. record it { traffic = with_give it.traffic }) (λ it. refl))
-other-load made account (Allow n other amount) seat may apart = absurd (apart may.0)
-other-load made account (Parted n) seat may apart = load-stretches account (λ it. it.seat == seat) (λ it. record it { has_parted = true }) (λ it. refl)
-other-load made account (Reaped n) seat may apart = absurd (apart may.0)
+other-load made policies account (Allow n other amount) seat may apart = absurd (apart may.0)
+other-load made policies account (Parted n) seat may apart = load-stretches account (λ it. it.seat == seat) (λ it. record it { has_parted = true }) (λ it. refl)
+other-load made policies account (Reaped n) seat may apart = absurd (apart may.0)

@@ -1,5 +1,6 @@
 -- The account of a cell: what the entries that were told under its lock leave. It is two sides, leaves and versions, and the frame law, for one cell alone.
-use Rattle.std.specs.Prelude.{◌≡◌, ℕ, ◌+◌, ◌*◌, ◌==◌, if◌then◌else◌, true, List, [], ◌∷◌, ◌++◌, Option, Some, None, IsSome, IsNone}
+use Rattle.std.specs.Prelude.{◌≡◌, ◌≢◌, ℕ, ◌+◌, ◌*◌, ◌<◌, ◌≤◌, ◌==◌, if◌then◌else◌, true, List, [], ◌∷◌, ◌++◌, length, Option, Some, None, IsSome, IsNone}
+use Rattle.std.specs.List.{AllByRecursion}
 use Rattle.std.specs.Ordering.{nat_cmp}
 use Rattle.std.specs.FinMap.{FinMap, empty, insert, remove, retain_keys}
 use Rattle.vm_base.specs.declared.fork_mode.Mode.{Mode}
@@ -7,7 +8,7 @@ use Rattle.vm_base.specs.declared.permission.Perm.{Perm}
 use Rattle.vm_base.specs.FlatMemory.{PageMap}
 use Rattle.vm_base.specs.FlatStep.{with_page, with_bytes, is_beyond}
 use Rattle.kernel_meaning.specs.Requests.{Answer, opening_requests, answers_of}
-use Rattle.kernel_meaning.specs.Leaves.{CellLeaves, unused_cell, share, kept_by, has_joined, IsAlone}
+use Rattle.kernel_meaning.specs.Leaves.{CellLeaves, unused_cell, share, kept_by, has_pages, has_joined, IsAlone}
 use Rattle.kernel_meaning.specs.CellActs.{Course, opening_course, touched, cleared, protected, forked, copied, unmarked, dropped}
 
 -- one act at a cell. Pages are counted from the first of the cell
@@ -151,21 +152,41 @@ seat_of before (Copy n) = fork_seat_behind None before n
 seat_of before (Unmark n) = fork_seat_behind None before n
 seat_of before (Drop n) = fork_seat_behind None before n
 
--- the leaves of a cell allow an act: a store to a page that is the parent's alone, a fork of a number that the cell does not keep, copy and drop of one that it keeps, and that a mark goes where the leaf is joined
+-- the leaves of a cell allow an act on its 512 pages: a store within a page that is the parent's
+-- alone, a fork where the parent has a page, of a number that the cell does not keep and for a seat
+-- that is not the parent's, copy and drop of a number that it keeps, and that a mark goes where the
+-- leaf is joined
 abbrev pub AllowsAct : CellLeaves → CellAct → Type 0
-AllowsAct cell (Touch page) = Unit {0}
-AllowsAct cell (Store page at bytes) = IsAlone cell page
-AllowsAct cell (Clear first n) = Unit {0}
-AllowsAct cell (Protect first n perm) = Unit {0}
-AllowsAct cell (Fork n mode seat) = IsNone (kept_by cell.kept n)
+AllowsAct cell (Touch page) = page < 512
+AllowsAct cell (Store page at bytes) =
+    IsAlone cell page × (page < 512) × (at + length bytes ≤ 4096)
+AllowsAct cell (Clear first n) = first + n ≤ 512
+AllowsAct cell (Protect first n perm) = first + n ≤ 512
+AllowsAct cell (Fork n mode seat) =
+    (has_pages cell.parent ≡ true) × (0 < seat) × IsNone (kept_by cell.kept n)
 AllowsAct cell (Copy n) = IsSome (kept_by cell.kept n)
 AllowsAct cell (Unmark n) = has_joined (kept_by cell.kept n) ≡ true
 AllowsAct cell (Drop n) = IsSome (kept_by cell.kept n)
 
--- an entry may stand behind these: its seat may make it, the leaves that they left allow it, and it has an answer for each request that it made, and no other
+-- a fork names a seat that no other snapshot which the cell keeps has
+abbrev pub HasOwnSeat : List CellEntry → CellAct → Type 0
+HasOwnSeat before (Touch page) = Unit {0}
+HasOwnSeat before (Store page at bytes) = Unit {0}
+HasOwnSeat before (Clear first n) = Unit {0}
+HasOwnSeat before (Protect first n perm) = Unit {0}
+HasOwnSeat before (Fork n mode seat) =
+    AllByRecursion (λ kept. fork_seat_behind None before kept.number ≢ Some seat)
+    (account_of before).state.leaves.kept
+HasOwnSeat before (Copy n) = Unit {0}
+HasOwnSeat before (Unmark n) = Unit {0}
+HasOwnSeat before (Drop n) = Unit {0}
+
+-- an entry may stand behind these: its seat may make it, the leaves that they left allow it, a fork
+-- names a seat of its own, and it has an answer for each request that it made, and no other
 pub record MayStandBehind (before : List CellEntry) (entry : CellEntry) : Type 0 where
   pub seat : seat_of before entry.act ≡ Some entry.seat
   pub allowed : AllowsAct (account_of before).state.leaves entry.act
+  pub own : HasOwnSeat before entry.act
   pub answers : answers_of (entry_course (account_of before) entry).requests.deals ≡ entry.answers
 
 -- each of the entries may stand behind those before it

@@ -166,32 +166,36 @@ IsInStretch account seat condition =
 abbrev pub MayDeal : PoolAccount → ℕ → (Stretch → Type 0) → Type 0
 MayDeal account seat condition = (seat ≡ 0) ⊎ IsInStretch account seat condition
 
--- the frames out fit an answer, where so many were made: a frame is lent and a policy asked only while one is free, and none is free only once all are out
-abbrev pub FitsFrames : ℕ → ℕ → PoolAnswer → Type 0
-FitsFrames made out Lent = out < made
-FitsFrames made out NoneFree = out ≡ made
-FitsFrames made out (DeniedBy place) = out < made
+-- the frames out fit an answer, where so many were made and so many policies handed in: a frame is
+-- lent and a policy asked only while one is free, and none is free only once all are out
+abbrev pub FitsFrames : ℕ → ℕ → ℕ → PoolAnswer → Type 0
+FitsFrames made policies out Lent = out < made
+FitsFrames made policies out NoneFree = out ≡ made
+FitsFrames made policies out (DeniedBy place) = (out < made) × (place < policies)
 
--- an act of a seat may stand behind an account, where the pool made so many frames: a give only while a frame is out, an allowance only of a number and a seat that are in no stretch
-abbrev pub MayStandIn : ℕ → PoolAccount → PoolAct → ℕ → Type 0
-MayStandIn made account (Take want answer) seat =
-    FitsFrames made (frames_out account) answer × MayDeal account seat (FitsAmount answer)
-MayStandIn made account Give seat = (0 < frames_out account) × MayDeal account seat (λ it. Unit {0})
-MayStandIn made account (Allow n other amount) seat =
+-- an act of a seat may stand behind an account, where the pool made so many frames and was handed so
+-- many policies: a give only while a frame is out, an allowance only of a number and a seat that are
+-- in no stretch
+abbrev pub MayStandIn : ℕ → ℕ → PoolAccount → PoolAct → ℕ → Type 0
+MayStandIn made policies account (Take want answer) seat =
+    FitsFrames made policies (frames_out account) answer × MayDeal account seat (FitsAmount answer)
+MayStandIn made policies account Give seat = (0 < frames_out account) × MayDeal account seat (λ it. Unit {0})
+MayStandIn made policies account (Allow n other amount) seat =
     (seat ≡ 0) × (0 < other) × IsNone (stretch_at account other) × IsNone (stretch_of account n)
-MayStandIn made account (Parted n) seat = IsInStretch account seat (λ it. it.number ≡ n)
-MayStandIn made account (Reaped n) seat =
+MayStandIn made policies account (Parted n) seat = IsInStretch account seat (λ it. it.number ≡ n)
+MayStandIn made policies account (Reaped n) seat =
     (seat ≡ 0) × IfSome (stretch_of account n) (λ it. it.has_parted ≡ true) × IsSome (stretch_of account n)
 
 -- each of the entries may stand behind those before it
-abbrev pub ArePoolEntriesBehind : ℕ → PoolAccount → List PoolEntry → Type 0
-ArePoolEntriesBehind made account [] = Unit {0}
-ArePoolEntriesBehind made account (entry ∷ log) =
-    MayStandIn made account entry.act entry.seat × ArePoolEntriesBehind made (pool_account_after account entry) log
+abbrev pub ArePoolEntriesBehind : ℕ → ℕ → PoolAccount → List PoolEntry → Type 0
+ArePoolEntriesBehind made policies account [] = Unit {0}
+ArePoolEntriesBehind made policies account (entry ∷ log) =
+    MayStandIn made policies account entry.act entry.seat
+    × ArePoolEntriesBehind made policies (pool_account_after account entry) log
 
--- a list of entries of the lock of a pool that made so many frames
-abbrev pub ArePoolEntries : ℕ → List PoolEntry → Type 0
-ArePoolEntries made log = ArePoolEntriesBehind made empty_pool_account log
+-- a list of entries of the lock of a pool that made so many frames and was handed so many policies
+abbrev pub ArePoolEntries : ℕ → ℕ → List PoolEntry → Type 0
+ArePoolEntries made policies log = ArePoolEntriesBehind made policies empty_pool_account log
 
 -- how many stretches of snapshot n are open
 abbrev pub times_open : ℕ → List Stretch → ℕ

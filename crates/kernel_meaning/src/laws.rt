@@ -27,11 +27,11 @@ pub fn a_cell_log_keeps_each_number_once()
 /// In a log of the pool's lock no more is given than taken, and no more is out than was made or
 /// than the load; each number is open and each seat in a stretch at most once.
 pub fn a_pool_log_keeps_its_account()
-    ensures { (made : ℕ) (log : List PoolEntry) → ArePoolEntries made log → IsPoolAccount made (pool_account_of log) }
+    ensures { (made policies : ℕ) (log : List PoolEntry) → ArePoolEntries made policies log → IsPoolAccount made (pool_account_of log) }
 {}
 
 /// Only an act of the parent's seat, which is number 0, changes the load.
 pub fn the_parent_alone_changes_the_load()
-    ensures { (made : ℕ) (account : PoolAccount) (act : PoolAct) (seat : ℕ) →
-        MayStandIn made account act seat → seat ≢ 0 → load (pool_act act seat account) ≡ load account }
+    ensures { (made policies : ℕ) (account : PoolAccount) (act : PoolAct) (seat : ℕ) →
+        MayStandIn made policies account act seat → seat ≢ 0 → load (pool_act act seat account) ≡ load account }
 {}

@@ -9,6 +9,7 @@ use Rattle.leaf_cell.specs.Standing.{StandsFor}
 use Rattle.leaf_cell.proofs.Renamed.{version_at-renamed}
 use Rattle.leaf_cell.proofs.Alike.{named-alike}
 use Rattle.leaf_cell.proofs.SameReads.{found-alike, leaf-stands}
+use Rattle.leaf_cell.proofs.TouchActs.{meant-pages}
 
 -- the page is the parent's alone there where it is here
 alone-there : (view : CellView) (account : CellAccount) → StandsFor view account → (page : ℕ) → IsAlone view.leaves page → IsAlone account.state.leaves page
@@ -26,11 +27,12 @@ alone-there view account stands page alone = record {
     some_named (Some version) h = refl
 
 pub allowed-stands : (view : CellView) (account : CellAccount) → StandsFor view account → (act : CellAct) → AllowsAct view.leaves act → AllowsAct account.state.leaves act
-allowed-stands view account stands (Touch page) it = tt
-allowed-stands view account stands (Store page at bytes) it = alone-there view account stands page it
-allowed-stands view account stands (Clear first n) it = tt
-allowed-stands view account stands (Protect first n perm) it = tt
-allowed-stands view account stands (Fork n mode seat) it = sym (found-alike stands.name n view.leaves.kept account.state.leaves.kept stands.leaves.kept) ∙ it
+allowed-stands view account stands (Touch page) it = it
+allowed-stands view account stands (Store page at bytes) it = (alone-there view account stands page it.0, it.1, it.2)
+allowed-stands view account stands (Clear first n) it = it
+allowed-stands view account stands (Protect first n perm) it = it
+allowed-stands view account stands (Fork n mode seat) it =
+    (meant-pages view account stands ∙ it.0, it.1, sym (found-alike stands.name n view.leaves.kept account.state.leaves.kept stands.leaves.kept) ∙ it.2)
 allowed-stands view account stands (Copy n) it = sym (found-alike stands.name n view.leaves.kept account.state.leaves.kept stands.leaves.kept) ∙ it
 allowed-stands view account stands (Unmark n) it = sym (leaf-stands is_joined view account stands n) ∙ it
 allowed-stands view account stands (Drop n) it = sym (found-alike stands.name n view.leaves.kept account.state.leaves.kept stands.leaves.kept) ∙ it

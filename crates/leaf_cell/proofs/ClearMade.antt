@@ -241,7 +241,7 @@ module _ {State : Type 0} (goes : State → Deal → State → Type 0) (from mid
       takes-cleared : TakesAccount (Clear first n) before after clear_deals None account
       takes-cleared =
           let course : Course = opening_course account.state.leaves (opening_requests account.made []) in
-          takes-by (Clear first n) (λ cell. tt) before after clear_deals None account (pages_cleared first n course)
+          takes-by (Clear first n) (λ cell other it. it) before after clear_deals None account (pages_cleared first n course)
           (ap (λ answers. cleared first n (opening_course account.state.leaves (opening_requests account.made answers))) (answers-returned (released.count + gone_if next))
           ∙ ap (λ b. cond b (pages_cleared first n (before_change course)) course) (sym (present-stands before account stands first n) ∙ present)
           ∙ ap (pages_cleared first n) (before_change-none course (meant-unjoined before account stands unjoined)))
@@ -305,7 +305,7 @@ made-nothing {State} goes state view first n none = record {
   led = refl;
   follows = λ account stands.
       let course : Course = opening_course account.state.leaves (opening_requests account.made []) in
-      takes-by (Clear first n) (λ cell. tt) view view [] None account course
+      takes-by (Clear first n) (λ cell other it. it) view view [] None account course
       (ap (λ b. cond b (pages_cleared first n (before_change course)) course) (sym (present-stands view account stands first n) ∙ none))
       (record {
         name = stands.name;

@@ -163,7 +163,7 @@ module _ {State : Type 0} (goes : State → Deal → State → Type 0) (from to 
       takes-lost : TakesAccount (Touch page) before after lost_deals None account
       takes-lost =
           let course : Course = opening_course account.state.leaves (opening_requests account.made (No at ∷ [])) in
-          takes-by (Touch page) (λ cell. tt) before after lost_deals None account (page_copy_answered page version (No at) (asking want.Page course))
+          takes-by (Touch page) (λ cell other it. it) before after lost_deals None account (page_copy_answered page version (No at) (asking want.Page course))
           (ap (λ answers. touched page (opening_course account.state.leaves (opening_requests account.made (No at ∷ answers)))) (answers-returned released.count)
           ∙ touched-present page course (meant-unjoined before account stands unjoined) version (meant before page place small there unjoined account stands).there
           ∙ ap (λ b. cond b (page_copy_answered page version (coming_answer course) (asking want.Page course)) course) (same_named before page place small there unjoined account stands ∙ named))

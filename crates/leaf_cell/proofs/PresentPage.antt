@@ -101,7 +101,7 @@ module _ (view : CellView) (page place : ℕ) (small : page < 512) (there : vers
   pub touch-in_place : is_named view.leaves page place ≡ false → is_some (bytes_in view.frames (Some place)) ≡ true → TakesAccount (Touch page) view view [] None account
   touch-in_place unnamed filled =
       let course : Course = opening_course account.state.leaves (opening_requests account.made []) in
-      takes-by (Touch page) (λ cell. tt) view view [] None account course
+      takes-by (Touch page) (λ cell other it. it) view view [] None account course
       (touched-present page course (meant-unjoined view account stands unjoined) meant.version meant.there
       ∙ ap (λ b. cond b (page_copy_answered page meant.version (coming_answer course) (asking want.Page course)) course) (same_named ∙ unnamed))
       (subst (λ pages. StandsFor view (record { state = record account.state { pages = pages }; made = account.made }))
@@ -116,7 +116,7 @@ module _ (view : CellView) (page place : ℕ) (small : page < 512) (there : vers
       let course : Course = opening_course account.state.leaves (opening_requests account.made (Yes ∷ [])) in
       let next : CellView = record { leaves = with_parent_version page to view.leaves; frames = slice_set view.frames to (Some frame); writable = writable } in
       let kept_pages : with_page account.state.pages page ≡ account.state.pages = with_page_there account.state.pages page (ap is_some (page_there (Some frame.bytes) bytes)) in
-      takes-by (Touch page) (λ cell. tt) view next (Granted want.Page ∷ []) None account (page_copy_answered page meant.version Yes (asking want.Page course))
+      takes-by (Touch page) (λ cell other it. it) view next (Granted want.Page ∷ []) None account (page_copy_answered page meant.version Yes (asking want.Page course))
       (touched-present page course (meant-unjoined view account stands unjoined) meant.version meant.there
       ∙ ap (λ b. cond b (page_copy_answered page meant.version (coming_answer course) (asking want.Page course)) course) (same_named ∙ named))
       (stands-new_version view account page (account.made + 1) to (account.made + 1) frame writable (with_page account.state.pages page) stands small size filled empty room (omega arith) (omega arith)

@@ -16,7 +16,7 @@ use Rattle.leaf_cell.proofs.TouchActs.{takes-by, meant-unjoined}
 module _ (view : CellView) (first n : ℕ) (perm : Perm) (unjoined : has_present view.leaves.parent first n ≡ true → AreUnjoined view.leaves.kept) where
   takes-protected : (account : CellAccount) → StandsFor view account → TakesAccount (Protect first n perm) view view [] None account
   takes-protected account stands =
-      takes-by (Protect first n perm) (λ cell. tt) view view [] None account course (by (has_present account.state.leaves.parent first n) refl)
+      takes-by (Protect first n perm) (λ cell other it. it) view view [] None account course (by (has_present account.state.leaves.parent first n) refl)
       (record {
         name = stands.name;
         leaves = stands.leaves;

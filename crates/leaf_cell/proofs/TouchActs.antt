@@ -25,12 +25,12 @@ use Rattle.leaf_cell.proofs.TouchCourses.{unjoined-alike, before_change-none, to
 abbrev pub account_of_course : CellAct → CellAccount → Course → CellAccount
 account_of_course act account course = record { state = state_after act course account.state; made = course.requests.made }
 
--- what is to be shown of a course that the act runs, where every cell allows it
-pub takes-by : (act : CellAct) → ((cell : CellLeaves) → AllowsAct cell act) → (old new : CellView) (deals : List Deal) (refused : Option ℕ) (account : CellAccount) (course : Course)
+-- what is to be shown of a course that the act runs, where one cell allows it as another does
+pub takes-by : (act : CellAct) → ((cell other : CellLeaves) → AllowsAct cell act → AllowsAct other act) → (old new : CellView) (deals : List Deal) (refused : Option ℕ) (account : CellAccount) (course : Course)
     → course_behind act account deals ≡ course → StandsFor new (account_of_course act account course)
     → course.requests.deals ≡ deals → course.refused ≡ refused → TakesAccount act old new deals refused account
 takes-by act allowed old new deals refused account course runs stands asked ended = record {
-  allowed = λ it. allowed account.state.leaves;
+  allowed = allowed old.leaves account.state.leaves;
   stands = subst (λ c. StandsFor new (account_of_course act account c)) (sym runs) stands;
   asked = ap (λ c. c.requests.deals) runs ∙ asked;
   ended = ap (λ c. c.refused) runs ∙ ended;
@@ -81,14 +81,14 @@ module _ (view : CellView) (page place : ℕ) (frame : FrameView) (writable : Li
   pub touch-added : has_pages view.leaves.parent ≡ true → TakesAccount (Touch page) view next_view (Granted want.Page ∷ []) None account
   touch-added there =
       let course : Course = opening_course account.state.leaves (opening_requests account.made (Yes ∷ [])) in
-      takes-by (Touch page) (λ cell. tt) view next_view (Granted want.Page ∷ []) None account (new_page_asked page 0 course)
+      takes-by (Touch page) (λ cell other it. it) view next_view (Granted want.Page ∷ []) None account (new_page_asked page 0 course)
       (touched-absent page course (meant-unjoined view account stands unjoined) (meant-absent view account stands page absent) (meant-pages view account stands ∙ there))
       (stands_next (account.made + 1) (omega arith)) refl refl
 
   pub touch-first : has_pages view.leaves.parent ≡ false → TakesAccount (Touch page) view next_view (Granted want.Leaf ∷ Granted want.Page ∷ []) None account
   touch-first none =
       let course : Course = opening_course account.state.leaves (opening_requests account.made (Yes ∷ Yes ∷ [])) in
-      takes-by (Touch page) (λ cell. tt) view next_view (Granted want.Leaf ∷ Granted want.Page ∷ []) None account (new_page_asked page 1 (asking want.Leaf course))
+      takes-by (Touch page) (λ cell other it. it) view next_view (Granted want.Leaf ∷ Granted want.Page ∷ []) None account (new_page_asked page 1 (asking want.Leaf course))
       (touched-first page course (meant-unjoined view account stands unjoined) (meant-absent view account stands page absent) (meant-pages view account stands ∙ none)
       ∙ ap (new_page_asked page 1) (before_change-none (asking want.Leaf course) (meant-unjoined view account stands unjoined)))
       (stands_next (account.made + 1 + 1) (omega arith)) refl refl
@@ -109,21 +109,21 @@ module _ (view : CellView) (page at : ℕ) (absent : version_at view.leaves.pare
   pub page-refused : has_pages view.leaves.parent ≡ true → TakesAccount (Touch page) view view (Denied want.Page at ∷ []) (Some at) account
   page-refused there =
       let course : Course = opening_course account.state.leaves (opening_requests account.made (No at ∷ [])) in
-      takes-by (Touch page) (λ cell. tt) view view (Denied want.Page at ∷ []) (Some at) account (new_page_asked page 0 course)
+      takes-by (Touch page) (λ cell other it. it) view view (Denied want.Page at ∷ []) (Some at) account (new_page_asked page 0 course)
       (touched-absent page course (meant-unjoined view account stands unjoined) (meant-absent view account stands page absent) (meant-pages view account stands ∙ there))
       (stands-made view account (account.made + 1) stands (omega arith)) refl refl
 
   pub leaf-refused : has_pages view.leaves.parent ≡ false → TakesAccount (Touch page) view view (Denied want.Leaf at ∷ []) (Some at) account
   leaf-refused none =
       let course : Course = opening_course account.state.leaves (opening_requests account.made (No at ∷ [])) in
-      takes-by (Touch page) (λ cell. tt) view view (Denied want.Leaf at ∷ []) (Some at) account (parent_leaf_answered page (No at) (asking want.Leaf course))
+      takes-by (Touch page) (λ cell other it. it) view view (Denied want.Leaf at ∷ []) (Some at) account (parent_leaf_answered page (No at) (asking want.Leaf course))
       (touched-first page course (meant-unjoined view account stands unjoined) (meant-absent view account stands page absent) (meant-pages view account stands ∙ none))
       (stands-made view account (account.made + 1) stands (omega arith)) refl refl
 
   pub first-refused : has_pages view.leaves.parent ≡ false → TakesAccount (Touch page) view view (Granted want.Leaf ∷ Denied want.Page at ∷ Returned ∷ []) (Some at) account
   first-refused none =
       let course : Course = opening_course account.state.leaves (opening_requests account.made (Yes ∷ No at ∷ [])) in
-      takes-by (Touch page) (λ cell. tt) view view (Granted want.Leaf ∷ Denied want.Page at ∷ Returned ∷ []) (Some at) account (new_page_asked page 1 (asking want.Leaf course))
+      takes-by (Touch page) (λ cell other it. it) view view (Granted want.Leaf ∷ Denied want.Page at ∷ Returned ∷ []) (Some at) account (new_page_asked page 1 (asking want.Leaf course))
       (touched-first page course (meant-unjoined view account stands unjoined) (meant-absent view account stands page absent) (meant-pages view account stands ∙ none)
       ∙ ap (new_page_asked page 1) (before_change-none (asking want.Leaf course) (meant-unjoined view account stands unjoined)))
       (stands-made view account (account.made + 1 + 1) stands (omega arith)) refl refl

@@ -2,6 +2,7 @@ pub mod SupplyLemmas
 pub mod AnswerLemmas
 pub mod TallyLemmas
 pub mod EventCounts
+pub mod Dealt
 pub mod RunLemmas
 pub mod SuppliedRuns
 pub mod Worked

@@ -25,6 +25,9 @@ use Rattle.vm_base.specs.TwoSides.{snap_read_of}
 use Rattle.trace_core.specs.SupplyState.{SupplyGoes, SupplyState}
 use Rattle.trace_core.specs.KernelStanding.{KernelParts, KernelStands, EventRan}
 use Rattle.trace_core.specs.KernelRun.{EventFollows, Ran, HasRun}
+use Rattle.trace_core.specs.DealtSupply.{as_asker, DealtAlong}
+use Rattle.kernel_meaning.specs.Stretches.{dealings_of}
+use Rattle.trace_core.proofs.Dealt.{event-dealt}
 use Rattle.trace_core.proofs.AnswerLemmas.{no_request_has_led}
 use Rattle.trace_core.proofs.EventCounts.{is_refuse}
 use Rattle.trace_core.proofs.RunLemmas.{run-empty, run-push}
@@ -49,6 +52,7 @@ ran-follows from new machine state event outcome parents plain st ran =
         leaves = ap (λ e. e.after) ran.ends;
         further = ran.further;
       };
+      dealt = event-dealt event ran.deals from.supply new.supply parents plain st.supply.asker ran.led;
       led = λ opening requests led. (follows opening requests led).led;
       stands = ran.stands;
     }
@@ -107,6 +111,7 @@ refuse-follows parts machine state nth some st = record {
   deals = [];
   after = record state { named = Some (state.made + nth) };
   is_event = record { counted = tt; deals_are = refl; answers = refl; leaves = refl; further = λ rest. refl };
+  dealt = refl;
   led = λ opening requests led. subst (λ list. HaveLed machine.frames opening list parts.supply.policies) (sym (append-nil requests)) led;
   stands = record {
     pages = st.pages;
@@ -154,6 +159,8 @@ copy-follows from new machine state n cell outcome st ran =
         leaves = ap (λ e. e.after) ran.ends;
         further = ran.further;
       };
+      dealt = subst (λ deals. DealtAlong from.supply (dealings_of (asker_of (Copy n cell)) deals) new.supply) (sym none)
+          (subst (λ supply. as_asker from.supply.asker from.supply.refused supply ≡ from.supply) (sym same) refl);
       led = λ opening requests led. subst (λ list. HaveLed machine.frames opening list new.supply.policies)
           (sym (ap (λ deals. requests ++ event_requests state (Copy n cell) deals) none ∙ append-nil requests))
           (subst (λ supply. HaveLed machine.frames opening requests supply.policies) (sym same) led);

@@ -9,7 +9,7 @@ use Rattle.vm_base.specs.declared.fork_mode.Mode.TheVariants.{Eager}
 use Rattle.vm_base.specs.declared.permission.Perm.{Perm}
 use Rattle.vm_base.specs.declared.faults.Fault.{Fault}
 use Rattle.vm_base.specs.declared.frame_request.Asker.TheVariants.{Parent, Snapshot}
-use Rattle.vm_base.specs.Deals.{Deal, Granted, Denied, Returned, LeadsAlong}
+use Rattle.vm_base.specs.Deals.{Deal, Granted, Denied, Returned}
 use Rattle.vm_base.specs.FlatStep.{touch_of, map_of, unmap_of, protect_of}
 use Rattle.vm_base.specs.MemoryState.{IsListed}
 use Rattle.kernel_meaning.specs.Requests.{Answer, answers_of}
@@ -28,16 +28,17 @@ use Rattle.trace_core.specs.KernelStanding.{KernelParts, IsKernel, KernelStands,
 use Rattle.trace_core.specs.KernelSeen.{KernelNotes, IsKernelNoted, live_numbers, kept_in}
 use Rattle.trace_core.specs.TablesSeen.{lost_in, waiting_in}
 use Rattle.trace_core.specs.TouchAnswers.{touch_outcome, with_stored}
-use Rattle.trace_core.specs.KernelWent.{as_asker, DealtAlong, IsStretch, HasDealt, KeepsChildren, KernelWent, AreGiven}
+use Rattle.trace_core.specs.DealtSupply.{as_asker}
+use Rattle.trace_core.specs.KernelWent.{IsStretch, HasDealt, KeepsChildren, KernelWent, AreGiven}
 use Rattle.trace_core.proofs.AnswerLemmas.{deals_lead_on, no_request_has_led}
 use Rattle.trace_core.proofs.AreaCalls.{HasMapped, HasUnmapped, HasProtected}
+use Rattle.trace_core.proofs.Dealt.{led-dealt}
 use Rattle.trace_core.proofs.ClauseProps.{number-prop, option-prop}
 use Rattle.trace_core.proofs.EventCounts.{HasCounted, counted-touch, parent_counts}
 use Rattle.trace_core.proofs.KeptEvents.{EndKeeps, lost-keep, lost-stay, map-keeps-leaves, unmap-keeps-leaves, protect-keeps-leaves, touch-keeps-leaves}
 use Rattle.trace_core.proofs.KeptLeaves.{told-between, same-keeps}
 use Rattle.trace_core.proofs.ToldRefusals.{count-grows}
 use Rattle.trace_core.proofs.SoundSteps.{known-noted}
-use Rattle.trace_core.specs.SupplyState.{SupplyState, SupplyGoes}
 use Rattle.vm_base.specs.Counts.{next_count}
 use Rattle.std.specs.Coded.{le_prop}
 use mathlib.Core.HLevel.{⊥_prop}
@@ -52,31 +53,6 @@ made_among-of made [] = refl
 made_among-of made (Granted want ∷ deals) = made_among-of (made + 1) deals
 made_among-of made (Denied want at ∷ deals) = made_among-of (made + 1) deals
 made_among-of made (Returned ∷ deals) = made_among-of made deals
-
--- a deal leaves who asks
-goes-asker : (old new : SupplyState) (deal : Deal) → SupplyGoes old deal new → new.asker ≡ old.asker
-goes-asker old new (Granted want) goes = ap (λ supply. supply.asker) goes.is
-goes-asker old new (Denied want at) goes = ap (λ supply. supply.asker) goes.is
-goes-asker old new Returned goes = ap (λ supply. supply.asker) goes.is
-
--- the deals of the parent, as its dealings
-led-dealt : (deals : List Deal) (old new : SupplyState) → old.asker ≡ Parent → LeadsAlong SupplyGoes old deals new → DealtAlong old (dealings_of Parent deals) new
-led-dealt [] old new parents led = ap (as_asker old.asker old.refused) led
-led-dealt (deal ∷ deals) old new parents led =
-    let next : led.0.asker ≡ Parent = goes-asker old led.0 deal led.1.0 ∙ parents in (
-      led.0,
-      (
-        old.refused,
-        (
-          led.0.refused,
-          (
-            subst (λ supply. SupplyGoes supply deal (as_asker Parent led.0.refused led.0)) (λ i. as_asker (parents i) old.refused old)
-                (subst (λ supply. SupplyGoes old deal supply) (λ i. as_asker (next i) led.0.refused led.0) led.1.0),
-            led-dealt deals led.0 new next led.1.1,
-          ),
-        ),
-      ),
-    )
 
 -- refusals of the parent that carry its count
 counted-parents : (count : ℕ) (deals : List Deal) → AreCounted count deals → AreCountedAmong Parent count (dealings_of Parent deals)

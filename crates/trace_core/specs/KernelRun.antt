@@ -2,20 +2,33 @@
 use Rattle.std.specs.Prelude.{ℕ, List, ◌++◌}
 use Rattle.vm_base.specs.Deals.{Deal}
 use Rattle.trace_events.specs.declared.event.Event.{Event}
-use Rattle.trace_events.specs.declared.event.Event.TheVariants.{Fork}
+use Rattle.trace_events.specs.declared.event.Event.TheVariants.{Fork, Refuse}
 use Rattle.trace_events.specs.declared.outcome.Outcome.{Outcome}
 use Rattle.trace_events.specs.declared.outcome.Outcome.TheVariants.{Done}
 use Rattle.kernel_meaning.specs.RefusedRequests.{Request, PolicySum}
+use Rattle.kernel_meaning.specs.Stretches.{dealings_of}
 use Rattle.trace_core.specs.Answering.{HaveLed}
 use Rattle.trace_core.specs.KernelState.{Machine, KernelState, opening_state}
+use Rattle.trace_core.specs.EventMeaning.{asker_of}
+use Rattle.trace_core.specs.SupplyState.{SupplyState}
+use Rattle.trace_core.specs.DealtSupply.{DealtAlong}
 use Rattle.trace_core.specs.RunMeaning.{IsEvent, event_requests, IsRunFrom}
 use Rattle.trace_core.specs.KernelStanding.{KernelParts, KernelStands}
 
--- a kernel that stood for this state ran an event: the event made just its deals, each request among them was answered as it may be, and the kernel stands for what it left
+-- the supply behind an event, but for the request that a refuse line names
+abbrev pub unnamed_by : Event → SupplyState → SupplyState → SupplyState
+unnamed_by (Refuse nth) from new = record new { pending = from.pending }
+unnamed_by event from new = new
+
+-- a kernel that stood for this state ran an event: the event made just its deals, for which the
+-- supply's policies were asked, each request among them was answered as it may be, and the kernel
+-- stands for what it left
 pub record EventFollows (from new : KernelParts) (machine : Machine) (state : KernelState) (event : Event) (outcome : Outcome) : Type 0 where
   pub deals : List Deal
   pub after : KernelState
   pub is_event : IsEvent machine state event deals outcome after
+  pub dealt : DealtAlong from.supply (dealings_of (asker_of event) deals)
+      (unnamed_by event from.supply new.supply)
   pub led : (opening : PolicySum) (requests : List Request) → HaveLed machine.frames opening requests from.supply.policies
       → HaveLed machine.frames opening (requests ++ event_requests state event deals) new.supply.policies
   pub stands : KernelStands new machine after

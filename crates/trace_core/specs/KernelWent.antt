@@ -2,28 +2,17 @@
 use Rattle.std.specs.Prelude.{◌≡◌, ◌⊎◌, ℕ, ◌≤◌, ◌<◌, List, [], ◌∷◌, ◌++◌, Some, None}
 use Rattle.std.specs.FinMap.{get}
 use Rattle.vm_base.specs.Counts.{next_count}
-use Rattle.vm_base.specs.declared.frame_request.Asker.{Asker}
 use Rattle.vm_base.specs.declared.frame_request.Asker.TheVariants.{Parent, Snapshot}
 use Rattle.vm_base.specs.MemoryState.{IsListed}
 use Rattle.vm_base.specs.SnapshotState.{GoesOn}
 use Rattle.kernel_meaning.specs.FrameLaw.{held_frames}
 use Rattle.kernel_meaning.specs.RefusedRequests.{Request, PolicySum}
-use Rattle.kernel_meaning.specs.Stretches.{Dealing, By, requests_among, made_among, out_among, requested_among, IsCountedFrom}
+use Rattle.kernel_meaning.specs.Stretches.{Dealing, requests_among, made_among, out_among, requested_among, IsCountedFrom}
 use Rattle.trace_core.specs.Answering.{HaveLed}
-use Rattle.trace_core.specs.SupplyState.{SupplyState, SupplyGoes}
+use Rattle.trace_core.specs.DealtSupply.{DealtAlong}
 use Rattle.trace_core.specs.KernelState.{Machine, KernelState}
 use Rattle.trace_core.specs.KernelStanding.{KernelParts, KernelStands, copies_refused_in}
 use Rattle.trace_core.specs.KernelSeen.{KernelNotes, live_numbers, nest_of}
-
--- a supply as this asker asks it, behind so many refused requests of its own
-abbrev pub as_asker : Asker → ℕ → SupplyState → SupplyState
-as_asker asker refused supply = record supply { asker = asker; refused = refused }
-
--- dealings of several askers lead a supply on: each request and each frame given back goes as the supply has it, whose policies were asked for it
-abbrev pub DealtAlong : SupplyState → List Dealing → SupplyState → Type 0
-DealtAlong old [] new = as_asker old.asker old.refused new ≡ old
-DealtAlong old (By asker deal ∷ dealings) new = (next : SupplyState) × ((before : ℕ) × ((behind : ℕ)
-    × (SupplyGoes (as_asker asker before old) deal (as_asker asker behind next) × DealtAlong next dealings new)))
 
 -- these dealings were made between two moments of a kernel that stood for this state: they led its supply on, their requests were answered as they may be, each asker's count rose by its own refused ones, and it stands for what they left
 pub record IsStretch (old new : KernelParts) (machine : Machine) (state : KernelState) (dealings : List Dealing) : Type 0 where

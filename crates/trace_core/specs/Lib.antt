@@ -1,5 +1,6 @@
 -- What is defined of a run of the kernel, and of where its frames come from.
 pub mod SupplyState
+pub mod DealtSupply
 pub mod Answering
 pub mod KernelStanding
 pub mod TablesSeen

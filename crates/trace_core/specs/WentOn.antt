@@ -18,7 +18,8 @@ use Rattle.trace_core.specs.Answering.{HaveLed}
 use Rattle.trace_core.specs.KernelState.{Machine, KernelState}
 use Rattle.trace_core.specs.KernelStanding.{KernelParts, KernelStands, copies_refused_in}
 use Rattle.trace_core.specs.KernelSeen.{KernelNotes, live_numbers, nest_of}
-use Rattle.trace_core.specs.KernelWent.{as_asker, DealtAlong, IsStretch, KernelWent, AreGiven}
+use Rattle.trace_core.specs.DealtSupply.{as_asker, DealtAlong}
+use Rattle.trace_core.specs.KernelWent.{IsStretch, KernelWent, AreGiven}
 
 -- ---- no call
 

@@ -3,7 +3,7 @@ use Rattle.vm_base.specs.declared.fork_mode.Mode.TheVariants as mode
 use Rattle.vm_base.specs.declared.frame_request.Want.TheVariants as want
 use Rattle.vm_base.specs.Deals.{Granted, Denied}
 use Rattle.kernel_meaning.specs.CellAccount.{Fork}
-use Rattle.kernel_meaning.specs.Leaves.{Own, kept_by}
+use Rattle.kernel_meaning.specs.Leaves.{Own, kept_by, has_pages}
 use Rattle.kernel_meaning.specs.CellActs.{with_fork}
 use Rattle.leaf_cell.specs.CellView.{CellView}
 use Rattle.leaf_cell.specs.Inside.{AreInside, table_places, table_writable, own_places, kept_values, cell_value}
@@ -44,6 +44,10 @@ returns-in-Ok-clause-made g c = λ seat.
     ap (λ parent. kept_values (table_places parent) c.self.inside.snapshot) c.allow_range.ensures
     ∙ ap (λ places. kept_values places c.self.inside.snapshot) (allowed-places false (own_places c.self.inside.snapshot) 0 512 c.self.inside.parent)
     ∙ ap (λ view. view.leaves.kept) c.self.view_is ∙ c.requires.alone in
+    let same : table_places c.allow_range.new.parent ≡ c.args.self.now.leaves.parent =
+    ap table_places c.allow_range.ensures
+    ∙ allowed-places false (own_places c.self.inside.snapshot) 0 512 c.self.inside.parent
+    ∙ ap (λ view. view.leaves.parent) c.self.view_is in
     record {
       deals = Granted want.Leaf ∷ [];
       led = (g.A.Allot.state c.take.new.self, (c.in-Ok.ensures.granted, refl));
@@ -52,7 +56,7 @@ returns-in-Ok-clause-made g c = λ seat.
           (stands-allowed false (own_places c.self.inside.snapshot) 0 512 c.self.inside.parent c.self.inside.snapshot c.self.inside.frames.items account
           (subst (λ view. StandsFor view account) (sym c.self.view_is) stands)) in
           takes-from (Fork c.args.number mode.Eager seat) c.args.self.now old new (Granted want.Leaf ∷ []) None account
-          (λ it. ap (λ kept. is_some (kept_by kept c.args.number)) alone)
+          (λ it. (ap has_pages same ∙ it.0, it.1, ap (λ kept. is_some (kept_by kept c.args.number)) alone))
           (subst (λ after. TakesAccount (Fork c.args.number mode.Eager seat) old after (Granted want.Leaf ∷ []) None account)
           (forked-view c.allow_range.new.parent c.self.inside.snapshot c.self.inside.frames.items c.new_snapshot.result c.args.number c.new_snapshot.ensures.number c.new_snapshot.ensures.mode c.new_snapshot.ensures.leaf)
           (fork-granted old account still c.args.number alone seat));
