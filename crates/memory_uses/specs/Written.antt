@@ -38,7 +38,7 @@ FailsTwice old new address second bytes fault =
     × (Writes old between address bytes × TouchFails between new second (length bytes) fault))
 
 -- behind a fork, which refused no request, the bytes were written, or the touch of their range was refused
-pub record WritesAfterFork (old new : MemoryState) (address : ℕ) (bytes : List ℕ) : Type 0 where
+pub record ForksAndWrites (old new : MemoryState) (address : ℕ) (bytes : List ℕ) : Type 0 where
   pub forked : MemoryState
   pub fork : LeavesMemory old forked
   pub kept : IsKept old forked []

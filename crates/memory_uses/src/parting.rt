@@ -3,7 +3,7 @@ ghost use Rattle.std.specs.Prelude.{◌≡◌, ◌+◌, ◌≤◌, ◌^◌, leng
 ghost use Rattle.vm_base.specs.FlatMemory.{bytes_at};
 ghost use Rattle.vm_base.specs.ProcessState.{ForkFails};
 ghost use Rattle.vm_base.specs.SnapshotState.{snapshot_answer};
-ghost use Rattle.memory_uses.specs.Written.{WritesOrFails, WritesAfterFork};
+ghost use Rattle.memory_uses.specs.Written.{WritesOrFails, ForksAndWrites};
 ghost use Rattle.memory_uses.specs.Steps.{IsWithin};
 
 use crate::memory::write_at;
@@ -48,7 +48,7 @@ pub fn fork_write_and_read<P: Parting>(
     ensures bytes { IfOk result (λ pair. OnOk pair.1 (bytes_at (P.state process.old).mem.present addr (length buf.old) ≡ buf.new)) }
     ensures unread { IfOk result (λ pair. IfErr pair.1
         (λ fault. snapshot_answer (P.Own.snapshot pair.0) addr (length buf.old) ≡ Err fault)) }
-    ensures written { OnOk result (WritesAfterFork (P.state process.old) (P.state process.new) addr bytes.now) }
+    ensures written { OnOk result (ForksAndWrites (P.state process.old) (P.state process.new) addr bytes.now) }
 
     // No child is there, and nothing was written.
     ensures fault { IfErr result
