@@ -17,7 +17,8 @@ use Rattle.page_tables.specs.Courses.{requests_between, progress_between}
 use Rattle.page_tables.specs.Held.{frames_of, frames_in, shares_in}
 use Rattle.page_tables.specs.Making.{Follows}
 use Rattle.page_tables.specs.Clearing.{pages_without}
-use Rattle.page_tables.specs.Standing.{number_of, slot_count}
+use Rattle.page_tables.specs.Standing.{slot_count}
+use Rattle.page_tables.proofs.view.TablesShown.{even-permissions, number-permissions}
 use Rattle.page_tables.specs.Permissions.{LeavesAllButPermissions}
 use Rattle.page_tables.proofs.ProtectedPages.{protect-runs}
 use Rattle.trace_events.specs.declared.event.Event.TheVariants.{Unmap}
@@ -32,6 +33,7 @@ use Rattle.trace_core.specs.Supplied.{IsSupplied}
 use Rattle.trace_core.proofs.AnswerLemmas.{no_request_has_led}
 use Rattle.trace_core.proofs.SuppliedRuns.{supplied-parent}
 use Rattle.trace_core.proofs.Writes.{ran-unchanged, out-then}
+use Rattle.page_tables.specs.TablesView.{snapshot_number, IsEven}
 
 -- ---- each call changes the areas of a memory as it changes their list, or is refused alike
 
@@ -64,9 +66,9 @@ unmapped-on memory start n = few-on (memory_without memory start n) (areas_witho
 -- ---- tables that differ in permissions alone
 
 -- a kernel with them stands for the same state, and the event ran on it
-ran-permissions : (from new : KernelParts) (machine : Machine) (end : List Answer → EventEnd) (outcome : Outcome) (tables : PageTables) → LeavesAllButPermissions new.tables tables
-    → EventRan from new machine end outcome → EventRan from (record { areas = new.areas; tables = tables; supply = new.supply; snapshot = new.snapshot; last = new.last }) machine end outcome
-ran-permissions from new machine end outcome tables alike ran = record {
+ran-permissions : (from late : KernelParts) (machine : Machine) (end : List Answer → EventEnd) (outcome : Outcome) (tables : PageTables) → LeavesAllButPermissions late.tables tables
+    → EventRan from late machine end outcome → EventRan from (record { areas = late.areas; tables = tables; supply = late.supply; snapshot = late.snapshot; last = late.last }) machine end outcome
+ran-permissions from late machine end outcome tables alike ran = record {
   deals = ran.deals;
   led = ran.led;
   after = ran.after;
@@ -76,14 +78,14 @@ ran-permissions from new machine end outcome tables alike ran = record {
     pages = ran.stands.pages;
     areas = ran.stands.areas;
     tables = alike.stands (sides_of ran.after ran.stands.pages) ran.stands.tables;
-    number = ap number_of alike.snapshot ∙ ran.stands.number;
+    number = number-permissions _ _ alike ∙ ran.stands.number;
     memories = ran.stands.memories;
     losses = ran.stands.losses;
     last = ran.stands.last;
     counts = ran.stands.counts;
     supply = ran.stands.supply;
     out = ran.stands.out ∙ sym alike.held;
-    even = alike.frames ∙ ran.stands.even ∙ sym alike.shares;
+    even = even-permissions _ _ alike ran.stands.even;
     slots = alike.slots ∙ ran.stands.slots;
     limit = ran.stands.limit;
   };
@@ -206,7 +208,7 @@ module _ (parts : KernelParts) (machine : Machine) (state : KernelState) (st : K
         ap (λ xs. pages_unmapped first n (progress_between state.leaves state.made xs [])) (sym (append-nil (answers_of deals))) ∙ follows.runs.runs [] [] in
         λ i. areas_changed state (unmap-is (Ok areas) changed i) (runs i)
 
-    pub ran-unmapped : frames_in new.slots.items ≡ shares_in new.slots.items → to.out ≡ frames_of new → number_of new.snapshot ≡ kept_number parts.snapshot → slot_count new ≡ machine.slots
+    pub ran-unmapped : IsEven new → to.out ≡ frames_of new → snapshot_number new ≡ kept_number parts.snapshot → slot_count new ≡ machine.slots
         → EventRan parts (record { areas = areas; tables = new; supply = to; snapshot = parts.snapshot; last = parts.last }) machine unmap_end Done
     ran-unmapped even out number slots = record {
       deals = deals;

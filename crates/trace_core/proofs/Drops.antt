@@ -12,7 +12,8 @@ use Rattle.kernel_meaning.specs.EventRequests.{Progress, snapshot_dropped}
 use Rattle.page_tables.specs.declared.tables.PageTables.{PageTables}
 use Rattle.page_tables.specs.Held.{frames_of, frames_in, shares_in}
 use Rattle.page_tables.specs.Forking.{FollowsAt, snapshots_without}
-use Rattle.page_tables.specs.Standing.{number_of, slot_count}
+use Rattle.page_tables.specs.Standing.{slot_count}
+use Rattle.page_tables.proofs.view.TablesShown.{lacks-number}
 use Rattle.trace_events.specs.declared.event.Event.TheVariants.{Drop}
 use Rattle.trace_events.specs.declared.outcome.Outcome.TheVariants.{Done, NoSnap}
 use Rattle.trace_core.specs.SupplyState.{SupplyState, SupplyGoes}
@@ -25,6 +26,7 @@ use Rattle.trace_core.proofs.OneSnapshot.{live-is, none-left, no-count-left}
 use Rattle.trace_core.proofs.SuppliedRuns.{supplied-parent}
 use Rattle.trace_core.proofs.WholeEvents.{progress_behind, runs-whole, all-held}
 use Rattle.trace_core.proofs.Writes.{ran-unchanged}
+use Rattle.page_tables.specs.TablesView.{LacksSnapshot, IsEven}
 
 module _ (parts : KernelParts) (machine : Machine) (state : KernelState) (st : KernelStands parts machine state) (n : ℕ) where
   -- no such snapshot lives
@@ -46,7 +48,7 @@ module _ (parts : KernelParts) (machine : Machine) (state : KernelState) (st : K
 
     -- the snapshot is gone
     pub ran-dropped : (to : SupplyState) → LeadsAlong SupplyGoes parts.supply deals to
-        → frames_in new.slots.items ≡ shares_in new.slots.items → to.out ≡ frames_of new → new.snapshot ≡ None → slot_count new ≡ machine.slots
+        → IsEven new → to.out ≡ frames_of new → LacksSnapshot new → slot_count new ≡ machine.slots
         → EventRan parts (record { areas = parts.areas; tables = new; supply = to; snapshot = None; last = parts.last }) machine (λ answers. drop_end state answers n) Done
     ran-dropped to led even out gone slots =
         let held : to.out ≡ held_frames follows.leaves = all-held to.out new _ follows.stands even out in
@@ -61,7 +63,7 @@ module _ (parts : KernelParts) (machine : Machine) (state : KernelState) (st : K
             pages = remove st.pages n;
             areas = st.areas;
             tables = follows.stands;
-            number = ap number_of gone;
+            number = lacks-number new gone;
             memories = none-left parts.snapshot st.pages state.world.snapshots st.memories n live;
             losses = refl;
             last = st.last;

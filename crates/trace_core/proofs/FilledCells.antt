@@ -16,12 +16,14 @@ use Rattle.trace_events.specs.declared.event.Event.{Event}
 use Rattle.trace_events.specs.declared.outcome.Outcome.{Outcome}
 use Rattle.trace_core.specs.KernelState.{Machine, KernelState}
 use Rattle.trace_core.specs.KernelStanding.{KernelParts, KernelStands, IsKernel, sides_of}
-use Rattle.trace_core.specs.KernelSeen.{pages_of, parent_of, is_new_fork}
+use Rattle.trace_core.specs.KernelSeen.{parent_of, is_new_fork}
 use Rattle.trace_core.proofs.ClauseProps.{test-prop}
 use Rattle.trace_core.proofs.HeldEvents.{AreFilled}
 use Rattle.vm_base.proofs.OwnFrames.{member, member-map, member-keys}
-use Rattle.trace_core.proofs.SeenTables.{seen-pages}
-use Rattle.trace_core.proofs.WholeCells.{whole-versions}
+use Rattle.page_tables.proofs.view.TablesShown.{cell-shown}
+use Rattle.page_tables.proofs.view.ViewSides.{seen-pages}
+use Rattle.page_tables.proofs.enough.WholeCells.{whole-versions}
+use Rattle.page_tables.specs.TablesView.{pages_of}
 
 -- versions of some page have one
 page-of : (versions : Versions) → has_pages versions ≡ true → (p : ℕ) × ((p < length versions) × IsSome (version_at versions p))
@@ -42,23 +44,19 @@ module _ (parts : KernelParts) (machine : Machine) (state : KernelState) (stands
   sides = sides_of state stands.pages
 
   stands-filled : AreFilled parts
-  stands-filled c there = by (get parts.tables.directory c) refl
-    where
-      by : (o : Option ℕ) → get parts.tables.directory c ≡ o → IsListed c (cells_of (parent_of parts))
-      by None none = absurd (false≢true (sym (ap is_some none) ∙ there))
-      by (Some s) known =
-          let found = page-of (cell_at state.leaves c).parent (sym (stands.tables.parent c) ∙ there) in
-          let small : found.0 < 512 = omega (arith, found.1.0, stands.tables.kept.sizes c) in
-          let page : ℕ = c * 512 + found.0 in
-          let cell : page / 512 ≡ c = omega (arith, small) in
-          let place : page % 512 ≡ found.0 = omega (arith, small) in
-          let version : IsSome (page_version state.leaves page) =
-          ap (λ d. is_some (version_at (cell_at state.leaves d).parent (page % 512))) cell ∙ ap (λ p. is_some (version_at (cell_at state.leaves c).parent p)) place ∙ found.1.1 in
-          let present : IsSome (get state.world.parent.present page) = whole-versions parts.tables sides stands.tables page ∙ version in
-          let seen : pages_of parts.tables ≡ state.world.parent.present = seen-pages parts.tables sides stands.tables in
-          listed-member c (cells_of (parent_of parts))
-          (ap (λ d. member d (cells_of (parent_of parts))) (sym cell)
-          ∙ member-map cell_of page (keys (pages_of parts.tables)) (member-keys (pages_of parts.tables) page ∙ ap (λ pages. is_some (get pages page)) seen ∙ present))
+  stands-filled c there =
+      let found = page-of (cell_at state.leaves c).parent (sym (cell-shown parts.tables sides stands.tables c) ∙ there) in
+      let small : found.0 < 512 = omega (arith, found.1.0, stands.tables.kept.sizes c) in
+      let page : ℕ = c * 512 + found.0 in
+      let cell : page / 512 ≡ c = omega (arith, small) in
+      let place : page % 512 ≡ found.0 = omega (arith, small) in
+      let version : IsSome (page_version state.leaves page) =
+      ap (λ d. is_some (version_at (cell_at state.leaves d).parent (page % 512))) cell ∙ ap (λ p. is_some (version_at (cell_at state.leaves c).parent p)) place ∙ found.1.1 in
+      let present : IsSome (get state.world.parent.present page) = whole-versions parts.tables sides stands.tables page ∙ version in
+      let seen : pages_of parts.tables ≡ state.world.parent.present = seen-pages parts.tables sides stands.tables in
+      listed-member c (cells_of (parent_of parts))
+      (ap (λ d. member d (cells_of (parent_of parts))) (sym cell)
+      ∙ member-map cell_of page (keys (pages_of parts.tables)) (member-keys (pages_of parts.tables) page ∙ ap (λ pages. is_some (get pages page)) seen ∙ present))
 
 -- the parent of a kernel has a page in each cell of its directory
 pub cells-filled : (parts : KernelParts) → ∥ IsKernel parts ∥₁ → AreFilled parts

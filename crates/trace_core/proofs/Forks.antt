@@ -13,7 +13,8 @@ use Rattle.page_tables.specs.declared.tables.PageTables.{PageTables}
 use Rattle.page_tables.specs.Courses.{requests_between}
 use Rattle.page_tables.specs.Held.{frames_of, frames_in, shares_in}
 use Rattle.page_tables.specs.Forking.{FollowsAt, snapshots_with}
-use Rattle.page_tables.specs.Standing.{number_of, slot_count}
+use Rattle.page_tables.specs.Standing.{slot_count}
+use Rattle.page_tables.proofs.view.TablesShown.{lacks-number}
 use Rattle.trace_events.specs.declared.event.Event.TheVariants.{Fork}
 use Rattle.trace_events.specs.declared.outcome.Outcome.TheVariants.{Done, NoFrame, TooMany}
 use Rattle.trace_core.specs.SupplyState.{SupplyState, SupplyGoes}
@@ -26,6 +27,7 @@ use Rattle.trace_core.proofs.OneSnapshot.{lives-len, get-inserted}
 use Rattle.trace_core.proofs.SuppliedRuns.{supplied-parent}
 use Rattle.trace_core.proofs.WholeEvents.{progress_behind, runs-whole, all-held}
 use Rattle.trace_core.proofs.Writes.{ran-unchanged}
+use Rattle.page_tables.specs.TablesView.{snapshot_number, LacksSnapshot, IsEven}
 
 module _ (parts : KernelParts) (machine : Machine) (state : KernelState) (st : KernelStands parts machine state) (n : ℕ) where
   -- as many live as may, where one does
@@ -39,7 +41,7 @@ module _ (parts : KernelParts) (machine : Machine) (state : KernelState) (st : K
 
   module _ (none : parts.snapshot ≡ None) (new : PageTables) (deals : List Deal) (refused : Option FrameRefusal)
       (follows : FollowsAt (snapshot_forked n Eager) (snapshots_with n) new deals refused (sides_of state st.pages)) (to : SupplyState) (led : LeadsAlong SupplyGoes parts.supply deals to)
-      (even : frames_in new.slots.items ≡ shares_in new.slots.items) (out : to.out ≡ frames_of new) (slots : slot_count new ≡ machine.slots) where
+      (even : IsEven new) (out : to.out ≡ frames_of new) (slots : slot_count new ≡ machine.slots) where
     abbrev end : EventEnd
     end = fork_answered state n refused (progress_behind follows.leaves follows.made deals refused)
 
@@ -63,7 +65,7 @@ module _ (parts : KernelParts) (machine : Machine) (state : KernelState) (st : K
   -- a frame was refused
   pub ran-unforked : parts.snapshot ≡ None → (new : PageTables) (deals : List Deal) (refusal : FrameRefusal)
       (follows : FollowsAt (snapshot_forked n Eager) (snapshots_with n) new deals (Some refusal) (sides_of state st.pages)) (to : SupplyState)
-      → LeadsAlong SupplyGoes parts.supply deals to → frames_in new.slots.items ≡ shares_in new.slots.items → to.out ≡ frames_of new → slot_count new ≡ machine.slots → new.snapshot ≡ None
+      → LeadsAlong SupplyGoes parts.supply deals to → IsEven new → to.out ≡ frames_of new → slot_count new ≡ machine.slots → LacksSnapshot new
       → EventRan parts (record { areas = parts.areas; tables = new; supply = to; snapshot = parts.snapshot; last = parts.last }) machine
       (λ answers. fork_end machine state answers n Eager) (NoFrame refusal.at)
   ran-unforked none new deals refusal follows to led even out slots kept = record {
@@ -76,7 +78,7 @@ module _ (parts : KernelParts) (machine : Machine) (state : KernelState) (st : K
       pages = st.pages;
       areas = st.areas;
       tables = follows.stands;
-      number = ap number_of kept ∙ sym (ap kept_number none);
+      number = lacks-number new kept ∙ sym (ap kept_number none);
       memories = st.memories;
       losses = refl;
       last = st.last;
@@ -92,8 +94,8 @@ module _ (parts : KernelParts) (machine : Machine) (state : KernelState) (st : K
   -- the snapshot lives, with the parent's areas and pages
   pub ran-forked : parts.snapshot ≡ None → (new : PageTables) (deals : List Deal)
       (follows : FollowsAt (snapshot_forked n Eager) (snapshots_with n) new deals None (sides_of state st.pages)) (to : SupplyState)
-      → LeadsAlong SupplyGoes parts.supply deals to → frames_in new.slots.items ≡ shares_in new.slots.items → to.out ≡ frames_of new → slot_count new ≡ machine.slots
-      → number_of new.snapshot ≡ Some n → (areas : List Area) → areas ≡ parts.areas
+      → LeadsAlong SupplyGoes parts.supply deals to → IsEven new → to.out ≡ frames_of new → slot_count new ≡ machine.slots
+      → snapshot_number new ≡ Some n → (areas : List Area) → areas ≡ parts.areas
       → EventRan parts (record { areas = parts.areas; tables = new; supply = to; snapshot = Some (record { number = n; areas = areas; refused = 0 }); last = n }) machine
       (λ answers. fork_end machine state answers n Eager) Done
   ran-forked none new deals follows to led even out slots lives areas copied =

@@ -8,9 +8,9 @@ use Rattle.trace_core.specs.KernelStanding.{KernelParts, KernelStands, kept_numb
 use Rattle.trace_core.specs.KernelSeen.{KernelNotes, IsKernelNoted, parent_of, live_numbers}
 use Rattle.trace_core.specs.declared.parts.SnapshotAreas.{SnapshotAreas}
 use Rattle.trace_core.proofs.ClauseProps.{number-prop}
-use Rattle.trace_core.proofs.Known.{none-numbered}
-use Rattle.trace_core.proofs.SeenTables.{seen-pages}
-use Rattle.trace_core.proofs.WholeCells.{whole-held}
+use Rattle.page_tables.proofs.view.TablesShown.{number-lacks}
+use Rattle.page_tables.proofs.view.ViewSides.{seen-pages}
+use Rattle.page_tables.proofs.enough.WholeCells.{whole-held}
 
 -- none lives where so many do
 pub none-alive : (snapshot : Option SnapshotAreas) → length (live_numbers snapshot) ≡ 0 → snapshot ≡ None
@@ -22,4 +22,4 @@ pub held-alone : (parts : KernelParts) (notes : KernelNotes) → ∥ IsKernelNot
 held-alone parts notes known none held told = ∥∥₁_elim known (number-prop held (own_of (parent_of parts))) (λ it.
     let st = it.1.1.stands in
     told it.0 it.1.0 st ∙ whole-held parts.tables (sides_of it.1.0 st.pages) st.tables (parent_of parts) (seen-pages parts.tables (sides_of it.1.0 st.pages) st.tables)
-    (none-numbered parts.tables.snapshot (st.number ∙ ap kept_number none)))
+    (number-lacks parts.tables (st.number ∙ ap kept_number none)))

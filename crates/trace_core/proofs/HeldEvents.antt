@@ -1,6 +1,6 @@
 -- What is noted of a kernel holds behind each event of a step.
 use Rattle.std.proofs.Common.{◌≡◌, ◌≢◌, ℕ, ◌≤◌, ◌^◌, Bool, true, false, cond, List, [], ◌∷◌, length, replicate, map, Option, Some, None, Result, Ok, Err, refl, sym, ◌∙◌, ap, subst, arith, le_refl}
-use Rattle.std.specs.Prelude.{◌-◌, IsSome, is_some, nat_le, IfOk, OnErr}
+use Rattle.std.specs.Prelude.{not, ◌==◌, IsTrue, ◌-◌, IsSome, is_some, nat_le, IfOk, OnErr}
 use Rattle.std.specs.Ordering.{nat_cmp}
 use Rattle.std.specs.FinMap.{empty, get, len, len-empty}
 use Rattle.std.proofs.lemmas.Bool.{false≢true}
@@ -14,6 +14,7 @@ use Rattle.vm_base.specs.FlatStep.{map_of, unmap_of, protect_of, write_of}
 use Rattle.vm_base.specs.MemoryState.{IsListed, own_of}
 use Rattle.vm_base.specs.TwoSides.{dropped}
 use Rattle.kernel_meaning.specs.Requests.{Answer, answers_of}
+use Rattle.kernel_meaning.specs.Leaves.{Kept}
 use Rattle.kernel_meaning.specs.FrameLaw.{cell_at, parent_cells}
 use Rattle.kernel_meaning.specs.EventRequests.{FrameRefusal, Progress, with_fork_at, snapshot_forked, snapshot_dropped}
 use Rattle.kernel_meaning.specs.RefusedRequests.{count_after}
@@ -23,15 +24,14 @@ use Rattle.trace_events.specs.declared.outcome.Outcome.{Outcome}
 use Rattle.trace_events.specs.declared.outcome.Outcome.TheVariants.{Done, TooMany, NoSnap}
 use Rattle.trace_events.specs.EventBounds.{IsWithinBounds}
 use Rattle.page_tables.specs.declared.tables.PageTables.{PageTables}
-use Rattle.page_tables.specs.declared.tables.SnapshotTables.{SnapshotTables}
-use Rattle.page_tables.specs.Standing.{slot_in, numbers_at}
+use Rattle.page_tables.proofs.view.TablesShown.{cell-shown, kept-shown}
 use Rattle.trace_core.specs.declared.parts.SnapshotAreas.{SnapshotAreas}
 use Rattle.trace_core.specs.Answering.{AreCounted, made_after, pending_of}
 use Rattle.trace_core.specs.KernelState.{Machine, KernelState}
 use Rattle.trace_core.specs.EventMeaning.{EventEnd, begun, only_answers, parent_end, fork_answered, is_live, event_end, asker_of, refused_so_far}
 use Rattle.trace_core.specs.KernelStanding.{KernelParts, KernelStands, sides_of}
 use Rattle.trace_core.specs.KernelRun.{Ran, EventFollows}
-use Rattle.trace_core.specs.KernelSeen.{KernelNotes, IsSound, IsKernelNoted, NotesHold, IsNoted, pages_of, parent_of, kept_in, is_new_fork, most_behind}
+use Rattle.trace_core.specs.KernelSeen.{KernelNotes, IsSound, IsKernelNoted, NotesHold, IsNoted, parent_of, kept_in, is_new_fork, most_behind}
 use Rattle.trace_core.proofs.Copies.{no-deals, same-leaves}
 use Rattle.trace_core.proofs.EventCounts.{HasCounted, HasCopied, is_refuse, parent_counts, copy_counts}
 use Rattle.trace_core.proofs.HeldNotes.{EnoughHolds, NotesHold-prop, AreAmong, none-kept, none-hold, pending-stays, enough-then, among-hold}
@@ -42,9 +42,10 @@ use Rattle.trace_core.proofs.OneSnapshot.{lives-len, none-left}
 use Rattle.trace_core.proofs.RunSteps.{only-eager}
 use Rattle.trace_core.proofs.SeenChanges.{was-there}
 use Rattle.trace_core.proofs.SeenForks.{lives-is, full-is, none-lives}
-use Rattle.trace_core.proofs.SeenTables.{seen-pages, seen-lost}
+use Rattle.page_tables.proofs.view.ViewSides.{seen-pages, seen-lost}
 use Rattle.trace_core.proofs.SoundEvents.{event-kept}
 use Rattle.trace_core.proofs.SoundSteps.{is_fork}
+use Rattle.page_tables.specs.TablesView.{pages_of, has_cell, snapshot_has}
 
 -- the most frames never fall behind an event
 pub behind-grows : (before : PageTables) (event : Event) (outcome : Outcome) (most : ℕ) → most ≤ most_behind before event outcome most
@@ -62,22 +63,13 @@ behind-grows before Frames outcome most = le_refl most
 behind-grows before ListAreas outcome most = le_refl most
 behind-grows before (Refuse nth) outcome most = le_refl most
 
--- a cell of a snapshot has its number
-slot-numbered : (snapshot : Option SnapshotTables) (c : ℕ) → IsSome (slot_in snapshot c) → numbers_at snapshot c ≢ []
-slot-numbered None c there none = false≢true there
-slot-numbered (Some tables) c there none = by (is_some (get tables.directory c)) there none
-  where
-    by : (b : Bool) → b ≡ true → cond b (tables.number ∷ []) [] ≢ []
-    by true is none = false≢true (sym (ap (λ list. elim list [ [] ↦ false | m ∷ rest ↦ true ]) none))
-    by false is none = false≢true is
-
 none-counted : (snapshot : Option SnapshotAreas) → ◌≡◌ {A = ℕ} 0 (cond (is_some snapshot) 1 0) → snapshot ≡ None
 none-counted None few = refl
 none-counted (Some kept) few = absurd (omega (arith, few))
 
 -- the parent has a page in each cell of its directory
 abbrev pub AreFilled : KernelParts → Type 0
-AreFilled parts = (c : ℕ) → IsSome (get parts.tables.directory c) → IsListed c (cells_of (parent_of parts))
+AreFilled parts = (c : ℕ) → IsTrue (has_cell parts.tables c) → IsListed c (cells_of (parent_of parts))
 
 module _ (old new : KernelParts) (notes later : KernelNotes) (machine : Machine) (state : KernelState) (sound : IsSound old notes machine state)
     (fits : old.supply.refused ≤ 2 ^ 64 - 1) (holds : NotesHold old notes) (outcome : Outcome) where
@@ -118,12 +110,12 @@ module _ (old new : KernelParts) (notes later : KernelNotes) (machine : Machine)
     pages-then = seen-pages new.tables (sides_of after then.pages) then.tables ∙ ap (λ memory. memory.present) parent
 
     -- each cell of the new snapshot is one of the parent's directory
-    forked-there : (c : ℕ) → IsSome (slot_in new.tables.snapshot c) → IsSome (get old.tables.directory c)
+    forked-there : (c : ℕ) → IsTrue (snapshot_has new.tables c) → IsTrue (has_cell old.tables c)
     forked-there c there =
-        sound.stands.tables.parent c
+        cell-shown old.tables (sides_of state sound.stands.pages) sound.stands.tables c
         ∙ forked-only n state.leaves sound.stands.tables.kept.sorted none-before c
-        (λ gone. slot-numbered new.tables.snapshot c there
-        (sym (then.tables.snapshot_of.numbers c) ∙ ap (λ leaves. map (λ it. it.number) (cell_at leaves c).kept) leaves ∙ ap (map (λ it. it.number)) gone))
+        (λ gone. false≢true (sym (sym there ∙ kept-shown new.tables (sides_of after then.pages) then.tables c
+        ∙ ap (λ leaves. not (length (cell_at leaves c).kept == 0)) leaves ∙ ap (λ (kept : List Kept). not (length kept == 0)) gone)))
 
     -- it has lost none
     forked-unlost : (m c : ℕ) → loss_of after.leaves m c ≡ None

@@ -23,14 +23,15 @@ use Rattle.frame_pool.specs.Policies.{PolicyView}
 use Rattle.kernel_meaning.specs.RefusedRequests.{count_after}
 use Rattle.trace_events.specs.declared.outcome.Outcome.{Outcome}
 use Rattle.page_tables.specs.declared.tables.PageTables.{PageTables}
-use Rattle.page_tables.specs.Standing.{slot_in, numbers_at}
+use Rattle.page_tables.proofs.view.TablesShown.{number-lacks, has-number}
+use Rattle.page_tables.proofs.enough.SnapshotFrames.{alone-kept}
 use Rattle.trace_core.specs.declared.parts.SnapshotAreas.{SnapshotAreas}
 use Rattle.trace_core.specs.Answering.{AreCounted, LeadOn, made_after, pending_of}
 use Rattle.trace_core.specs.KernelState.{Machine, KernelState, opening_state}
 use Rattle.trace_core.specs.EventMeaning.{EventEnd}
 use Rattle.trace_core.specs.KernelStanding.{KernelParts, KernelStands, EventRan, kept_memories, kept_number, sides_of}
-use Rattle.trace_core.specs.KernelSeen.{KernelNotes, IsSound, IsKernelNoted, NotesHold, pages_of, kept_in, enough_of, most_behind_touch}
-use Rattle.trace_core.specs.TablesSeen.{lost_in}
+use Rattle.trace_core.specs.KernelSeen.{KernelNotes, IsSound, IsKernelNoted, NotesHold, kept_in, enough_of, most_behind_touch}
+use Rattle.page_tables.specs.SlotViews.{lost_in}
 use Rattle.trace_core.specs.TouchAnswers.{touch_outcome, with_stored}
 use Rattle.trace_core.proofs.AnswerLemmas.{deals_lead_on, no_request_has_led}
 use Rattle.trace_core.proofs.AreaCalls.{HasMapped, HasUnmapped, HasProtected}
@@ -38,13 +39,13 @@ use Rattle.trace_core.proofs.ClauseProps.{test-prop, option-prop}
 use Rattle.trace_core.proofs.KernelTouches.{TouchRan, answered-grows}
 use Rattle.trace_core.proofs.KeptEvents.{EndKeeps, map-keeps-leaves, unmap-keeps-leaves, protect-keeps-leaves, touch-keeps-leaves, slots-keep, lost-keep}
 use Rattle.trace_core.proofs.KeptLeaves.{KeepsLeaves, told-between, same-keeps}
-use Rattle.trace_core.proofs.Known.{none-numbered}
 use Rattle.trace_core.proofs.OneSnapshot.{nothing-there, live-is, number-is}
 use Rattle.vm_base.proofs.OwnFrames.{own-empty}
 use Rattle.trace_core.proofs.SeenForks.{memory-under}
-use Rattle.trace_core.proofs.SeenTables.{seen-lost}
+use Rattle.page_tables.proofs.view.ViewSides.{seen-lost}
 use Rattle.trace_core.proofs.Stood.{under}
 use Rattle.trace_core.proofs.ToldRefusals.{count-grows}
+use Rattle.page_tables.specs.TablesView.{views_of, pages_of, snapshot_number}
 
 -- where it is told how many frames are enough, no request is named to be refused, and they are at most one more than half of those that were made
 abbrev pub EnoughHolds : Option ℕ → KernelParts → Type 0
@@ -62,20 +63,16 @@ NotesHold-prop parts notes a b = λ i. record {
 
 -- ---- where no snapshot lives
 
-nil-map : (kept : List Kept) → map (λ it. it.number) kept ≡ [] → kept ≡ []
-nil-map [] none = refl
-nil-map (it ∷ others) none = absurd (false≢true (sym (ap (λ list. elim list [ [] ↦ false | m ∷ rest ↦ true ]) none)))
-
 module _ (parts : KernelParts) (machine : Machine) (state : KernelState) (stands : KernelStands parts machine state) where
   module _ (none : parts.snapshot ≡ None) where
-    none-numbered-there : parts.tables.snapshot ≡ None
-    none-numbered-there = none-numbered parts.tables.snapshot (stands.number ∙ ap kept_number none)
+    none-numbered : snapshot_number parts.tables ≡ None
+    none-numbered = stands.number ∙ ap kept_number none
 
     -- no cell has a snapshot
     pub none-kept : (c : ℕ) → (cell_at state.leaves c).kept ≡ []
-    none-kept c = nil-map (cell_at state.leaves c).kept (stands.tables.snapshot_of.numbers c ∙ ap (λ snapshot. numbers_at snapshot c) none-numbered-there)
+    none-kept = alone-kept parts.tables (sides_of state stands.pages) stands.tables (number-lacks parts.tables none-numbered)
 
-    none-lost : (n c : ℕ) → get (lost_in n parts.tables.slots.items) c ≡ None
+    none-lost : (n c : ℕ) → get (lost_in n (views_of parts.tables)) c ≡ None
     none-lost n c =
         seen-lost parts.tables (sides_of state stands.pages) stands.tables n c
         ∙ ap (λ kept. option_and_then (λ it. loss_at it.leaf) (kept_by kept n)) (none-kept c)
@@ -83,7 +80,7 @@ module _ (parts : KernelParts) (machine : Machine) (state : KernelState) (stands
     -- what is noted holds, whatever is noted of a snapshot
     pub none-hold : (notes : KernelNotes) → EnoughHolds notes.enough parts → NotesHold parts notes
     none-hold notes enough = record {
-      cells = λ c there. absurd (false≢true (sym (ap (λ snapshot. is_some (slot_in snapshot c)) none-numbered-there) ∙ there));
+      cells = λ c there. absurd (false≢true (sym (ap is_some none-numbered) ∙ has-number parts.tables c there));
       born = λ lives. absurd (false≢true (sym (ap is_some none) ∙ lives));
       since = λ n c at lost. absurd (false≢true (sym (ap is_some (none-lost n c)) ∙ ap is_some lost));
       own = subst (λ own. own ≤ notes.most) (sym (ap (λ snapshot. own_of (kept_in snapshot notes.forked)) none ∙ own-empty)) (omega arith);
@@ -91,7 +88,7 @@ module _ (parts : KernelParts) (machine : Machine) (state : KernelState) (stands
     }
 
   -- where a cell is lost, a snapshot lives
-  lost-lives : (n c at : ℕ) → get (lost_in n parts.tables.slots.items) c ≡ Some at → IsSome parts.snapshot
+  lost-lives : (n c at : ℕ) → get (lost_in n (views_of parts.tables)) c ≡ Some at → IsSome parts.snapshot
   lost-lives n c at lost = elim (cases_Bool (is_some parts.snapshot)) [
     | inl lives ↦ lives
     | inr none ↦ absurd (false≢true (sym (ap is_some (none-lost (nothing-there parts.snapshot none) n c)) ∙ ap is_some lost))

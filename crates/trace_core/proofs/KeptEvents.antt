@@ -17,18 +17,18 @@ use Rattle.kernel_meaning.specs.CellActs.{with_fork}
 use Rattle.kernel_meaning.specs.FrameLaw.{Leaves, cell_at, lacks_slots, parent_cells}
 use Rattle.kernel_meaning.specs.EventRequests.{FrameRefusal, Progress, fork_wants, fork_answered, with_fork_at, snapshot_forked, snapshot_dropped, pages_touched, pages_unmapped, pages_protected}
 use Rattle.trace_events.specs.declared.outcome.Outcome.TheVariants.{CellsFull}
-use Rattle.page_tables.specs.declared.tables.SnapshotTables.{SnapshotTables}
 use Rattle.page_tables.specs.declared.tables.PageTables.{PageTables}
 use Rattle.page_tables.specs.Sides.{Sides}
-use Rattle.page_tables.specs.Standing.{AreKept, TablesStandFor, slot_in, numbers_at}
+use Rattle.page_tables.specs.Standing.{AreKept, TablesStandFor}
 use Rattle.page_tables.proofs.ForkedLeaves.{cell-forked}
 use Rattle.page_tables.proofs.DroppedLeaves.{cell-dropped}
 use Rattle.trace_core.specs.KernelState.{Machine, KernelState}
 use Rattle.trace_core.specs.EventMeaning.{EventEnd, begun, only_answers, areas_changed, touch_answered, touch_judged}
-use Rattle.trace_core.specs.TablesSeen.{lost_in}
-use Rattle.trace_core.proofs.SlotsSeen.{lost_there}
-use Rattle.trace_core.proofs.SeenTables.{seen-lost}
+use Rattle.page_tables.specs.SlotViews.{lost_there, lost_in}
+use Rattle.page_tables.proofs.view.TablesShown.{kept-shown, few-kept}
+use Rattle.page_tables.proofs.view.ViewSides.{seen-lost}
 use Rattle.trace_core.proofs.KeptLeaves.{AreFew, loss_of, IsToldBy, KeepsLeaves, same-keeps, touched-keeps, unmapped-keeps, protected-keeps}
+use Rattle.page_tables.specs.TablesView.{views_of, snapshot_has}
 
 -- ---- the events of the parent
 
@@ -79,40 +79,24 @@ touch-keeps-leaves machine state answers address n (Ok memory) =
 
 -- ---- what page tables show
 
-abbrev some-number : List ℕ → Bool
-some-number [] = false
-some-number (number ∷ numbers) = true
-
-slot-number : (snapshot : Option SnapshotTables) (c : ℕ) → is_some (slot_in snapshot c) ≡ some-number (numbers_at snapshot c)
-slot-number None c = refl
-slot-number (Some tables) c = elim (is_some (get tables.directory c)) as (λ b. b ≡ some-number (cond b (tables.number ∷ []) [])) [ true ↦ refl | false ↦ refl ]
-
--- each cell has one snapshot at most
-few-numbers : (snapshot : Option SnapshotTables) (c : ℕ) → length (numbers_at snapshot c) ≤ 1
-few-numbers None c = omega arith
-few-numbers (Some tables) c = elim (is_some (get tables.directory c)) as (λ b. length (cond b (tables.number ∷ []) []) ≤ 1) [ true ↦ omega arith | false ↦ omega arith ]
-
-few-kept : (tables : PageTables) (sides : Sides) → TablesStandFor tables sides → AreFew sides.leaves
-few-kept tables sides stands c =
-    let same : length (map (λ (it : Kept). it.number) (cell_at sides.leaves c).kept) ≡ length (numbers_at tables.snapshot c) = ap length (stands.snapshot_of.numbers c) in
-    omega (arith, same, few-numbers tables.snapshot c, length-map (cell_at sides.leaves c).kept (λ (it : Kept). it.number))
-
 module _ (old new : PageTables) (before after : Sides) (stood : TablesStandFor old before) (stands : TablesStandFor new after)
     (deals : List Deal) (keeps : KeepsLeaves before.leaves after.leaves deals) where
   -- the snapshot has the cells that it had
-  pub slots-keep : (c : ℕ) → is_some (slot_in new.snapshot c) ≡ is_some (slot_in old.snapshot c)
+  pub slots-keep : (c : ℕ) → snapshot_has new c ≡ snapshot_has old c
   slots-keep c =
-      slot-number new.snapshot c ∙ ap some-number (sym (stands.snapshot_of.numbers c) ∙ keeps.numbers c ∙ stood.snapshot_of.numbers c) ∙ sym (slot-number old.snapshot c)
+      let many : length (cell_at after.leaves c).kept ≡ length (cell_at before.leaves c).kept =
+      sym (length-map (cell_at after.leaves c).kept (λ (it : Kept). it.number)) ∙ ap length (keeps.numbers c) ∙ length-map (cell_at before.leaves c).kept (λ (it : Kept). it.number) in
+      kept-shown new after stands c ∙ ap (λ n. not (n == 0)) many ∙ sym (kept-shown old before stood c)
 
   -- and what it has lost it had lost before, or a refusal among these deals lost it
-  pub lost-keep : (n c at : ℕ) → get (lost_in n new.slots.items) c ≡ Some at → (get (lost_in n old.slots.items) c ≡ Some at) ⊎ IsToldBy deals at
+  pub lost-keep : (n c at : ℕ) → get (lost_in n (views_of new)) c ≡ Some at → (get (lost_in n (views_of old)) c ≡ Some at) ⊎ IsToldBy deals at
   lost-keep n c at lost = elim (keeps.losses n c at (sym (seen-lost new after stands n c) ∙ lost)) [
     | inl there ↦ inl (seen-lost old before stood n c ∙ there)
     | inr told ↦ inr told
   ]
 
   -- what it had lost it still has lost
-  pub lost-stay : (n c at : ℕ) → get (lost_in n old.slots.items) c ≡ Some at → get (lost_in n new.slots.items) c ≡ Some at
+  pub lost-stay : (n c at : ℕ) → get (lost_in n (views_of old)) c ≡ Some at → get (lost_in n (views_of new)) c ≡ Some at
   lost-stay n c at lost = seen-lost new after stands n c ∙ keeps.stays (few-kept old before stood) n c at (sym (seen-lost old before stood n c) ∙ lost)
 
 -- ---- a fork

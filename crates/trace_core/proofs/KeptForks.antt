@@ -37,7 +37,7 @@ use Rattle.trace_core.specs.EventMeaning.{EventEnd, only_answers, begun, parent_
 use Rattle.trace_core.specs.KernelStanding.{KernelParts, KernelStands, EventRan, kept_number, sides_of}
 use Rattle.trace_core.specs.KernelSeen.{KernelNotes, IsSound, AreForkedFrom, parent_of, memory_of, children_of}
 use Rattle.trace_core.proofs.OneSnapshot.{live-is}
-use Rattle.trace_core.proofs.SeenTables.{seen-ready, ready-seen}
+use Rattle.page_tables.proofs.view.ViewSides.{seen-ready, ready-seen}
 use Rattle.trace_core.proofs.KernelMemories.{sound-memory}
 use Rattle.trace_core.proofs.SeenForks.{stands-parent, fork-parent, drop-parent, unforked-may, forked-lives, forked-number, forked-there}
 use Rattle.trace_core.proofs.SeenChanges.{IsWithin, AreHad, had-where, with-had, used-within, was-there, IsInBounds, deals-bounds}

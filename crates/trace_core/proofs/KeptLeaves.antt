@@ -19,7 +19,7 @@ use Rattle.page_tables.proofs.LeafMap.{cell_at-here}
 use Rattle.page_tables.proofs.GoneCell.{cell_at-gone}
 use Rattle.page_tables.proofs.DroppedLeaves.{left-apart}
 use Rattle.trace_core.specs.Answering.{AreCounted}
-use Rattle.trace_core.proofs.SlotsSeen.{lost_there}
+use Rattle.page_tables.specs.SlotViews.{lost_there}
 use Rattle.trace_core.proofs.ToldRefusals.{count-grows}
 
 -- ---- what is lost, and what deals tell

@@ -17,114 +17,18 @@ use Rattle.vm_base.specs.FlatMemory.{Area, PageMap, FlatMemory, IsFlat, AreInOrd
 use Rattle.vm_base.specs.FlatStep.{is_read_only}
 use Rattle.vm_base.specs.MemoryState.{MemoryState, IsMemory, own_of}
 use Rattle.vm_base.proofs.NumberedMaps.{get_inserted_apart}
-use Rattle.kernel_meaning.specs.Leaves.{CellLeaves, version_at, pairs_from, named_pairs, share}
-use Rattle.leaf_cell.specs.CellView.{CellView, bytes_in, parent_page}
-use Rattle.leaf_cell.proofs.PairCounts.{IsIn, to-distinct}
-use Rattle.leaf_cell.proofs.LivePairs.{all_pairs, pair-at, append-left}
-use Rattle.page_tables.specs.declared.slot.Slot.{Slot}
 use Rattle.page_tables.specs.declared.tables.PageTables.{PageTables}
 use Rattle.page_tables.specs.Sides.{Sides}
 use Rattle.page_tables.specs.Standing.{TablesStandFor}
-use Rattle.page_tables.specs.Held.{shares_in}
-use Rattle.trace_core.specs.TablesSeen.{with_some, with_cell_pages, with_owned_pages, pages_in}
 use Rattle.vm_base.proofs.OwnFrames.{member, member-keys, IsDistinct-keys, length-keys}
 use Rattle.trace_core.specs.KernelState.{Machine, KernelState}
 use Rattle.trace_core.specs.KernelStanding.{KernelParts, sides_of}
-use Rattle.trace_core.specs.KernelSeen.{KernelNotes, IsSound, IsKernelNoted, pages_of, parent_of, memory_of}
-use Rattle.trace_core.proofs.SeenTables.{seen-pages, seen-used, seen-count, seen-ready}
-
--- ---- the pages in slots are at most the shares of their cells
-
-member-front : (q : ℕ) (xs ys : List ℕ) → member q xs ≡ true → member q (xs ++ ys) ≡ true
-member-front q [] ys there = absurd (false≢true there)
-member-front q (x ∷ xs) ys there = elim (or_cases (eqb q x) (member q xs) there) [
-  | inl here ↦ or_left (eqb q x) (member q (xs ++ ys)) here
-  | inr later ↦ or_right (eqb q x) (member q (xs ++ ys)) (member-front q xs ys later)
-]
-
-member-behind : (q : ℕ) (xs ys : List ℕ) → member q ys ≡ true → member q (xs ++ ys) ≡ true
-member-behind q [] ys there = there
-member-behind q (x ∷ xs) ys there = or_right (eqb q x) (member q (xs ++ ys)) (member-behind q xs ys there)
-
--- the pages of pairs of a cell
-abbrev pages_named : ℕ → List (ℕ × ℕ) → List ℕ
-pages_named c pairs = map (λ (pair : ℕ × ℕ). c * 512 + pair.0) pairs
-
-pair-named : (c : ℕ) (x : ℕ × ℕ) (pairs : List (ℕ × ℕ)) → IsIn x pairs → member (c * 512 + x.0) (pages_named c pairs) ≡ true
-pair-named c x [] there = absurd there
-pair-named c x (y ∷ pairs) (inl here) =
-    or_left (eqb (c * 512 + x.0) (c * 512 + y.0)) (member (c * 512 + x.0) (pages_named c pairs))
-    (eq-eqb (c * 512 + x.0) (c * 512 + y.0) (ap (λ (pair : ℕ × ℕ). c * 512 + pair.0) here))
-pair-named c x (y ∷ pairs) (inr later) =
-    or_right (eqb (c * 512 + x.0) (c * 512 + y.0)) (member (c * 512 + x.0) (pages_named c pairs)) (pair-named c x pairs later)
-
--- a page that the parent has at a cell is one of those that the cell's pairs name
-page-named : (c : ℕ) (view : CellView) (p : ℕ) → IsSome (parent_page view p) → member (c * 512 + p) (pages_named c (named_pairs view.leaves)) ≡ true
-page-named c view p there = by (version_at view.leaves.parent p) refl there
-  where
-    by : (o : Option ℕ) → version_at view.leaves.parent p ≡ o → IsSome (bytes_in view.frames o) → member (c * 512 + p) (pages_named c (named_pairs view.leaves)) ≡ true
-    by None is none = absurd (false≢true none)
-    by (Some version) is some =
-        pair-named c (p, version) (named_pairs view.leaves) (to-distinct (p, version) (all_pairs view.leaves)
-        (append-left (p, version) (pairs_from 0 view.leaves.parent) _ (pair-at 0 view.leaves.parent p p version (omega arith) is)))
-
--- a page of a map with one page more
-some-or-old : (pages : PageMap) (k q : ℕ) (page : Option (List ℕ)) → IsSome (get (with_some pages k page) q) → IsSome (get pages q) ⊎ ((q ≡ k) × IsSome page)
-some-or-old pages k q None there = inl there
-some-or-old pages k q (Some bytes) there = elim (cases_eq q k) [
-  | inl here ↦ inr (here, refl)
-  | inr apart ↦ inl (ap is_some (sym (get_inserted_apart pages k bytes q apart)) ∙ there)
-]
-
-cell-or-old : (c : ℕ) (view : CellView) (n : ℕ) (pages : PageMap) (q : ℕ) → IsSome (get (with_cell_pages c view n pages) q) → IsSome (get pages q) ⊎ (member q (pages_named c (named_pairs view.leaves)) ≡ true)
-unfolding with_cell_pages
-cell-or-old c view zero pages q there = inl there
-cell-or-old c view (suc n) pages q there = elim (some-or-old (with_cell_pages c view n pages) (c * 512 + n) q (parent_page view n) there) [
-  | inl old ↦ cell-or-old c view n pages q old
-  | inr new ↦ inr (ap (λ k. member k (pages_named c (named_pairs view.leaves))) new.0 ∙ page-named c view n new.1)
-]
-
--- the pages that the pairs of an owner's cell name
-abbrev owner_named : Option ℕ → CellLeaves → List ℕ
-owner_named None cell = []
-owner_named (Some c) cell = pages_named c (named_pairs cell)
-
--- those of all slots
-abbrev slots_named : List Slot → List ℕ
-slots_named [] = []
-slots_named (slot ∷ slots) = owner_named slot.owner slot.cell.leaves ++ slots_named slots
-
-owned-or-old : (owner : Option ℕ) (view : CellView) (pages : PageMap) (q : ℕ) → IsSome (get (with_owned_pages owner view pages) q) → IsSome (get pages q) ⊎ (member q (owner_named owner view.leaves) ≡ true)
-owned-or-old None view pages q there = inl there
-owned-or-old (Some c) view pages q there = cell-or-old c view 512 pages q there
-
-all-named : (slots : List Slot) (q : ℕ) → IsSome (get (pages_in slots) q) → member q (slots_named slots) ≡ true
-all-named [] q there = absurd (false≢true (sym (ap is_some (get-empty nat_cmp q)) ∙ there))
-all-named (slot ∷ slots) q there = elim (owned-or-old slot.owner slot.cell (pages_in slots) q there) [
-  | inl old ↦ member-behind q (owner_named slot.owner slot.cell.leaves) (slots_named slots) (all-named slots q old)
-  | inr new ↦ member-front q (owner_named slot.owner slot.cell.leaves) (slots_named slots) new
-]
-
-few-owned : (owner : Option ℕ) (cell : CellLeaves) → length (owner_named owner cell) ≤ share cell
-few-owned None cell = omega arith
-few-owned (Some c) cell =
-    let same : length (pages_named c (named_pairs cell)) ≡ length (named_pairs cell) = length-map (named_pairs cell) (λ (pair : ℕ × ℕ). c * 512 + pair.0) in
-    omega (arith, same)
-
-few-named : (slots : List Slot) → length (slots_named slots) ≤ shares_in slots
-few-named [] = omega arith
-few-named (slot ∷ slots) =
-    omega (arith, length-append (owner_named slot.owner slot.cell.leaves) (slots_named slots), sum_by-cons (λ slot. share slot.cell.leaves) slot slots, few-owned slot.owner slot.cell.leaves, few-named slots)
-
-slots-held : (slots : List Slot) → len (pages_in slots) ≤ shares_in slots
-slots-held slots =
-    let shorter : length (keys (pages_in slots)) ≤ length (slots_named slots) =
-    length-le_from_is_member nat_eq_equiv (keys (pages_in slots)) (slots_named slots) (IsDistinct-keys (pages_in slots)) (λ q there. all-named slots q (sym (member-keys (pages_in slots) q) ∙ there)) in
-    omega (arith, shorter, length-keys (pages_in slots), few-named slots)
-
--- the parent has no more pages than its cells have shares
-pub pages-held : (tables : PageTables) (sides : Sides) → TablesStandFor tables sides → len sides.pages ≤ shares_in tables.slots.items
-pages-held tables sides st = subst (λ pages. len pages ≤ shares_in tables.slots.items) (seen-pages tables sides st) (slots-held tables.slots.items)
+use Rattle.trace_core.specs.KernelSeen.{KernelNotes, IsSound, IsKernelNoted, parent_of, memory_of}
+use Rattle.page_tables.specs.Held.{frames_of}
+use Rattle.page_tables.proofs.view.TablesShown.{few-cells}
+use Rattle.page_tables.proofs.view.ViewSides.{seen-pages, seen-page-used, seen-used, seen-count, seen-ready}
+use Rattle.page_tables.proofs.view.PageShares.{seen-held}
+use Rattle.page_tables.specs.TablesView.{pages_of}
 
 -- ---- a kernel that is sound
 
@@ -139,8 +43,8 @@ module _ (parts : KernelParts) (notes : KernelNotes) (machine : Machine) (state 
   -- the parent has no more pages than frames were made
   pub sound-room : parts.supply.out ≤ parts.supply.made → len state.world.parent.present ≤ machine.frames
   sound-room within =
-      let held : len state.world.parent.present ≤ shares_in parts.tables.slots.items = pages-held parts.tables (sides_of state sound.stands.pages) sound.stands.tables in
-      omega (arith, held, within, sound.stands.even, sound.stands.out, sound.stands.supply.frames)
+      let held : len state.world.parent.present ≤ frames_of parts.tables = seen-held parts.tables (sides_of state sound.stands.pages) sound.stands.tables sound.stands.even in
+      omega (arith, held, within, sound.stands.out, sound.stands.supply.frames)
 
   pub seen-parent : parent_of parts ≡ state.world.parent
   seen-parent =
@@ -156,19 +60,6 @@ module _ (parts : KernelParts) (notes : KernelNotes) (machine : Machine) (state 
     slots = sound.stands.slots;
   }
 
-  -- a cell with a present page is somebody's
-  page-owned : (page : ℕ) → IsSome (get state.world.parent.present page) → is_some (find nat_cmp (cell_of page) state.leaves) ≡ true
-  page-owned page there = elim (cases_Bool (is_some (find nat_cmp (cell_of page) state.leaves))) [
-    | inl used ↦ used
-    | inr unused ↦
-        let low : page % 512 < 512 = omega arith in
-        let whole : page / 512 * 512 + page % 512 ≡ page = omega arith in
-        let none : get state.world.parent.present page ≡ None =
-        ap (get state.world.parent.present) (sym whole) ∙ sym (sound.stands.tables.each.pages (cell_of page) (page % 512) low)
-        ∙ ap (λ account. get account.pages (page % 512)) (sound.stands.tables.blank (cell_of page) unused) ∙ get-empty nat_cmp (page % 512) in
-        absurd (false≢true (sym (ap is_some none) ∙ there))
-  ]
-
   -- a sound kernel is a memory
   pub sound-memory : parts.supply.out ≤ parts.supply.made → IsMemory (memory_of parts notes.most)
   sound-memory within =
@@ -178,8 +69,8 @@ module _ (parts : KernelParts) (notes : KernelNotes) (machine : Machine) (state 
         flat = subst IsFlat (sym seen-parent) sound.flat;
         room = subst (λ present. len present ≤ parts.supply.made) (sym pages) (subst (λ n. len state.world.parent.present ≤ n) (sym sound.stands.supply.frames) (sound-room within));
         own = subst (λ memory. own_of memory ≤ notes.most) (sym seen-parent) sound.own;
-        used = λ page there. seen-used parts.tables (sides_of state sound.stands.pages) tables (cell_of page) ∙ page-owned page (ap (λ present. is_some (get present page)) (sym pages) ∙ there);
-        slots = omega (arith, seen-count parts.tables (sides_of state sound.stands.pages) tables, tables.slots_of.counted, count_by-le-length (λ (slot : Slot). is_some slot.owner) parts.tables.slots.items);
+        used = λ page there. seen-used parts.tables (sides_of state sound.stands.pages) tables (cell_of page) ∙ seen-page-used parts.tables (sides_of state sound.stands.pages) tables page (ap (λ present. is_some (get present page)) (sym pages) ∙ there);
+        slots = omega (arith, seen-count parts.tables (sides_of state sound.stands.pages) tables, few-cells parts.tables (sides_of state sound.stands.pages) tables);
         reached = λ some. tt;
         present = λ page ready. ap (λ present. is_some (get present page)) pages ∙ (seen-ready parts.tables (sides_of state sound.stands.pages) tables parts.areas page ready).1;
         writable = λ page ready. (seen-ready parts.tables (sides_of state sound.stands.pages) tables parts.areas page ready).2;

@@ -5,7 +5,7 @@ use Rattle.std.specs.Option.{ForSome, IfSome}
 use Rattle.std.specs.Coded.{×_prop, le_prop}
 use Rattle.std.specs.Ordering.{nat_cmp}
 use Rattle.std.specs.FinMap.{get, len, len-empty}
-use Rattle.trace_core.specs.TablesSeen.{lost_in}
+use Rattle.page_tables.specs.SlotViews.{lost_in}
 use Rattle.std.specs.List.{list_any}
 use Rattle.std.proofs.lemmas.Bool.{false≢true, cases_eq, ne_eqb}
 use Rattle.std.proofs.Math.Logic.{∥∥₁_elim, ∥∥₁_map}
@@ -41,9 +41,10 @@ use Rattle.trace_core.proofs.KeptForks.{forked-count, unforked-ready, forked-kee
 use Rattle.trace_core.proofs.RunSteps.{ran-parent}
 use Rattle.trace_core.proofs.SeenChanges.{IsInBounds}
 use Rattle.trace_core.proofs.SeenForks.{sound-number, sound-children, forked-may, forked-children, forked-lives, forked-kept, full-live, full-children, unforked-children, unforked-may, dropped-children, number-held, listed-held}
-use Rattle.trace_core.proofs.SeenTables.{seen-pages}
+use Rattle.page_tables.proofs.view.ViewSides.{seen-pages}
 use Rattle.trace_core.proofs.SoundSteps.{known-noted, sound-behind}
 use Rattle.trace_core.proofs.ToldMemories.{telling, told-kept}
+use Rattle.page_tables.specs.TablesView.{views_of}
 
 -- ---- the answers of a fork
 
@@ -300,7 +301,7 @@ module _ (old new : KernelParts) (notes later : KernelNotes) (n : ℕ) (known : 
               goes_on = λ k old-one listed. subst (GoesOn (nest_of old notes k)) (λ i. nest_of (sym same i) (record notes { forked = sym forked i }) k) (goes_on-none (nest_of old notes k));
               counted = risen;
               lost = λ k old-one listed c at before there.
-                  absurd (false≢true (ap is_some (sym before ∙ ap (λ (parts : KernelParts). get (lost_in k parts.tables.slots.items) c) (sym same) ∙ there)));
+                  absurd (false≢true (ap is_some (sym before ∙ ap (λ (parts : KernelParts). get (lost_in k (views_of parts.tables)) c) (sym same) ∙ there)));
             }
 
     -- ---- the kernel behind it

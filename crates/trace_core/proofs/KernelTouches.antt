@@ -22,7 +22,7 @@ use Rattle.page_tables.specs.declared.tables.PageTables.{PageTables}
 use Rattle.trace_core.specs.TouchAnswers.{touch_outcome, IsReadyKernel, LeavesReady, LacksPage, with_stored}
 use Rattle.trace_core.proofs.ClauseProps.{state-prop, Touches-prop, TouchFails-prop, known-kept}
 use Rattle.trace_core.proofs.KernelMemories.{known-memory}
-use Rattle.trace_core.proofs.SeenTables.{seen-ready}
+use Rattle.page_tables.proofs.view.ViewSides.{seen-ready}
 use Rattle.trace_core.proofs.SeenTouches.{touches-seen, fails-seen, stored-seen}
 use Rattle.trace_core.proofs.SoundTouches.{touch-sound, touch-keeps, store-sound, store-keeps}
 

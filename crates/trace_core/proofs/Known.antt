@@ -2,13 +2,13 @@
 use Rattle.std.proofs.Common.{◌≡◌, ◌≤◌, Option, Some, None, is_some, refl, sym, ap, arith}
 use Rattle.std.proofs.lemmas.Bool.{false≢true}
 use Rattle.std.proofs.Math.Logic.{∥∥₁_map}
-use Rattle.page_tables.specs.declared.tables.SnapshotTables.{SnapshotTables}
 use Rattle.page_tables.specs.Sides.{Sides}
-use Rattle.page_tables.specs.Standing.{TablesStandFor, number_of}
+use Rattle.page_tables.specs.Standing.{TablesStandFor}
 use Rattle.page_tables.specs.Held.{frames_of}
 use Rattle.page_tables.proofs.Known.{known-number, known-option}
 use Rattle.trace_core.specs.KernelState.{Machine, KernelState}
 use Rattle.trace_core.specs.KernelStanding.{KernelParts, KernelStands, kept_number, sides_of}
+use Rattle.page_tables.specs.TablesView.{snapshot_number}
 
 module _ (parts : KernelParts) (known : ∥ ((machine : Machine) × ((state : KernelState) × KernelStands parts machine state)) ∥₁) where
   -- its tables stand for some sides
@@ -20,10 +20,5 @@ module _ (parts : KernelParts) (known : ∥ ((machine : Machine) × ((state : Ke
   known-lent = let out : parts.supply.out ≡ frames_of parts.tables = known-number known (λ it. it.1.1.out) in omega arith
 
   -- the tables and the kernel tell one number of the snapshot that lives
-  pub known-snapshot : number_of parts.tables.snapshot ≡ kept_number parts.snapshot
+  pub known-snapshot : snapshot_number parts.tables ≡ kept_number parts.snapshot
   known-snapshot = known-option known (λ it. it.1.1.number)
-
--- no snapshot where none has a number
-pub none-numbered : (snapshot : Option SnapshotTables) → number_of snapshot ≡ None → snapshot ≡ None
-none-numbered None none = refl
-none-numbered (Some tables) none = absurd (false≢true (ap is_some (sym none)))

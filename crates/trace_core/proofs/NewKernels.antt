@@ -12,10 +12,11 @@ use Rattle.std.proofs.lemmas.List.{length-map}
 use Rattle.frame_pool.specs.Policies.{PolicyView, standing}
 use Rattle.trace_core.specs.KernelState.{Machine, opening_state}
 use Rattle.trace_core.specs.KernelStanding.{KernelParts, KernelStands, sides_of}
-use Rattle.trace_core.specs.TablesSeen.{used_in, ready_in}
+use Rattle.page_tables.specs.SlotViews.{used_in, ready_in}
 use Rattle.trace_core.specs.KernelSeen.{KernelNotes, IsSound, kernel_memory, opening_memory, enough_of, parent_of}
-use Rattle.trace_core.proofs.SeenTables.{seen-used, seen-ready}
+use Rattle.page_tables.proofs.view.ViewSides.{seen-used, seen-ready}
 use Rattle.trace_core.proofs.KernelMemories.{seen-parent}
+use Rattle.page_tables.specs.TablesView.{views_of}
 
 -- no page may be stored to where none is there
 none-ready : (b : Bool) → (b ≡ true → true ≡ false) → b ≡ false
@@ -27,11 +28,11 @@ pub opening-seen : (parts : KernelParts) (notes : KernelNotes) (machine : Machin
     → kernel_memory parts notes ≡ opening_memory machine.frames machine.slots notes.enough
 opening-seen parts notes machine last sound none =
     let st : KernelStands parts machine (opening_state last) = sound.stands in
-    let used : used_in parts.tables.slots.items ≡ set.empty =
+    let used : used_in (views_of parts.tables) ≡ set.empty =
     set.same_set nat_cmp_total nat_cmp-IsAntisymmetric _ _ (λ c. seen-used parts.tables (sides_of (opening_state last) st.pages) st.tables c ∙ sym (set.contains-empty nat_cmp c)) in
-    let ready : ready_in parts.areas parts.tables.slots.items ≡ set.empty =
+    let ready : ready_in parts.areas (views_of parts.tables) ≡ set.empty =
     set.same_set nat_cmp_total nat_cmp-IsAntisymmetric _ _ (λ page.
-    none-ready (set.contains (ready_in parts.areas parts.tables.slots.items) page)
+    none-ready (set.contains (ready_in parts.areas (views_of parts.tables)) page)
     (λ is. sym (seen-ready parts.tables (sides_of (opening_state last) st.pages) st.tables parts.areas page is).1 ∙ ap is_some (get-empty nat_cmp page)) ∙ sym (set.contains-empty nat_cmp page)) in
     let parent : parent_of parts ≡ (opening_state last).world.parent = seen-parent parts notes machine (opening_state last) sound in
     λ i. record {

@@ -40,18 +40,19 @@ use Rattle.trace_core.specs.EventMeaning.{EventEnd, begun, asker_of, parent_end,
 use Rattle.trace_core.specs.RunMeaning.{event_requests}
 use Rattle.trace_core.specs.KernelStanding.{KernelParts, KernelStands, EventRan, sides_of}
 use Rattle.trace_core.specs.KernelRun.{Ran, EventFollows}
-use Rattle.trace_core.specs.KernelSeen.{KernelNotes, IsSound, IsKernelNoted, NotesHold, HasReached, IsNoted, pages_of, most_touched, most_answered, most_behind, enough_behind}
+use Rattle.trace_core.specs.KernelSeen.{KernelNotes, IsSound, IsKernelNoted, NotesHold, HasReached, IsNoted, most_touched, most_answered, most_behind, enough_behind}
 use Rattle.trace_core.proofs.AnswerLemmas.{no_request_has_led}
 use Rattle.trace_core.proofs.AreaCalls.{HasMapped, HasUnmapped, HasProtected}
 use Rattle.trace_core.proofs.Copies.{no-deals}
 use Rattle.trace_core.proofs.EventCounts.{counted-touch, parent_counts, copy_counts}
 use Rattle.trace_core.proofs.RunSteps.{only-eager}
 use Rattle.trace_core.proofs.SeenForks.{none-lives, full-is}
-use Rattle.trace_core.proofs.SeenTables.{seen-pages}
+use Rattle.page_tables.proofs.view.ViewSides.{seen-pages}
 use Rattle.trace_core.proofs.SoundTouches.{le-max}
-use Rattle.trace_core.proofs.SpentDeals.{AreSpent, spent-at, spent-given}
+use Rattle.page_tables.proofs.enough.Deals.{AreSpent, spent-at, spent-given}
 use Rattle.trace_core.proofs.SpentSupplies.{plain-spent}
 use Rattle.trace_core.proofs.ReachedFrames.{denial-or-none, AreOutAt, answered-out, touch-bound, fork-bound}
+use Rattle.page_tables.specs.TablesView.{pages_of}
 
 -- ---- events that are never denied a frame
 

@@ -19,22 +19,22 @@ use Rattle.kernel_meaning.specs.Requests.{Answer}
 use Rattle.kernel_meaning.specs.FrameLaw.{held_frames}
 use Rattle.kernel_meaning.specs.EventRequests.{pages_touched, snapshot_forked}
 use Rattle.kernel_meaning.specs.RefusedRequests.{Request, requests_of, out_after, count_after, is_by_policy}
-use Rattle.page_tables.specs.declared.tables.SnapshotTables.{SnapshotTables}
+use Rattle.page_tables.specs.TablesView.{pages_of, LacksSnapshot}
+use Rattle.page_tables.proofs.view.TablesShown.{number-lacks}
 use Rattle.page_tables.specs.Sides.{Sides}
-use Rattle.page_tables.specs.Standing.{number_of}
 use Rattle.trace_core.specs.declared.parts.SnapshotAreas.{SnapshotAreas}
 use Rattle.trace_core.specs.SupplyState.{is_next, pending_behind}
 use Rattle.trace_core.specs.Answering.{pending_of}
 use Rattle.trace_core.specs.KernelState.{Machine, KernelState}
 use Rattle.trace_core.specs.EventMeaning.{begun}
 use Rattle.trace_core.specs.KernelStanding.{KernelParts, kept_memories, kept_number, sides_of}
-use Rattle.trace_core.specs.KernelSeen.{KernelNotes, IsSound, NotesHold, pages_of, kept_in}
+use Rattle.trace_core.specs.KernelSeen.{KernelNotes, IsSound, NotesHold, kept_in}
 use Rattle.trace_core.proofs.AnswerLemmas.{next_named, pending_of-more, request_of}
-use Rattle.trace_core.proofs.SpentPairs.{kept_frames}
-use Rattle.trace_core.proofs.SpentTouches.{touch-refused}
+use Rattle.page_tables.proofs.enough.Pairs.{kept_frames}
+use Rattle.page_tables.proofs.enough.TouchRequests.{touch-refused}
 use Rattle.trace_core.proofs.SpentSupplies.{HasDenial, later-denial}
-use Rattle.trace_core.proofs.KeptFrames.{none-kept}
-use Rattle.trace_core.proofs.WholeCells.{whole-versions, whole-kept, whole-fork-denied}
+use Rattle.page_tables.proofs.enough.SnapshotFrames.{none-kept}
+use Rattle.page_tables.proofs.enough.WholeCells.{whole-versions, whole-kept, whole-fork-denied}
 
 -- ---- deals with a denial
 
@@ -83,17 +83,12 @@ answered-out frames asker named made out deals unnamed none front want at back s
 
 -- ---- a sound kernel
 
--- a snapshot without a number is none
-unnumbered : (snapshot : Option SnapshotTables) → number_of snapshot ≡ None → snapshot ≡ None
-unnumbered None none = refl
-unnumbered (Some tables) none = absurd (false≢true (sym (ap is_some none)))
-
 module _ (parts : KernelParts) (notes : KernelNotes) (machine : Machine) (state : KernelState) (sound : IsSound parts notes machine state) (holds : NotesHold parts notes) where
   abbrev sides : Sides
   sides = sides_of state sound.stands.pages
 
-  unkept : parts.snapshot ≡ None → parts.tables.snapshot ≡ None
-  unkept none = unnumbered parts.tables.snapshot (sound.stands.number ∙ ap kept_number none)
+  unkept : parts.snapshot ≡ None → LacksSnapshot parts.tables
+  unkept none = number-lacks parts.tables (sound.stands.number ∙ ap kept_number none)
 
   -- the snapshot that lives takes no more frames beside the parent than are noted
   pub kept-bound : kept_frames state.leaves ≤ notes.most

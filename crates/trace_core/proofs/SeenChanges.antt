@@ -38,16 +38,17 @@ use Rattle.trace_core.specs.SupplyState.{SupplyState, SupplyGoes}
 use Rattle.trace_core.specs.EventMeaning.{EventEnd, areas_changed, mapped, begun, refusal_outcome, event_end}
 use Rattle.trace_core.specs.TouchAnswers.{fault_outcome}
 use Rattle.trace_core.specs.KernelStanding.{KernelParts, KernelStands, EventRan, sides_of}
-use Rattle.trace_core.specs.KernelSeen.{KernelNotes, IsSound, AreForkedFrom, pages_of, parent_of, memory_of, most_behind}
-use Rattle.trace_core.specs.TablesSeen.{pages_in, used_in, is_alone_in, ready_in}
+use Rattle.trace_core.specs.KernelSeen.{KernelNotes, IsSound, AreForkedFrom, parent_of, memory_of, most_behind}
+use Rattle.page_tables.specs.SlotViews.{pages_in, used_in, is_alone_in, ready_in}
 use Rattle.page_tables.specs.Standing.{slot_count}
 use Rattle.page_tables.proofs.FirstCell.{find-head, find-tail}
 use Rattle.page_tables.proofs.LeafMap.{find-apart}
 use Rattle.page_tables.proofs.GoneCell.{find-stays}
-use Rattle.trace_core.proofs.SlotsSeen.{ready-is}
-use Rattle.trace_core.proofs.SeenTables.{seen-pages, seen-used}
+use Rattle.page_tables.proofs.view.ViewReads.{ready-is}
+use Rattle.page_tables.proofs.view.ViewSides.{seen-pages, seen-used}
 use Rattle.trace_core.proofs.KernelMemories.{sound-memory}
 use Rattle.trace_core.proofs.SoundEvents.{event-flat, event-own, event-kept}
+use Rattle.page_tables.specs.TablesView.{views_of, pages_of}
 
 -- ---- what a change of areas answers
 
@@ -344,28 +345,28 @@ module _ (old new : KernelParts) (notes : KernelNotes) (machine : Machine) (stat
   seen-flat = subst IsFlat (sym (stands-parent old machine state sound.stands)) sound.flat
 
   ready-kept : (first n : ℕ) (perm : Perm) → 0 < n → map_of (parent_of old) first n perm ≡ Ok (parent_of new)
-      → ready_in new.areas old.tables.slots.items ≡ ready_in old.areas old.tables.slots.items
+      → ready_in new.areas (views_of old.tables) ≡ ready_in old.areas (views_of old.tables)
   ready-kept first n perm some is =
-      set.same_set nat_cmp_total nat_cmp-IsAntisymmetric (ready_in new.areas old.tables.slots.items) (ready_in old.areas old.tables.slots.items) (λ page.
-      ready-is new.areas old.tables.slots.items page
-      ∙ alike (is_alone_in old.tables.slots.items page) (is_read_only (area_of new.areas page)) (is_read_only (area_of old.areas page)) (is_some (get (pages_in old.tables.slots.items) page))
+      set.same_set nat_cmp_total nat_cmp-IsAntisymmetric (ready_in new.areas (views_of old.tables)) (ready_in old.areas (views_of old.tables)) (λ page.
+      ready-is new.areas (views_of old.tables) page
+      ∙ alike (is_alone_in (views_of old.tables) page) (is_read_only (area_of new.areas page)) (is_read_only (area_of old.areas page)) (is_some (get (pages_in (views_of old.tables)) page))
       (λ there. map-keeps (parent_of old) (parent_of new) first n perm seen-flat some is page (seen-flat.in_areas page there))
-      ∙ sym (ready-is old.areas old.tables.slots.items page))
+      ∙ sym (ready-is old.areas (views_of old.tables) page))
 
   -- where it was done and changed no more than the areas, the memory is the one of the answer, and all else is as it was
   pub map-maps : (most first n : ℕ) (perm : Perm) → 0 < n → EventRan old new machine (λ answers. mapped state answers first n perm) Done → new ≡ record old { areas = new.areas }
       → Maps (memory_of old most) (memory_of new most) (map_answer (memory_of old most) first n perm)
   map-maps most first n perm some ran same =
       let answer : map_answer (memory_of old most) first n perm ≡ Ok (parent_of new) = map-done old new machine state sound.stands most most first n perm ran in
-      let ready : ready_in new.areas new.tables.slots.items ≡ ready_in old.areas old.tables.slots.items =
-      ap (λ parts. ready_in new.areas parts.tables.slots.items) same ∙ ready-kept first n perm some (unfaulted (map_of (parent_of old) first n perm) (parent_of new) answer) in (
+      let ready : ready_in new.areas (views_of new.tables) ≡ ready_in old.areas (views_of old.tables) =
+      ap (λ parts. ready_in new.areas (views_of parts.tables)) same ∙ ready-kept first n perm some (unfaulted (map_of (parent_of old) first n perm) (parent_of new) answer) in (
         answer,
         λ i. record {
           mem = parent_of new;
           refused = (same i).supply.refused;
           room = (same i).supply.made;
           slots = slot_count (same i).tables;
-          used = used_in (same i).tables.slots.items;
+          used = used_in (views_of (same i).tables);
           ready = ready i;
           most = most;
           enough = None;

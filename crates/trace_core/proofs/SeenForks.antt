@@ -24,10 +24,11 @@ use Rattle.trace_core.specs.declared.parts.SnapshotAreas.{SnapshotAreas}
 use Rattle.trace_core.specs.KernelState.{Machine, KernelState}
 use Rattle.trace_core.specs.EventMeaning.{only_answers, begun, parent_end, fork_answered, fork_end, is_live, drop_end}
 use Rattle.trace_core.specs.KernelStanding.{KernelParts, KernelStands, EventRan, kept_memories, kept_number, sides_of}
-use Rattle.trace_core.specs.KernelSeen.{KernelNotes, IsSound, pages_of, parent_of, live_numbers, children_of, kept_memory}
+use Rattle.trace_core.specs.KernelSeen.{KernelNotes, IsSound, parent_of, live_numbers, children_of, kept_memory}
 use Rattle.trace_core.proofs.OneSnapshot.{live-is, lives-len, none-left}
-use Rattle.trace_core.proofs.SeenTables.{seen-pages}
+use Rattle.page_tables.proofs.view.ViewSides.{seen-pages}
 use Rattle.trace_core.proofs.SoundEvents.{event-parent}
+use Rattle.page_tables.specs.TablesView.{pages_of}
 
 -- ---- the snapshot that lives
 

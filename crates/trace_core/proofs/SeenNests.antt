@@ -1,6 +1,6 @@
 -- The kernel as the nest of its snapshot: a read of the snapshot answers by the memory at its fork and the cells that it has lost.
 use Rattle.std.proofs.Common.{◌≡◌, ℕ, Bool, true, false, cond, eqb, List, [], ◌∷◌, map, Option, Some, None, Result, Ok, Err, refl, sym, ◌∙◌, ap, subst, arith}
-use Rattle.std.specs.Prelude.{◌==◌, if◌then◌else◌, is_some, IsSome, IsTrue, ◌<◌}
+use Rattle.std.specs.Prelude.{length, not, ◌==◌, if◌then◌else◌, is_some, IsSome, IsTrue, ◌<◌}
 use Rattle.std.specs.Ordering.{nat_cmp}
 use Rattle.std.specs.Cmp.{nat_cmp_total}
 use Rattle.std.specs.Coded.{Coded-set, code_by, coded×, coded_ℕ, coded_list, coded_result}
@@ -20,10 +20,10 @@ use Rattle.vm_base.specs.SnapshotState.{SnapshotState, KeepsSnapshot, IsFoundSin
 use Rattle.kernel_meaning.specs.Leaves.{Kept, kept_by, holds_number}
 use Rattle.kernel_meaning.specs.FrameLaw.{cell_at, losses_of}
 use Rattle.page_tables.specs.declared.loss.LostCell.{LostCell}
-use Rattle.page_tables.specs.declared.tables.SnapshotTables.{SnapshotTables}
 use Rattle.page_tables.specs.Accesses.{IsLowestLoss}
 use Rattle.page_tables.specs.Sides.{Sides}
-use Rattle.page_tables.specs.Standing.{TablesStandFor, numbers_at, slot_in}
+use Rattle.page_tables.specs.Standing.{TablesStandFor}
+use Rattle.page_tables.proofs.view.TablesShown.{kept-shown, some-length}
 use Rattle.page_tables.proofs.SnapshotPages.{loss-there}
 use Rattle.trace_core.specs.declared.parts.SnapshotAreas.{SnapshotAreas}
 use Rattle.trace_core.specs.declared.snapshots.SnapshotFault.{SnapshotFault}
@@ -33,16 +33,17 @@ use Rattle.trace_core.specs.KernelStanding.{KernelParts, KernelStands, kept_numb
 use Rattle.trace_core.specs.WentOn.{goes_on-none}
 use Rattle.trace_core.specs.KernelSeen.{KernelNotes, IsSound, IsKernelNoted, NotesHold, kept_memory, kept_in, nest_of}
 use Rattle.trace_core.specs.SnapshotAnswers.{snap_read_answer}
-use Rattle.trace_core.specs.TablesSeen.{lost_in}
+use Rattle.page_tables.specs.SlotViews.{lost_in}
 use Rattle.trace_core.proofs.ClauseProps.{option-prop, test-prop}
-use Rattle.trace_core.proofs.SeenTables.{seen-lost, lost-seen}
+use Rattle.page_tables.proofs.view.ViewSides.{seen-lost, lost-seen}
 use Rattle.trace_core.proofs.SeenForks.{sound-kept}
+use Rattle.page_tables.specs.TablesView.{views_of, snapshot_has}
 
 -- the snapshot that lives, with the memory at its fork and the cells that it has lost
 abbrev nest_kept : KernelParts → KernelNotes → SnapshotAreas → SnapshotState
 nest_kept parts notes kept = record {
   mem = kept_memory kept notes.forked;
-  found = lost_in kept.number parts.tables.slots.items;
+  found = lost_in kept.number (views_of parts.tables);
   refused = kept.refused;
   todo = 0;
   passed = true;
@@ -78,7 +79,7 @@ some-answer {one = one} same = ap (λ o. elim o [ None ↦ one | Some answer ↦
 
 module _ (parts : KernelParts) (notes : KernelNotes) (machine : Machine) (state : KernelState) (sound : IsSound parts notes machine state) (kept : SnapshotAreas) (lives : parts.snapshot ≡ Some kept) where
   -- the first lost cell is the first that was found lost
-  pub first-lost : (cells : List ℕ) → first_loss (losses_of state.leaves) kept.number cells ≡ first_found (lost_in kept.number parts.tables.slots.items) cells
+  pub first-lost : (cells : List ℕ) → first_loss (losses_of state.leaves) kept.number cells ≡ first_found (lost_in kept.number (views_of parts.tables)) cells
   first-lost [] = refl
   first-lost (cell ∷ cells) =
       let here = loss-there parts.tables (sides_of state sound.stands.pages) sound.stands.tables cell kept.number
@@ -94,7 +95,7 @@ module _ (parts : KernelParts) (notes : KernelNotes) (machine : Machine) (state 
       ap (λ o. kept_read_of o state.world.losses kept.number addr len) (sound-kept parts notes machine state sound kept lives)
       ∙ ap (λ losses. or_snap_refused OutsideSnapshot out (or_snap_refused CellLost (first_loss losses kept.number (cells_of_range addr len)) (Ok bytes))) sound.stands.losses
       ∙ ap (λ lost. or_snap_refused OutsideSnapshot out (or_snap_refused CellLost lost (Ok bytes))) (first-lost (cells_of_range addr len))
-      ∙ same-told out (first_found (lost_in kept.number parts.tables.slots.items) (cells_of_range addr len)) bytes
+      ∙ same-told out (first_found (lost_in kept.number (views_of parts.tables)) (cells_of_range addr len)) bytes
 
   module _ (number addr len : ℕ) (result : Result (Unit {0}) SnapshotFault) (buf : List ℕ) (same : kept.number ≡ number) (read : snap_read_of state.world number addr len ≡ snap_read_answer result buf) where
     answer-is : Some (snapshot_answer (nest_kept parts notes kept) addr len) ≡ untold (snap_read_answer result buf)
@@ -156,7 +157,7 @@ module _ (parts : KernelParts) (notes : KernelNotes) (number : ℕ) (known : ∥
   told-alike : (addr len : ℕ) (its : Lives parts number) → snapshot_answer (nest_of parts notes number) addr len ≡ snapshot_answer (nest_kept parts notes its.kept) addr len
   told-alike addr len its = λ i. snapshot_answer (record {
     mem = kept_in (its.lives i) notes.forked;
-    found = lost_in (sym its.same i) parts.tables.slots.items;
+    found = lost_in (sym its.same i) (views_of parts.tables);
     refused = 0;
     todo = 0;
     passed = true;
@@ -191,34 +192,23 @@ module _ (parts : KernelParts) (notes : KernelNotes) (number : ℕ) (known : ∥
 
 -- ---- what the nest keeps
 
-abbrev some-number : List ℕ → Bool
-some-number [] = false
-some-number (number ∷ numbers) = true
-
 -- a cell that a snapshot has lost is one of its directory
-kept-number : (kept : List Kept) (n : ℕ) (it : Kept) → kept_by kept n ≡ Some it → some-number (map (λ it. it.number) kept) ≡ true
-kept-number [] n it found = absurd (false≢true (ap is_some found))
-kept-number (other ∷ kept) n it found = refl
+some-kept : (kept : List Kept) (n : ℕ) (it : Kept) → kept_by kept n ≡ Some it → not (length kept == 0) ≡ true
+some-kept [] n it found = absurd (false≢true (ap is_some found))
+some-kept (other ∷ kept) n it found = some-length other kept
 
 slot-of-lost : (parts : KernelParts) (machine : Machine) (state : KernelState) (stands : KernelStands parts machine state) (n c at : ℕ)
-    → get (lost_in n parts.tables.slots.items) c ≡ Some at → IsSome (slot_in parts.tables.snapshot c)
+    → get (lost_in n (views_of parts.tables)) c ≡ Some at → IsTrue (snapshot_has parts.tables c)
 slot-of-lost parts machine state stands n c at lost =
     let there = lost-seen parts.tables (sides_of state stands.pages) stands.tables n c at lost in
-    numbered parts.tables.snapshot (sym (ap some-number (stands.tables.snapshot_of.numbers c)) ∙ kept-number (cell_at state.leaves c).kept n there.0 there.1.0)
-  where
-    numbered : (snapshot : Option SnapshotTables) → some-number (numbers_at snapshot c) ≡ true → IsSome (slot_in snapshot c)
-    numbered None none = absurd (false≢true none)
-    numbered (Some tables) some = elim (is_some (get tables.directory c)) as (λ b. some-number (cond b (tables.number ∷ []) []) ≡ true → b ≡ true) [
-      | true ↦ λ e. refl
-      | false ↦ λ e. absurd (false≢true e)
-    ] some
+    kept-shown parts.tables (sides_of state stands.pages) stands.tables c ∙ some-kept (cell_at state.leaves c).kept n there.0 there.1.0
 
 module _ (parts : KernelParts) (notes : KernelNotes) (number : ℕ) (known : ∥ IsKernelNoted parts notes ∥₁) (holds : NotesHold parts notes) where
   -- a call that changes nothing keeps the snapshot
   pub nest-keeps : KeepsSnapshot (nest_of parts notes number) (nest_of parts notes number)
   nest-keeps = record {
     goes_on = goes_on-none (nest_of parts notes number);
-    cells = λ c at e. holds.cells c (∥∥₁_elim known (test-prop (is_some (slot_in parts.tables.snapshot c)) true) (λ it. slot-of-lost parts it.0 it.1.0 it.1.1.stands number c at e));
+    cells = λ c at e. holds.cells c (∥∥₁_elim known (test-prop (snapshot_has parts.tables c) true) (λ it. slot-of-lost parts it.0 it.1.0 it.1.1.stands number c at e));
     unskipped = λ whole. whole;
   }
 
@@ -229,19 +219,19 @@ module _ (parts : KernelParts) (notes : KernelNotes) (number : ℕ) (known : ∥
 module _ (parts : KernelParts) (notes : KernelNotes) (number : ℕ) (known : ∥ IsKernelNoted parts notes ∥₁) (result : Option LostCell)
     (lowest : (sides : Sides) → TablesStandFor parts.tables sides → IsLowestLoss sides.leaves number result) where
   -- the cell that is told is lost
-  pub copy-lost : (lost : LostCell) → result ≡ Some lost → get (lost_in number parts.tables.slots.items) lost.cell ≡ Some lost.at
+  pub copy-lost : (lost : LostCell) → result ≡ Some lost → get (lost_in number (views_of parts.tables)) lost.cell ≡ Some lost.at
   copy-lost lost is = ∥∥₁_elim known (option-prop _ _) (λ it.
       let sides : Sides = sides_of it.1.0 it.1.1.stands.pages in
       seen-lost parts.tables sides it.1.1.stands.tables number lost.cell ∙ (subst (IsLowestLoss sides.leaves number) is (lowest sides it.1.1.stands.tables)).0)
 
   -- and no lower one is
-  pub copy-lowest : (lost : LostCell) → result ≡ Some lost → (other : ℕ) → other < lost.cell → get (lost_in number parts.tables.slots.items) other ≡ None
+  pub copy-lowest : (lost : LostCell) → result ≡ Some lost → (other : ℕ) → other < lost.cell → get (lost_in number (views_of parts.tables)) other ≡ None
   copy-lowest lost is other below = ∥∥₁_elim known (option-prop _ _) (λ it.
       let sides : Sides = sides_of it.1.0 it.1.1.stands.pages in
       seen-lost parts.tables sides it.1.1.stands.tables number other ∙ (subst (IsLowestLoss sides.leaves number) is (lowest sides it.1.1.stands.tables)).1 other below)
 
   -- where none is told, none is
-  pub copy-none : result ≡ None → lost_in number parts.tables.slots.items ≡ empty
+  pub copy-none : result ≡ None → lost_in number (views_of parts.tables) ≡ empty
   copy-none is = same_map nat_cmp_total nat_cmp-IsAntisymmetric _ _ (λ c. ∥∥₁_elim known (option-prop _ _) (λ it.
       let sides : Sides = sides_of it.1.0 it.1.1.stands.pages in
       seen-lost parts.tables sides it.1.1.stands.tables number c ∙ subst (IsLowestLoss sides.leaves number) is (lowest sides it.1.1.stands.tables) c) ∙ sym (get-empty nat_cmp c))

@@ -31,17 +31,18 @@ use Rattle.trace_core.specs.SupplyState.{SupplyGoes}
 use Rattle.trace_core.specs.KernelState.{Machine, KernelState}
 use Rattle.trace_core.specs.EventMeaning.{EventEnd, begun, only_answers, touch_answered, touch_judged}
 use Rattle.trace_core.specs.KernelStanding.{KernelParts, KernelStands, EventRan, sides_of}
-use Rattle.trace_core.specs.KernelSeen.{KernelNotes, IsSound, pages_of, parent_of, memory_of, most_touched, most_answered}
-use Rattle.trace_core.specs.TablesSeen.{used_in, ready_in}
+use Rattle.trace_core.specs.KernelSeen.{KernelNotes, IsSound, parent_of, memory_of, most_touched, most_answered}
+use Rattle.page_tables.specs.SlotViews.{used_in, ready_in}
 use Rattle.trace_core.specs.TouchAnswers.{fault_outcome, touch_outcome, LeavesReady, LacksPage, with_stored}
-use Rattle.trace_core.proofs.SeenTables.{seen-pages, seen-used, seen-count, seen-ready, ready-seen}
+use Rattle.page_tables.proofs.view.ViewSides.{seen-pages, seen-used, seen-count, seen-ready, ready-seen}
 use Rattle.vm_base.proofs.OwnFrames.{kept-with_pages}
 use Rattle.vm_base.proofs.FlatLaws.{keys-with_bytes}
 use Rattle.vm_base.proofs.FlatAreas.{listed-page}
 use Rattle.area_list.proofs.FlatSteps.{present-touched}
 use Rattle.trace_core.proofs.AnswerLemmas.{deals_lead_on, no_request_has_led}
-use Rattle.trace_core.proofs.TouchedCells.{HasSlot, had-pages}
+use Rattle.page_tables.proofs.view.TouchCells.{HasSlot, had-pages}
 use Rattle.trace_core.proofs.ToldRefusals.{last_told, Told, told-count, touched-told}
+use Rattle.page_tables.specs.TablesView.{views_of, pages_of}
 
 -- ---- what is seen is what the definitions judge by
 
@@ -160,8 +161,8 @@ module _ (old new : KernelParts) (machine : Machine) (state : KernelState) (st :
   areas-alike : new.areas ≡ old.areas
   areas-alike = sym now.areas ∙ st.areas
 
-  ready-alike : (page : ℕ) → set.contains (ready_in new.areas new.tables.slots.items) page ≡ set.contains (ready_in old.areas old.tables.slots.items) page
-  ready-alike page = same-tests (set.contains (ready_in new.areas new.tables.slots.items) page) (set.contains (ready_in old.areas old.tables.slots.items) page)
+  ready-alike : (page : ℕ) → set.contains (ready_in new.areas (views_of new.tables)) page ≡ set.contains (ready_in old.areas (views_of old.tables)) page
+  ready-alike page = same-tests (set.contains (ready_in new.areas (views_of new.tables)) page) (set.contains (ready_in old.areas (views_of old.tables)) page)
       (λ there. let its = seen-ready new.tables (sides_of state now.pages) now.tables new.areas page there in
       ready-seen old.tables (sides_of state st.pages) st.tables old.areas page its.0 its.1 (ap (λ areas. is_read_only (area_of areas page)) (sym areas-alike) ∙ its.2))
       (λ there. let its = seen-ready old.tables (sides_of state st.pages) st.tables old.areas page there in
@@ -171,9 +172,9 @@ module _ (old new : KernelParts) (machine : Machine) (state : KernelState) (st :
   same-seen most supply =
       let mem : parent_of new ≡ parent_of old = stands-parent new machine state now ∙ sym (stands-parent old machine state st) in
       let slots : slot_count new.tables ≡ slot_count old.tables = now.slots ∙ sym st.slots in
-      let used : used_in new.tables.slots.items ≡ used_in old.tables.slots.items =
+      let used : used_in (views_of new.tables) ≡ used_in (views_of old.tables) =
       set.same_set nat_cmp_total nat_cmp-IsAntisymmetric _ _ (λ c. seen-used new.tables (sides_of state now.pages) now.tables c ∙ sym (seen-used old.tables (sides_of state st.pages) st.tables c)) in
-      let ready : ready_in new.areas new.tables.slots.items ≡ ready_in old.areas old.tables.slots.items = set.same_set nat_cmp_total nat_cmp-IsAntisymmetric _ _ ready-alike in
+      let ready : ready_in new.areas (views_of new.tables) ≡ ready_in old.areas (views_of old.tables) = set.same_set nat_cmp_total nat_cmp-IsAntisymmetric _ _ ready-alike in
       λ i. record {
         mem = mem i;
         refused = (supply i).refused;
@@ -402,8 +403,8 @@ module _ (old : KernelParts) (machine : Machine) (state : KernelState) (st : Ker
     present-stored : (page : ℕ) → is_some (get behind.pages page) ≡ is_some (get before.pages page)
     present-stored = keys-with_bytes state.world.parent.present addr bytes (λ page low high. (seen-ready old.tables before st.tables old.areas page (ready page (low, high))).1)
 
-    ready-stored : (page : ℕ) → set.contains (ready_in old.areas tables.slots.items) page ≡ set.contains (ready_in old.areas old.tables.slots.items) page
-    ready-stored page = same-tests (set.contains (ready_in old.areas tables.slots.items) page) (set.contains (ready_in old.areas old.tables.slots.items) page)
+    ready-stored : (page : ℕ) → set.contains (ready_in old.areas (views_of tables)) page ≡ set.contains (ready_in old.areas (views_of old.tables)) page
+    ready-stored page = same-tests (set.contains (ready_in old.areas (views_of tables)) page) (set.contains (ready_in old.areas (views_of old.tables)) page)
         (λ there. let its = seen-ready tables behind now.tables old.areas page there in
         ready-seen old.tables before st.tables old.areas page its.0 (sym (present-stored page) ∙ its.1) its.2)
         (λ there. let its = seen-ready old.tables before st.tables old.areas page there in
@@ -414,9 +415,9 @@ module _ (old : KernelParts) (machine : Machine) (state : KernelState) (st : Ker
         let present : pages_of tables ≡ with_bytes (pages_of old.tables) addr bytes =
         seen-pages tables behind now.tables ∙ ap (λ pages. with_bytes pages addr bytes) (sym (seen-pages old.tables before st.tables)) in
         let slots : slot_count tables ≡ slot_count old.tables = now.slots ∙ sym st.slots in
-        let used : used_in tables.slots.items ≡ used_in old.tables.slots.items =
+        let used : used_in (views_of tables) ≡ used_in (views_of old.tables) =
         set.same_set nat_cmp_total nat_cmp-IsAntisymmetric _ _ (λ c. seen-used tables behind now.tables c ∙ sym (seen-used old.tables before st.tables c)) in
-        let ready : ready_in old.areas tables.slots.items ≡ ready_in old.areas old.tables.slots.items = set.same_set nat_cmp_total nat_cmp-IsAntisymmetric _ _ ready-stored in
+        let ready : ready_in old.areas (views_of tables) ≡ ready_in old.areas (views_of old.tables) = set.same_set nat_cmp_total nat_cmp-IsAntisymmetric _ _ ready-stored in
         λ i. record {
           mem = record { areas = old.areas; present = present i };
           refused = old.supply.refused;

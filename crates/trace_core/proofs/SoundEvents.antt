@@ -23,10 +23,11 @@ use Rattle.page_tables.specs.declared.tables.PageTables.{PageTables}
 use Rattle.trace_core.specs.KernelState.{Machine, KernelState, opening_state}
 use Rattle.trace_core.specs.EventMeaning.{EventEnd, begun, areas_changed, touch_answered, touch_judged, fork_answered, is_live, event_end}
 use Rattle.trace_core.specs.KernelStanding.{KernelParts, KernelStands}
-use Rattle.trace_core.specs.KernelSeen.{IsSound, KernelNotes, pages_of, most_touched, most_answered, most_behind}
+use Rattle.trace_core.specs.KernelSeen.{IsSound, KernelNotes, most_touched, most_answered, most_behind}
 use Rattle.vm_base.proofs.FlatLaws.{keys-with_bytes, get-unmapped}
 use Rattle.area_list.proofs.FlatSteps.{opening-flat, map-flat, unmap-flat, protect-flat, write-flat, touched_is, stored_is, present-touched}
 use Rattle.vm_base.proofs.OwnFrames.{own-fewer, own-alike, own-empty}
+use Rattle.page_tables.specs.TablesView.{pages_of}
 
 -- the value of an answer
 abbrev value_or : {X E : Type 0} → X → Result X E → X

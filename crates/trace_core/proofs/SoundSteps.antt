@@ -25,11 +25,12 @@ use Rattle.trace_core.specs.KernelState.{Machine, KernelState}
 use Rattle.trace_core.specs.EventMeaning.{EventEnd, begun, fork_answered, event_end}
 use Rattle.trace_core.specs.KernelStanding.{KernelParts, IsKernel, kept_memories, sides_of}
 use Rattle.trace_core.specs.KernelRun.{Ran, EventFollows}
-use Rattle.trace_core.specs.KernelSeen.{KernelNotes, IsSound, IsKernelNoted, pages_of, AreForkedFrom, most_behind, is_new_fork, IsNoted}
+use Rattle.trace_core.specs.KernelSeen.{KernelNotes, IsSound, IsKernelNoted, AreForkedFrom, most_behind, is_new_fork, IsNoted}
 use Rattle.frame_pool.specs.Policies.{PolicyView}
 use Rattle.trace_core.proofs.OneSnapshot.{lives-len}
 use Rattle.trace_core.proofs.Stood.{under, stands-under}
 use Rattle.trace_core.proofs.SoundEvents.{event-flat, event-own, event-kept}
+use Rattle.page_tables.specs.TablesView.{pages_of}
 
 -- no memory of a snapshot is there where none lives
 none-there : (snapshot : Option SnapshotAreas) (pages : FinMap nat_cmp PageMap) (memories : FinMap nat_cmp FlatMemory) → kept_memories snapshot pages memories

@@ -17,15 +17,16 @@ use Rattle.trace_core.specs.Answering.{LeadOn}
 use Rattle.trace_core.specs.KernelState.{Machine, KernelState}
 use Rattle.trace_core.specs.EventMeaning.{EventEnd, begun, only_answers, touch_answered, touch_judged}
 use Rattle.trace_core.specs.KernelStanding.{KernelParts, KernelStands, EventRan, sides_of}
-use Rattle.trace_core.specs.KernelSeen.{KernelNotes, IsSound, pages_of, memory_of, AreForkedFrom, most_touched, most_answered}
+use Rattle.trace_core.specs.KernelSeen.{KernelNotes, IsSound, memory_of, AreForkedFrom, most_touched, most_answered}
 use Rattle.trace_core.specs.TouchAnswers.{with_stored}
-use Rattle.trace_core.proofs.SeenTables.{seen-pages, seen-ready}
+use Rattle.page_tables.proofs.view.ViewSides.{seen-pages, seen-ready}
 use Rattle.vm_base.proofs.FlatLaws.{keys-with_bytes}
 use Rattle.area_list.proofs.FlatSteps.{touched_is, touch-flat, stored-flat}
 use Rattle.vm_base.proofs.OwnFrames.{own-alike}
 use Rattle.trace_core.proofs.AnswerLemmas.{deals_lead_on, no_request_has_led}
 use Rattle.trace_core.proofs.ToldRefusals.{count-grows}
 use Rattle.trace_core.proofs.SeenTouches.{used-seen, stored-seen}
+use Rattle.page_tables.specs.TablesView.{pages_of}
 
 -- ---- a sound kernel
 

@@ -12,7 +12,8 @@ use Rattle.kernel_meaning.specs.Requests.{Answer, answers_of}
 use Rattle.kernel_meaning.specs.FrameLaw.{lacks_slots}
 use Rattle.kernel_meaning.specs.EventRequests.{Progress, FrameRefusal, pages_touched}
 use Rattle.page_tables.specs.declared.tables.PageTables.{PageTables}
-use Rattle.page_tables.specs.Standing.{TablesStandFor, number_of, slot_count}
+use Rattle.page_tables.specs.Standing.{TablesStandFor, slot_count}
+use Rattle.page_tables.proofs.view.TablesShown.{same-number}
 use Rattle.page_tables.specs.Held.{frames_of, frames_in, shares_in}
 use Rattle.page_tables.specs.Sides.{Sides}
 use Rattle.trace_events.specs.declared.outcome.Outcome.{Outcome}
@@ -24,6 +25,7 @@ use Rattle.trace_core.specs.EventMeaning.{EventEnd, begun, only_answers, touch_a
 use Rattle.trace_core.specs.KernelStanding.{KernelParts, KernelStands, EventRan}
 use Rattle.trace_core.specs.TouchAnswers.{with_stored, fault_outcome}
 use Rattle.trace_core.proofs.Writes.{touch_end}
+use Rattle.page_tables.specs.TablesView.{HasSameSnapshot, IsEven}
 
 -- a test for no bytes
 pub no-bytes : (bytes : List ℕ) → (length bytes == 0) ≡ true → length bytes ≡ 0
@@ -35,21 +37,21 @@ some-bytes bytes some = grind (arith, nat_tests)
 -- bytes were stored in the tables of a kernel
 pub stored-stands : (parts : KernelParts) (machine : Machine) (state : KernelState) (addr : ℕ) (bytes : List ℕ) (new : PageTables) → KernelStands parts machine state
     → ((sides : Sides) → TablesStandFor parts.tables sides → TablesStandFor new (record sides { pages = with_bytes sides.pages addr bytes }))
-    → frames_of new ≡ frames_of parts.tables → frames_in new.slots.items ≡ frames_in parts.tables.slots.items → shares_in new.slots.items ≡ shares_in parts.tables.slots.items
-    → new.snapshot ≡ parts.tables.snapshot → slot_count new ≡ slot_count parts.tables
+    → frames_of new ≡ frames_of parts.tables → IsEven new
+    → HasSameSnapshot parts.tables new → slot_count new ≡ slot_count parts.tables
     → KernelStands (record parts { tables = new }) machine (with_stored state addr bytes)
-stored-stands parts machine state addr bytes new st stands held frames shares snapshot slots = record {
+stored-stands parts machine state addr bytes new st stands held even snapshot slots = record {
   pages = st.pages;
   areas = st.areas;
   tables = stands _ st.tables;
-  number = ap number_of snapshot ∙ st.number;
+  number = same-number parts.tables new snapshot ∙ st.number;
   memories = st.memories;
   losses = st.losses;
   last = st.last;
   counts = st.counts;
   supply = record { frames = st.supply.frames; held = st.supply.held; asker = st.supply.asker; refused = st.supply.refused; pending = st.supply.pending };
   out = st.out ∙ sym held;
-  even = frames ∙ st.even ∙ sym shares;
+  even = even;
   slots = slots ∙ st.slots;
   limit = st.limit;
 }

@@ -15,36 +15,24 @@ use Rattle.vm_base.specs.FlatMemory.{cells_of}
 use Rattle.vm_base.specs.MemoryState.{IsIn, IsListed}
 use Rattle.kernel_meaning.specs.Leaves.{Kept, has_pages}
 use Rattle.kernel_meaning.specs.FrameLaw.{cell_at}
-use Rattle.page_tables.specs.declared.tables.SnapshotTables.{SnapshotTables}
 use Rattle.page_tables.specs.Sides.{Sides}
-use Rattle.page_tables.specs.Standing.{slot_in, numbers_at, number_of}
 use Rattle.page_tables.proofs.LeafMap.{found-used}
 use Rattle.trace_core.specs.declared.parts.SnapshotAreas.{SnapshotAreas}
 use Rattle.trace_core.specs.KernelState.{Machine, KernelState}
 use Rattle.trace_core.specs.KernelStanding.{KernelParts, KernelStands, kept_memories, kept_number, sides_of}
-use Rattle.trace_core.specs.KernelSeen.{KernelNotes, IsSound, IsKernelNoted, NotesHold, AreKeptUsed, kernel_memory, pages_of, parent_of, kept_in}
+use Rattle.trace_core.specs.KernelSeen.{KernelNotes, IsSound, IsKernelNoted, NotesHold, AreKeptUsed, kernel_memory, parent_of, kept_in}
 use Rattle.trace_core.proofs.ClauseProps.{test-prop}
 use Rattle.trace_core.proofs.FilledCells.{cells-filled}
 use Rattle.trace_core.proofs.HeldEvents.{AreFilled}
-use Rattle.trace_core.proofs.SeenTables.{seen-used}
+use Rattle.page_tables.proofs.view.TablesShown.{cell-shown, kept-shown, has-number, snapshot-page-used}
+use Rattle.page_tables.proofs.view.ViewSides.{seen-used}
 use Rattle.trace_core.proofs.SoundSteps.{known-noted}
-
--- a cell that some snapshot has is in the directory of the one that lives
-kept-there : (snapshot : Option SnapshotTables) (c : ℕ) (kept : List Kept) → map (λ it. it.number) kept ≡ numbers_at snapshot c → not (length kept == 0) ≡ true → IsSome (slot_in snapshot c)
-kept-there snapshot c [] numbers some = absurd (false≢true some)
-kept-there None c (it ∷ others) numbers some = let size : length (map (λ (it : Kept). it.number) (it ∷ others)) ≡ 0 = ap length numbers in absurd (omega (arith, size))
-kept-there (Some tables) c (it ∷ others) numbers some = elim (cases_Bool (is_some (get tables.directory c))) [
-  | inl there ↦ there
-  | inr none ↦
-      let size : length (map (λ (it : Kept). it.number) (it ∷ others)) ≡ 0 = ap length numbers ∙ ap (λ has. length (cond has (tables.number ∷ []) [])) none in
-      absurd (omega (arith, size))
-]
+use Rattle.page_tables.specs.TablesView.{pages_of, snapshot_number, snapshot_has}
 
 -- where the tables' snapshot has a cell, the kernel's lives
-slot-lives : (tables : Option SnapshotTables) (snapshot : Option SnapshotAreas) (c : ℕ) → number_of tables ≡ kept_number snapshot → IsSome (slot_in tables c) → IsSome snapshot
-slot-lives tables (Some kept) c same there = refl
-slot-lives None None c same there = absurd (false≢true there)
-slot-lives (Some tables) None c same there = absurd (false≢true (sym (ap is_some same)))
+kept-lives : (snapshot : Option SnapshotAreas) (number : Option ℕ) → number ≡ kept_number snapshot → IsSome number → IsSome snapshot
+kept-lives (Some kept) number same there = refl
+kept-lives None number same there = absurd (false≢true (sym (ap is_some same) ∙ there))
 
 -- the parent has a page in the cell, or the snapshot that lives has one there
 abbrev IsSomebodys : KernelParts → KernelNotes → ℕ → Type 0
@@ -60,11 +48,10 @@ module _ (parts : KernelParts) (notes : KernelNotes) (machine : Machine) (state 
       let found : IsSome (find nat_cmp cell state.leaves) = sym (seen-used parts.tables sides stands.tables cell) ∙ inside in
       elim (or_cases (has_pages (cell_at state.leaves cell).parent) (not (length (cell_at state.leaves cell).kept == 0))
       (found-used state.leaves stands.tables.kept.in_use cell found)) [
-        | inl pages ↦ inl (filled cell (stands.tables.parent cell ∙ pages))
+        | inl pages ↦ inl (filled cell (cell-shown parts.tables sides stands.tables cell ∙ pages))
         | inr some ↦
-            let there : IsSome (slot_in parts.tables.snapshot cell) =
-            kept-there parts.tables.snapshot cell (cell_at state.leaves cell).kept (stands.tables.snapshot_of.numbers cell) some in
-            inr (slot-lives parts.tables.snapshot parts.snapshot cell stands.number there, holds.cells cell there)
+            let there : snapshot_has parts.tables cell ≡ true = kept-shown parts.tables sides stands.tables cell ∙ some in
+            inr (kept-lives parts.snapshot (snapshot_number parts.tables) stands.number (has-number parts.tables cell there), holds.cells cell there)
       ]
 
 -- a slot is used by a cell of the parent, or by one of the snapshot that lives
@@ -85,15 +72,6 @@ cell-page (page ∷ pages) cell listed = elim (or_cases (cell_of page == cell) (
   | inr later ↦ let found = cell-page pages cell later in (found.0, (or_right (eqb found.0 page) (member found.0 pages) found.1.0, found.1.1))
 ]
 
--- the one snapshot has a cell where it is among those that have it
-numbered-there : (snapshot : Option SnapshotTables) (n c : ℕ) → list_any (λ m. m == n) (numbers_at snapshot c) ≡ true → IsSome (slot_in snapshot c)
-numbered-there None n c there = absurd (false≢true there)
-numbered-there (Some tables) n c there = by (is_some (get tables.directory c)) refl there
-  where
-    by : (b : Bool) → is_some (get tables.directory c) ≡ b → list_any (λ m. m == n) (cond b (tables.number ∷ []) []) ≡ true → IsSome (get tables.directory c)
-    by true is there = is
-    by false is there = absurd (false≢true there)
-
 module _ (parts : KernelParts) (notes : KernelNotes) (machine : Machine) (state : KernelState) (sound : IsSound parts notes machine state) (kept : SnapshotAreas) (lives : parts.snapshot ≡ Some kept) where
   abbrev all : Sides
   all = sides_of state sound.stands.pages
@@ -112,21 +90,11 @@ module _ (parts : KernelParts) (notes : KernelNotes) (machine : Machine) (state 
   kept-slot cell listed =
       let page = cell-page (keys (pages_of notes.forked)) cell listed in
       let there : IsSome (get (pages_of notes.forked) page.0) = sym (member-keys (pages_of notes.forked) page.0) ∙ page.1.0 in
-      let low : page.0 % 512 < 512 = omega arith in
-      let whole : cell * 512 + page.0 % 512 ≡ page.0 = omega (arith, page.1.1) in
-      let seen : option_and_then (λ pages. get pages (cell * 512 + page.0 % 512)) (get all.snapshots kept.number) ≡ get (pages_of notes.forked) page.0 =
-      ap (option_and_then (λ pages. get pages (cell * 512 + page.0 % 512))) kept-pages ∙ ap (get (pages_of notes.forked)) whole in
-      let numbered : list_any (λ m. m == kept.number) (numbers_at parts.tables.snapshot cell) ≡ true = elim (cases_Bool (list_any (λ m. m == kept.number) (numbers_at parts.tables.snapshot cell))) [
-        | inl has ↦ has
-        | inr lacks ↦ absurd (false≢true (ap is_some (sym (sound.stands.tables.snapshot_of.absent kept.number cell (page.0 % 512) low lacks) ∙ seen) ∙ there))
-      ] in
-      let slot = slot-of (slot_in parts.tables.snapshot cell) (numbered-there parts.tables.snapshot kept.number cell numbered) in
+      let seen : option_and_then (λ pages. get pages page.0) (get all.snapshots kept.number) ≡ get (pages_of notes.forked) page.0 =
+      ap (option_and_then (λ pages. get pages page.0)) kept-pages in
       seen-used parts.tables all sound.stands.tables cell
-      ∙ sound.stands.tables.slots_of.used slot.0 cell (sound.stands.tables.snapshot_of.named cell slot.0 slot.1)
-    where
-      slot-of : (o : Option ℕ) → IsSome o → (s : ℕ) × (o ≡ Some s)
-      slot-of None some = absurd (false≢true some)
-      slot-of (Some s) some = (s, refl)
+      ∙ ap (λ c. is_some (find nat_cmp c state.leaves)) (sym page.1.1)
+      ∙ snapshot-page-used parts.tables all sound.stands.tables kept.number page.0 (ap is_some seen ∙ there)
 
 -- each cell of the snapshot that lives uses a slot
 pub kept-used : (parts : KernelParts) (notes : KernelNotes) → ∥ IsKernelNoted parts notes ∥₁ → AreKeptUsed parts notes

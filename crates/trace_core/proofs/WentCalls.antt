@@ -26,7 +26,7 @@ use Rattle.trace_core.specs.EventMeaning.{EventEnd, touch_judged, fork_end, drop
 use Rattle.trace_core.specs.KernelState.{Machine, KernelState}
 use Rattle.trace_core.specs.KernelStanding.{KernelParts, IsKernel, KernelStands, EventRan, sides_of, copies_refused_in}
 use Rattle.trace_core.specs.KernelSeen.{KernelNotes, IsKernelNoted, live_numbers, kept_in}
-use Rattle.trace_core.specs.TablesSeen.{lost_in, waiting_in}
+use Rattle.page_tables.specs.SlotViews.{lost_in, waiting_in}
 use Rattle.trace_core.specs.TouchAnswers.{touch_outcome, with_stored}
 use Rattle.trace_core.specs.DealtSupply.{as_asker}
 use Rattle.trace_core.specs.KernelWent.{IsStretch, HasDealt, KeepsChildren, KernelWent, AreGiven}
@@ -44,7 +44,8 @@ use Rattle.std.specs.Coded.{le_prop}
 use mathlib.Core.HLevel.{⊥_prop}
 use Rattle.trace_core.proofs.KernelProcesses.{Forked, HasDropped, IsNext, fork-children, drop-children}
 use Rattle.trace_core.proofs.KernelTouches.{TouchRan}
-use Rattle.trace_core.proofs.Waiting.{stands-waiting}
+use Rattle.page_tables.proofs.view.ViewSides.{seen-waits}
+use Rattle.page_tables.specs.TablesView.{views_of}
 
 -- ---- the requests
 
@@ -121,9 +122,9 @@ listed-still : (old new : KernelParts) → new.snapshot ≡ old.snapshot → (n 
 listed-still old new same n lives = subst (λ snapshot. IsListed n (live_numbers snapshot)) same lives
 
 module _ (old new : KernelParts) (notes later : KernelNotes) (snapshot : new.snapshot ≡ old.snapshot) (last : new.last ≡ old.last) (forked : later.forked ≡ notes.forked)
-    (stays : (n c at : ℕ) → get (lost_in n old.tables.slots.items) c ≡ Some at → get (lost_in n new.tables.slots.items) c ≡ Some at)
-    (none : (n : ℕ) → waiting_in n new.tables.slots.items ≡ 0) (risen : old.supply.refused ≤ new.supply.refused)
-    (lost : (n c at : ℕ) → get (lost_in n old.tables.slots.items) c ≡ None → get (lost_in n new.tables.slots.items) c ≡ Some at → next_count old.supply.refused ≤ at) where
+    (stays : (n c at : ℕ) → get (lost_in n (views_of old.tables)) c ≡ Some at → get (lost_in n (views_of new.tables)) c ≡ Some at)
+    (none : (n : ℕ) → waiting_in n (views_of new.tables) ≡ 0) (risen : old.supply.refused ≤ new.supply.refused)
+    (lost : (n c at : ℕ) → get (lost_in n (views_of old.tables)) c ≡ None → get (lost_in n (views_of new.tables)) c ≡ Some at → next_count old.supply.refused ≤ at) where
   -- a call that loses no number, keeps what was lost, and leaves no cell to be copied
   pub keeps-children : KeepsChildren old notes new later
   keeps-children = record {
@@ -133,7 +134,7 @@ module _ (old new : KernelParts) (notes later : KernelNotes) (snapshot : new.sna
       mem = λ i. kept_in (snapshot i) (forked i);
       found = λ c at lost. stays n c at lost;
       counted = copies-still;
-      todo = let still : waiting_in n new.tables.slots.items ≡ 0 = none n in omega (arith, still);
+      todo = let still : waiting_in n (views_of new.tables) ≡ 0 = none n in omega (arith, still);
       passed = λ passed. ap (λ waiting. waiting == 0) (none n);
       whole = λ whole. ap (λ waiting. waiting == 0) (none n);
     };
@@ -162,15 +163,15 @@ ran-risen old new outcome end ran known fits = ∥∥₁_elim known le_prop (λ 
 module _ (old new : KernelParts) (notes : KernelNotes) (known : ∥ IsKernelNoted old notes ∥₁) (outcome : Outcome) (end : Machine → KernelState → List Answer → EventEnd)
     (ran : (machine : Machine) (state : KernelState) → KernelStands old machine state → EventRan old new machine (end machine state) outcome)
     (keeps : (machine : Machine) (state : KernelState) (answers : List Answer) → EndKeeps state (end machine state answers)) where
-  ran-stays : (n c at : ℕ) → get (lost_in n old.tables.slots.items) c ≡ Some at → get (lost_in n new.tables.slots.items) c ≡ Some at
-  ran-stays n c at lost = ∥∥₁_elim known (option-prop (get (lost_in n new.tables.slots.items) c) (Some at)) (λ it.
+  ran-stays : (n c at : ℕ) → get (lost_in n (views_of old.tables)) c ≡ Some at → get (lost_in n (views_of new.tables)) c ≡ Some at
+  ran-stays n c at lost = ∥∥₁_elim known (option-prop (get (lost_in n (views_of new.tables)) c) (Some at)) (λ it.
       let st = it.1.1.stands in
       let its : EventRan old new it.0 (end it.0 it.1.0) outcome = ran it.0 it.1.0 st in
       lost-stay old.tables new.tables (sides_of it.1.0 st.pages) (sides_of its.after its.stands.pages) st.tables its.stands.tables its.deals
       (subst (EndKeeps it.1.0) its.ends (keeps it.0 it.1.0 (answers_of its.deals))) n c at lost)
 
   -- and what is lost then was lost by a request that was refused in it
-  ran-lost : old.supply.refused ≤ 2 ^ 64 - 1 → (n c at : ℕ) → get (lost_in n old.tables.slots.items) c ≡ None → get (lost_in n new.tables.slots.items) c ≡ Some at → next_count old.supply.refused ≤ at
+  ran-lost : old.supply.refused ≤ 2 ^ 64 - 1 → (n c at : ℕ) → get (lost_in n (views_of old.tables)) c ≡ None → get (lost_in n (views_of new.tables)) c ≡ Some at → next_count old.supply.refused ≤ at
   ran-lost fits n c at none lost = ∥∥₁_elim known le_prop (λ it.
       let st = it.1.1.stands in
       let its : EventRan old new it.0 (end it.0 it.1.0) outcome = ran it.0 it.1.0 st in
@@ -201,9 +202,9 @@ module _ (old new : KernelParts) (notes later : KernelNotes) (its : IsParents ol
       → ((machine : Machine) (state : KernelState) (answers : List Answer) → EndKeeps state (end machine state answers)) → KernelWent old notes new later
   parents-went outcome end ran counts keeps = record {
     children = keeps-children old new notes later its.snapshot its.last its.forked (ran-stays old new notes its.known outcome end ran keeps)
-        (λ n. ∥∥₁_elim its.known (number-prop (waiting_in n new.tables.slots.items) 0) (λ it.
+        (λ n. ∥∥₁_elim its.known (number-prop (waiting_in n (views_of new.tables)) 0) (λ it.
         let then : EventRan old new it.0 (end it.0 it.1.0) outcome = ran it.0 it.1.0 it.1.1.stands in
-        stands-waiting new.tables (sides_of then.after then.stands.pages) then.stands.tables n))
+        seen-waits new.tables (sides_of then.after then.stands.pages) then.stands.tables n))
         (ran-risen old new outcome end ran (known-noted old notes its.known) its.fits) (ran-lost old new notes its.known outcome end ran keeps its.fits);
     dealt = ran-dealt old new outcome end ran counts its.copied still-copied;
   }
@@ -253,10 +254,10 @@ store-went old new notes addr bytes known stored others given = record {
     snapshot : new.snapshot ≡ old.snapshot
     snapshot = ap (λ parts. parts.snapshot) others
 
-    none : (n : ℕ) → waiting_in n new.tables.slots.items ≡ 0
-    none n = ∥∥₁_elim known (number-prop (waiting_in n new.tables.slots.items) 0) (λ it.
+    none : (n : ℕ) → waiting_in n (views_of new.tables) ≡ 0
+    none n = ∥∥₁_elim known (number-prop (waiting_in n (views_of new.tables)) 0) (λ it.
         let then : KernelStands new it.0 (with_stored it.1.0 addr bytes) = stored it.0 it.1.0 it.1.1.stands in
-        stands-waiting new.tables (sides_of (with_stored it.1.0 addr bytes) then.pages) then.tables n)
+        seen-waits new.tables (sides_of (with_stored it.1.0 addr bytes) then.pages) then.tables n)
 
     none-asked : 0 < 0 → ⊥
     none-asked some = omega (arith, some)
@@ -264,7 +265,7 @@ store-went old new notes addr bytes known stored others given = record {
     risen : old.supply.refused ≤ new.supply.refused
     risen = let same : new.supply.refused ≡ old.supply.refused = ap (λ parts. parts.supply.refused) others in omega (arith, same)
 
-    lost : (n c at : ℕ) → get (lost_in n old.tables.slots.items) c ≡ None → get (lost_in n new.tables.slots.items) c ≡ Some at → next_count old.supply.refused ≤ at
+    lost : (n c at : ℕ) → get (lost_in n (views_of old.tables)) c ≡ None → get (lost_in n (views_of new.tables)) c ≡ Some at → next_count old.supply.refused ≤ at
     lost n c at before there = absurd (∥∥₁_elim known ⊥_prop (λ it.
         let st = it.1.1.stands in
         let then : KernelStands new it.0 (with_stored it.1.0 addr bytes) = stored it.0 it.1.0 st in
@@ -276,8 +277,8 @@ store-went old new notes addr bytes known stored others given = record {
     none-fresh : (n : ℕ) → old.last < n → IsListed n (live_numbers new.snapshot) → ⊥
     none-fresh n above lives = let below : n ≤ old.last = given n (listed-still old new snapshot n lives) in omega (arith, above, below)
 
-    stays : (n c at : ℕ) → get (lost_in n old.tables.slots.items) c ≡ Some at → get (lost_in n new.tables.slots.items) c ≡ Some at
-    stays n c at lost = ∥∥₁_elim known (option-prop (get (lost_in n new.tables.slots.items) c) (Some at)) (λ it.
+    stays : (n c at : ℕ) → get (lost_in n (views_of old.tables)) c ≡ Some at → get (lost_in n (views_of new.tables)) c ≡ Some at
+    stays n c at lost = ∥∥₁_elim known (option-prop (get (lost_in n (views_of new.tables)) c) (Some at)) (λ it.
         let st = it.1.1.stands in
         let then : KernelStands new it.0 (with_stored it.1.0 addr bytes) = stored it.0 it.1.0 st in
         lost-stay old.tables new.tables (sides_of it.1.0 st.pages) (sides_of (with_stored it.1.0 addr bytes) then.pages) st.tables then.tables [] (same-keeps it.1.0.leaves []) n c at lost)

@@ -9,9 +9,10 @@ use Rattle.page_tables.specs.Courses.{Runs, requests_between, progress_between}
 use Rattle.page_tables.specs.Held.{frames_of, frames_in, shares_in}
 use Rattle.page_tables.specs.Sides.{Sides}
 use Rattle.page_tables.specs.Standing.{TablesStandFor}
-use Rattle.page_tables.proofs.HeldFrames.{frames-law}
+use Rattle.page_tables.proofs.view.TablesShown.{held-shown}
 use Rattle.trace_core.specs.KernelState.{KernelState}
 use Rattle.trace_core.specs.EventMeaning.{begun}
+use Rattle.page_tables.specs.TablesView.{IsEven}
 
 -- the progress behind an event that makes just its deals
 abbrev pub progress_behind : Leaves → ℕ → List Deal → Option FrameRefusal → Progress
@@ -23,7 +24,7 @@ runs-whole event state deals leaves made refused runs =
     ap (λ xs. event (progress_between state.leaves state.made xs [])) (sym (append-nil (answers_of deals))) ∙ runs.runs [] []
 
 -- page tables that hold what is out
-pub all-held : (out : ℕ) (tables : PageTables) (sides : Sides) → TablesStandFor tables sides → frames_in tables.slots.items ≡ shares_in tables.slots.items
+pub all-held : (out : ℕ) (tables : PageTables) (sides : Sides) → TablesStandFor tables sides → IsEven tables
     → out ≡ frames_of tables → out ≡ held_frames sides.leaves
 all-held out tables sides stands even held =
-    held ∙ (let law = frames-law tables.directory tables.snapshot tables.slots.items sides stands in omega (arith, law, even))
+    held ∙ sym (held-shown tables sides stands even)

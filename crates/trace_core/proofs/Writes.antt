@@ -19,9 +19,9 @@ use Rattle.page_tables.specs.declared.tables.PageTables.{PageTables}
 use Rattle.page_tables.specs.Accesses.{IsReady}
 use Rattle.page_tables.specs.Courses.{requests_between, progress_between}
 use Rattle.page_tables.specs.Held.{frames_of, frames_in, shares_in}
-use Rattle.page_tables.proofs.HeldFrames.{frames-law}
+use Rattle.page_tables.proofs.view.TablesShown.{held-shown, few-cells, same-number, even-moved, opening-number, opening-even}
 use Rattle.page_tables.specs.Sides.{Sides, opening_sides}
-use Rattle.page_tables.specs.Standing.{TablesStandFor, number_of, slot_count}
+use Rattle.page_tables.specs.Standing.{TablesStandFor, slot_count}
 use Rattle.page_tables.specs.Ranges.{cells_of_pages, FollowsRange, HasRoom}
 use Rattle.std.proofs.lemmas.List.{length-map}
 use Rattle.std.proofs.lemmas.List.Sums.{count_by-le-length}
@@ -30,7 +30,6 @@ use Rattle.trace_events.specs.declared.outcome.Outcome.{Outcome}
 use Rattle.frame_pool.specs.Policies.{PolicyView}
 use Rattle.trace_core.specs.SupplyState.{SupplyState, SupplyGoes, opening_supply, policy_sum}
 use Rattle.vm_base.specs.declared.frame_request.Asker.TheVariants.{Parent}
-use Rattle.page_tables.specs.declared.tables.SnapshotTables.{SnapshotTables}
 use Rattle.trace_core.specs.KernelState.{Machine, KernelState, opening_state}
 use Rattle.trace_core.specs.EventMeaning.{EventEnd, begun, only_answers, refusal_outcome, touch_judged, touch_answered}
 use Rattle.trace_core.specs.Supplied.{IsSupplied}
@@ -38,6 +37,7 @@ use Rattle.trace_core.specs.KernelStanding.{KernelParts, KernelStands, EventRan,
 use Rattle.trace_core.specs.TouchAnswers.{fault_outcome, touch_outcome, AreReady, LeavesReady}
 use Rattle.trace_core.proofs.EventCounts.{HasCounted, counted-touch}
 use Rattle.trace_core.proofs.SuppliedRuns.{supplied-end, supplied-opening}
+use Rattle.page_tables.specs.TablesView.{snapshot_number, HasSameSnapshot, IsEven, KeepsEven}
 
 -- an event that makes no request and changes nothing
 pub ran-unchanged : (parts : KernelParts) (machine : Machine) (state : KernelState) (end : List Answer → EventEnd) (outcome : Outcome) → KernelStands parts machine state
@@ -45,8 +45,8 @@ pub ran-unchanged : (parts : KernelParts) (machine : Machine) (state : KernelSta
 ran-unchanged parts machine state end outcome st ends = record { deals = []; led = refl; after = state; ends = ends []; further = ends; stands = st }
 
 -- where as many frames are out as the page tables hold, they are those of the frame law
-pub out-then : (out : ℕ) (new : PageTables) (sides : Sides) → TablesStandFor new sides → frames_in new.slots.items ≡ shares_in new.slots.items → out ≡ frames_of new → out ≡ held_frames sides.leaves
-out-then out new sides stands even same = same ∙ (let law = frames-law new.directory new.snapshot new.slots.items sides stands in omega (arith, law, even))
+pub out-then : (out : ℕ) (new : PageTables) (sides : Sides) → TablesStandFor new sides → IsEven new → out ≡ frames_of new → out ≡ held_frames sides.leaves
+out-then out new sides stands even same = same ∙ sym (held-shown new sides stands even)
 
 -- how a touch ends that the areas judge so
 abbrev pub touch_end : Machine → KernelState → ℕ → ℕ → List Answer → EventEnd
@@ -155,7 +155,7 @@ module _ (parts : KernelParts) (machine : Machine) (state : KernelState) (st : K
 
   module _ (some : 0 < n) (granted : touch ≡ Ok granted_memory) (room : lacks_slots machine.slots state.leaves (cells_of_pages first count) ≡ false)
       (mid : PageTables) (deals : List Deal) (to : SupplyState) (led : LeadsAlong SupplyGoes parts.supply deals to)
-      (even : frames_in mid.slots.items ≡ shares_in mid.slots.items) (out : to.out ≡ frames_of mid) (number : number_of mid.snapshot ≡ kept_number parts.snapshot) (slots : slot_count mid ≡ machine.slots) where
+      (even : IsEven mid) (out : to.out ≡ frames_of mid) (number : snapshot_number mid ≡ kept_number parts.snapshot) (slots : slot_count mid ≡ machine.slots) where
     abbrev behind : KernelParts
     behind = record { areas = parts.areas; tables = mid; supply = to; snapshot = parts.snapshot; last = parts.last }
 
@@ -228,11 +228,10 @@ module _ (parts : KernelParts) (machine : Machine) (state : KernelState) (st : K
 pub room-there : (tables : PageTables) (sides : Sides) (cells : List ℕ) → TablesStandFor tables sides
     → lacks_slots (slot_count tables) sides.leaves cells ≡ false → HasRoom (slot_count tables) sides.leaves cells
 room-there tables sides cells st fits =
-    let owned : count_by (λ slot. is_some slot.owner) tables.slots.items ≡ length sides.leaves = st.slots_of.counted in
-    let few : count_by (λ slot. is_some slot.owner) tables.slots.items ≤ length tables.slots.items = count_by-le-length (λ slot. is_some slot.owner) tables.slots.items in
+    let few : length sides.leaves ≤ slot_count tables = few-cells tables sides st in
     let used : length (used_cells sides.leaves) ≡ length sides.leaves = length-map sides.leaves (λ e. e.0) in
     let left : slot_count tables - length (used_cells sides.leaves) < length (cells_without_slot sides.leaves cells) → ⊥ = λ l. grind (arith, nat_tests, l, fits) in
-    omega (arith, owned, few, used, left)
+    omega (arith, few, used, left)
 
 -- a page that has a byte of a range is one of its pages
 pub page-within : (addr n count page : ℕ) → count ≡ page_count addr n → 0 < n → page * 4096 < addr + n → page < page_of addr + count
@@ -243,9 +242,6 @@ page-within addr n count page whole some high =
 -- what moved on one side moved on the other
 pub moved-alike : (a b c d : ℕ) → a + b ≡ c + d → c ≡ b → a ≡ d
 moved-alike a b c d moved same = omega (arith, moved, same)
-
-pub moved-even : (a b c d : ℕ) → a + b ≡ c + d → a ≡ c → d ≡ b
-moved-even a b c d moved same = omega (arith, moved, same)
 
 -- ---- what a call has found out
 
@@ -287,22 +283,22 @@ module _ (parts : KernelParts) (machine : Machine) (state : KernelState) (st : K
       -- the pages were touched
       module _ (room : lacks_slots (slot_count parts.tables) state.leaves (cells_of_pages (page_of addr) count) ≡ false)
           (mid : PageTables) (deals : List Deal) (to : SupplyState) (led : LeadsAlong SupplyGoes parts.supply deals to)
-          (even : frames_in parts.tables.slots.items + shares_in mid.slots.items ≡ shares_in parts.tables.slots.items + frames_in mid.slots.items)
-          (held : to.out + frames_of parts.tables ≡ parts.supply.out + frames_of mid) (snapshot : mid.snapshot ≡ parts.tables.snapshot) (slots : slot_count mid ≡ slot_count parts.tables) where
+          (even : KeepsEven parts.tables mid)
+          (held : to.out + frames_of parts.tables ≡ parts.supply.out + frames_of mid) (snapshot : HasSameSnapshot parts.tables mid) (slots : slot_count mid ≡ slot_count parts.tables) where
         abbrev touched_parts : KernelParts
         touched_parts = record { areas = parts.areas; tables = mid; supply = to; snapshot = parts.snapshot; last = parts.last }
 
         pub touched-done : FollowsRange (page_of addr) count mid deals None (sides_of state st.pages) → TouchRan parts touched_parts machine state addr n (Ok tt)
         touched-done range =
             ran-done parts machine state st addr n some granted (slots-asked false room) mid deals to led
-            (moved-even _ _ _ _ even st.even) (moved-alike _ _ _ _ held st.out) (ap number_of snapshot ∙ st.number) (slots ∙ st.slots)
+            (even-moved parts.tables mid even st.even) (moved-alike _ _ _ _ held st.out) (same-number parts.tables mid snapshot ∙ st.number) (slots ∙ st.slots)
             (subst (λ count. FollowsRange (page_of addr) count mid deals None (sides_of state st.pages)) whole range)
 
         pub touched-no_frame : (refusal : FrameRefusal) (page : ℕ) → FollowsRange (page_of addr) count mid deals (Some refusal) (sides_of state st.pages)
             → TouchRan parts touched_parts machine state addr n (Err (fault.NoFrame refusal.at page))
         touched-no_frame refusal page range =
             ran-no_frame parts machine state st addr n some granted (slots-asked false room) mid deals to led
-            (moved-even _ _ _ _ even st.even) (moved-alike _ _ _ _ held st.out) (ap number_of snapshot ∙ st.number) (slots ∙ st.slots)
+            (even-moved parts.tables mid even st.even) (moved-alike _ _ _ _ held st.out) (same-number parts.tables mid snapshot ∙ st.number) (slots ∙ st.slots)
             refusal page (subst (λ count. FollowsRange (page_of addr) count mid deals (Some refusal) (sides_of state st.pages)) whole range)
 
 -- ---- reading, and the start
@@ -326,23 +322,17 @@ opens-all made frames free listed all there =
     let out : made - length free ≡ 0 = omega (arith, all, there) in
     λ i. record { made = all i; out = out i; asker = Parent; refused = 0; pending = None; asks = 0; listed = listed; policies = policy_sum listed }
 
--- where no snapshot has pages none lives
-none-lives : (snapshot : Option SnapshotTables) → ((n : ℕ) → false ≡ holds_number (number_of snapshot) n) → number_of snapshot ≡ None
-none-lives None none = refl
-none-lives (Some tables) none = absurd (false≢true (none tables.number ∙ eq-eqb tables.number tables.number refl))
-
 -- a kernel begins without areas and pages, over a supply that has all frames
 pub opening-stands : (frames cells last : ℕ) (areas : List Area) → areas ≡ [] → (tables : PageTables) (listed : List PolicyView) (supply : SupplyState)
     → supply ≡ opening_supply frames listed → TablesStandFor tables opening_sides
     → slot_count tables ≡ cells → frames_of tables ≡ 0
     → KernelStands (record { areas = areas; tables = tables; supply = supply; snapshot = None; last = last }) (record { frames = frames; slots = cells; limit = 1 }) (opening_state last)
 opening-stands frames cells last areas bare tables listed supply opens stands slots held =
-    let law = frames-law tables.directory tables.snapshot tables.slots.items opening_sides stands in
     record {
       pages = empty;
       areas = sym bare;
       tables = stands;
-      number = none-lives tables.snapshot (λ n. sym (ap is_some (get-empty nat_cmp n)) ∙ stands.snapshot_of.live n);
+      number = opening-number tables stands;
       memories = refl;
       losses = refl;
       last = refl;
@@ -350,7 +340,7 @@ opening-stands frames cells last areas bare tables listed supply opens stands sl
       supply = subst (λ s. IsSupplied (record { frames = frames; slots = cells; limit = 1 }) (opening_state last) s) (sym opens)
           (supplied-opening (record { frames = frames; slots = cells; limit = 1 }) last listed);
       out = ap (λ s. s.out) opens ∙ sym held;
-      even = omega (arith, law, held);
+      even = opening-even tables stands held;
       slots = slots;
       limit = refl;
     }

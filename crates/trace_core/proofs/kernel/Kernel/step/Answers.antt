@@ -1,7 +1,7 @@
 use Rattle.trace_core.specs.KernelSeen.{parts_of, notes_of}
 use Rattle.trace_core.proofs.Stood.{known-under}
 use Rattle.trace_core.proofs.LastNumbers.{last-if-ok}
-use Rattle.trace_core.proofs.SeenTables.{seen-pages}
+use Rattle.page_tables.proofs.view.ViewSides.{seen-pages}
 use Rattle.trace_core.proofs.SoundSteps.{known-noted, noted-under, sound-step, err-seen}
 use Rattle.trace_core.proofs.HeldNotes.{holds-under, under-holds}
 use Rattle.trace_core.proofs.HeldEvents.{holds-step}

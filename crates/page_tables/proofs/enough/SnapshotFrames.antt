@@ -22,9 +22,10 @@ use Rattle.page_tables.specs.Standing.{number_of, slot_in, numbers_at, StandFor,
 use Rattle.page_tables.proofs.HeldFrames.{all-found, snapshot-cells, snapshot-law}
 use Rattle.page_tables.proofs.StandingFacts.{no-numbers}
 use Rattle.vm_base.proofs.OwnFrames.{member, AreMembers, member-distinct, directory_frames-le, IsDistinct-sorted}
-use Rattle.trace_core.proofs.PageCounts.{in_cell, len-cells}
-use Rattle.trace_core.proofs.SpentPairs.{kept_frames}
-use Rattle.trace_core.proofs.CellSums.{member-entries, sum-entries-le, sum-entries-none, pairs-le}
+use Rattle.page_tables.proofs.enough.PageCounts.{in_cell, len-cells}
+use Rattle.page_tables.proofs.enough.Pairs.{kept_frames}
+use Rattle.page_tables.proofs.enough.CellSums.{member-entries, sum-entries-le, sum-entries-none, pairs-le}
+use Rattle.page_tables.specs.TablesView.{LacksSnapshot, snapshot_has}
 
 -- no snapshot has a cell
 abbrev pub AreAlone : Leaves → Type 0
@@ -99,16 +100,16 @@ listed-member c cells listed = sym (alike cells) ∙ listed
 
 module _ (tables : PageTables) (sides : Sides) (st : TablesStandFor tables sides) where
   -- where no snapshot lives, none has a cell
-  pub alone-kept : tables.snapshot ≡ None → AreAlone sides.leaves
+  pub alone-kept : LacksSnapshot tables → AreAlone sides.leaves
   alone-kept none c = no-numbers (cell_at sides.leaves c).kept (st.snapshot_of.numbers c ∙ ap (λ snapshot. numbers_at snapshot c) none)
 
   -- and none takes a frame
-  pub none-kept : tables.snapshot ≡ None → kept_frames sides.leaves ≡ 0
+  pub none-kept : LacksSnapshot tables → kept_frames sides.leaves ≡ 0
   none-kept none = alone-none sides.leaves st.kept.sorted (alone-kept none)
 
   module _ (snapshot : SnapshotTables) (lives : tables.snapshot ≡ Some snapshot) (memory : FlatMemory) (number : get sides.snapshots snapshot.number ≡ Some memory.present)
       (names : NameTheirPages sides.leaves snapshot.number memory.present)
-      (listed : (c : ℕ) → is_some (slot_in tables.snapshot c) ≡ true → IsListed c (cells_of memory)) where
+      (listed : (c : ℕ) → snapshot_has tables c ≡ true → IsListed c (cells_of memory)) where
     abbrev n : ℕ
     n = snapshot.number
 
@@ -218,7 +219,7 @@ module _ (tables : PageTables) (sides : Sides) (st : TablesStandFor tables sides
 
   -- so of the snapshot with a number that lives
   pub kept-own : (n : ℕ) (memory : FlatMemory) → get sides.snapshots n ≡ Some memory.present → NameTheirPages sides.leaves n memory.present
-      → ((c : ℕ) → is_some (slot_in tables.snapshot c) ≡ true → IsListed c (cells_of memory)) → kept_frames sides.leaves ≤ own_of memory
+      → ((c : ℕ) → snapshot_has tables c ≡ true → IsListed c (cells_of memory)) → kept_frames sides.leaves ≤ own_of memory
   kept-own n memory number names listed = by tables.snapshot refl
     where
       by : (o : Option SnapshotTables) → tables.snapshot ≡ o → kept_frames sides.leaves ≤ own_of memory

@@ -32,9 +32,10 @@ use Rattle.page_tables.proofs.LeafMap.{used-found}
 use Rattle.page_tables.proofs.OwnedSlots.{owned-slot}
 use Rattle.page_tables.proofs.ParentPages.{account_at, slot-stands, page-lacking}
 use Rattle.page_tables.proofs.TouchShapes.{page-used}
-use Rattle.trace_core.proofs.SpentPairs.{kept_frames}
-use Rattle.trace_core.proofs.KeptFrames.{NameTheirPages, alone-kept, kept-own}
-use Rattle.trace_core.proofs.ParentFrames.{HasVersions, held_frames-le, held_frames-own, fork-denied-own}
+use Rattle.page_tables.proofs.enough.Pairs.{kept_frames}
+use Rattle.page_tables.proofs.enough.SnapshotFrames.{NameTheirPages, alone-kept, kept-own}
+use Rattle.page_tables.proofs.enough.ParentFrames.{HasVersions, held_frames-le, held_frames-own, fork-denied-own}
+use Rattle.page_tables.specs.TablesView.{LacksSnapshot, snapshot_has}
 
 -- a version that has a frame has bytes
 bytes-there : (frames : List (Option FrameView)) (version : Option ℕ) (place : ℕ) → version ≡ Some place → IsSome (slice_index_or frames place None)
@@ -133,7 +134,7 @@ module _ (tables : PageTables) (sides : Sides) (st : TablesStandFor tables sides
 
   -- the snapshot that lives takes no more frames beside the parent than its memory would alone, where it has a page in each of its cells
   pub whole-kept : (n : ℕ) (memory : FlatMemory) → get sides.snapshots n ≡ Some memory.present
-      → ((c : ℕ) → is_some (slot_in tables.snapshot c) ≡ true → IsListed c (cells_of memory)) → kept_frames sides.leaves ≤ own_of memory
+      → ((c : ℕ) → snapshot_has tables c ≡ true → IsListed c (cells_of memory)) → kept_frames sides.leaves ≤ own_of memory
   whole-kept n memory number listed = kept-own tables sides st n memory number (whole-names n memory.present number) listed
 
   module _ (memory : FlatMemory) (present : memory.present ≡ sides.pages) where
@@ -145,11 +146,11 @@ module _ (tables : PageTables) (sides : Sides) (st : TablesStandFor tables sides
     whole-held-le = held_frames-le sides.leaves st.kept memory whole-parent
 
     -- they are the parent's own where no snapshot lives
-    pub whole-held : tables.snapshot ≡ None → held_frames sides.leaves ≡ own_of memory
+    pub whole-held : LacksSnapshot tables → held_frames sides.leaves ≡ own_of memory
     whole-held none = held_frames-own sides.leaves st.kept memory whole-parent (alone-kept tables sides st none)
 
     -- where a fork is denied a frame then, those that are out and this one are no more than twice the parent's own
-    pub whole-fork-denied : tables.snapshot ≡ None → (made n : ℕ) (answers : List Answer) (front : List Deal) (want : Want) (at : ℕ) (back : List Deal)
+    pub whole-fork-denied : LacksSnapshot tables → (made n : ℕ) (answers : List Answer) (front : List Deal) (want : Want) (at : ℕ) (back : List Deal)
         → (snapshot_forked n Eager (opening_progress sides.leaves (opening_requests made answers))).requests.deals ≡ front ++ Denied want at ∷ back
         → out_after (held_frames sides.leaves) front + 1 ≤ own_of memory + own_of memory
     whole-fork-denied none = fork-denied-own sides.leaves st.kept memory whole-parent (alone-kept tables sides st none)

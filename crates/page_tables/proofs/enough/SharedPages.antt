@@ -13,9 +13,9 @@ use Rattle.leaf_cell.specs.Renaming.{AreMade}
 use Rattle.page_tables.specs.Standing.{AreKept}
 use Rattle.page_tables.proofs.LeafMap.{cell_at-here, cell_at-apart, kept-with_cell}
 use Rattle.vm_base.proofs.OwnFrames.{member, AreMembers, directory_frames-le}
-use Rattle.trace_core.proofs.SpentPairs.{own_part, kept_part, share-apart, share-grows, named-by, pages-then, own-stays, some-made, shared_once, at-most, shared-apart}
+use Rattle.page_tables.proofs.enough.Pairs.{own_part, kept_part, share-apart, share-grows, named-by, pages-then, own-stays, some-made, shared_once, at-most, shared-apart}
 use Rattle.leaf_cell.specs.Touching.{is_named_too, needs_copy}
-use Rattle.trace_core.proofs.SpentCells.{sum_of, sum-with_cell, member-cells, directory-more}
+use Rattle.page_tables.proofs.enough.Cells.{sum_of, sum-with_cell, member-cells, directory-more}
 
 -- ---- sums
 apart-sum : (leaves : Leaves) → sum_of (λ cell. own_part cell + kept_part cell) leaves ≡ sum_of own_part leaves + sum_of kept_part leaves

@@ -28,12 +28,12 @@ use Rattle.page_tables.proofs.Missing.{missing-known}
 use Rattle.page_tables.proofs.TouchShapes.{Losing, touch-unjoined, page-there}
 use Rattle.page_tables.proofs.Again.{with_cell-same}
 use Rattle.vm_base.proofs.OwnFrames.{kept-with_pages}
-use Rattle.trace_core.proofs.SpentPairs.{own_part, kept_part, kept_pages, parent_frames, kept_frames, lacking_leaf, version-apart, pages-then, own-grows, own-stays, shared_once, shared-apart, shared-here, shared-lost}
+use Rattle.page_tables.proofs.enough.Pairs.{own_part, kept_part, kept_pages, parent_frames, kept_frames, lacking_leaf, version-apart, pages-then, own-grows, own-stays, shared_once, shared-apart, shared-here, shared-lost}
 use Rattle.leaf_cell.specs.Touching.{needs_copy}
-use Rattle.trace_core.proofs.SpentDeals.{AreSpent, IsSpent, spent-at, spent-weaker, spent-granted, spent-denied, spent-given, spent-row}
-use Rattle.trace_core.proofs.SpentCells.{sum_of, sum-with_cell}
-use Rattle.trace_core.proofs.SpentOwn.{HasPages, parent_frames-parts, own-within}
-use Rattle.trace_core.proofs.SpentShared.{directory-then, pages-used, shared_pages, shared-with_cell, place-apart, shares-apart}
+use Rattle.page_tables.proofs.enough.Deals.{AreSpent, IsSpent, spent-at, spent-weaker, spent-granted, spent-denied, spent-given, spent-row}
+use Rattle.page_tables.proofs.enough.Cells.{sum_of, sum-with_cell}
+use Rattle.page_tables.proofs.enough.CellFrames.{HasPages, parent_frames-parts, own-within}
+use Rattle.page_tables.proofs.enough.SharedPages.{directory-then, pages-used, shared_pages, shared-with_cell, place-apart, shares-apart}
 
 -- ---- how requests stand behind a page
 -- before the touch of n pages: with those of them that are shared no more frames are out than both sides take alone, and each page of the parent is one of the memory

@@ -23,8 +23,8 @@ use Rattle.page_tables.specs.Standing.{AreKept}
 use Rattle.page_tables.proofs.LeafMap.{sorted-filter}
 use Rattle.page_tables.proofs.HeldFrames.{all-found}
 use Rattle.vm_base.proofs.OwnFrames.{member, AreMembers, member-distinct, directory_frames-le, member-map, member-keys, length-keys}
-use Rattle.trace_core.proofs.SpentPairs.{own_part, parent_pages, parent_frames}
-use Rattle.trace_core.proofs.SpentCells.{sum_of, member-cells}
+use Rattle.page_tables.proofs.enough.Pairs.{own_part, parent_pages, parent_frames}
+use Rattle.page_tables.proofs.enough.Cells.{sum_of, member-cells}
 
 -- ---- rising numbers
 -- numbers that rise, none below one

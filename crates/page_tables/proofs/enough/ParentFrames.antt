@@ -22,11 +22,11 @@ use Rattle.page_tables.proofs.HeldFrames.{all-found}
 use Rattle.page_tables.proofs.LeafMap.{sorted-filter, used-found}
 use Rattle.page_tables.proofs.TouchShapes.{page-there, page-used}
 use Rattle.vm_base.proofs.OwnFrames.{AreMembers, member, member-distinct, IsDistinct-distinct, IsDistinct-sorted, member-map, member-keys, directory_frames-le}
-use Rattle.trace_core.proofs.PageCounts.{in_cell, len-cells}
-use Rattle.trace_core.proofs.CellSums.{member-entries, members-mapped, member-parent_cells, page-with-version, sum-entries, pairs-counted, pairs-distinct, pairs-fewer}
-use Rattle.trace_core.proofs.SpentPairs.{kept_frames}
-use Rattle.trace_core.proofs.KeptFrames.{AreAlone, alone-none}
-use Rattle.trace_core.proofs.SpentForks.{fork-denied}
+use Rattle.page_tables.proofs.enough.PageCounts.{in_cell, len-cells}
+use Rattle.page_tables.proofs.enough.CellSums.{member-entries, members-mapped, member-parent_cells, page-with-version, sum-entries, pairs-counted, pairs-distinct, pairs-fewer}
+use Rattle.page_tables.proofs.enough.Pairs.{kept_frames}
+use Rattle.page_tables.proofs.enough.SnapshotFrames.{AreAlone, alone-none}
+use Rattle.page_tables.proofs.enough.ForkRequests.{fork-denied}
 
 -- ---- the pages that are named
 
