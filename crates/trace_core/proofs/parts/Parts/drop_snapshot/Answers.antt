@@ -1,10 +1,10 @@
 use Rattle.std.proofs.Common.{refl, sym, ◌∙◌}
 use Rattle.trace_core.specs.KernelStanding.{sides_of}
-use Rattle.trace_core.proofs.Drops.{ran-undropped, ran-dropped}
-use Rattle.trace_core.proofs.OneSnapshot.{number-is}
-use Rattle.trace_core.proofs.Writes.{moved-alike}
+use Rattle.trace_core.proofs.events.Drops.{ran-undropped, ran-dropped}
+use Rattle.trace_core.proofs.events.OneSnapshot.{number-is}
+use Rattle.trace_core.proofs.events.Writes.{moved-alike}
 use Rattle.page_tables.proofs.view.TablesShown.{even-moved}
-use Rattle.trace_core.proofs.Known.{known-tables, known-lent}
+use Rattle.trace_core.proofs.events.KernelFacts.{known-tables, known-lent}
 use Rattle.trace_core.proofs.parts.Parts.drop_snapshot.Goals as goal
 
 pub drop_snapshot-requires-clause-stands : goal.drop_snapshot-requires-clause-stands

@@ -4,11 +4,11 @@ use Rattle.kernel_meaning.specs.EventRequests.{FrameRefusal}
 use Rattle.std.specs.Prelude.{None}
 use Rattle.trace_core.specs.CallAnswers.{fork_outcome}
 use Rattle.trace_core.specs.KernelStanding.{kept_number, sides_of}
-use Rattle.trace_core.proofs.Forks.{ran-too-many, ran-unforked, ran-forked}
-use Rattle.trace_core.proofs.OneSnapshot.{nothing-there}
-use Rattle.trace_core.proofs.SeenForks.{is_too_many}
-use Rattle.trace_core.proofs.Writes.{moved-alike}
-use Rattle.trace_core.proofs.Known.{known-snapshot, known-tables, known-lent}
+use Rattle.trace_core.proofs.events.Forks.{ran-too-many, ran-unforked, ran-forked}
+use Rattle.trace_core.proofs.events.OneSnapshot.{nothing-there}
+use Rattle.trace_core.proofs.processes.Children.{is_too_many}
+use Rattle.trace_core.proofs.events.Writes.{moved-alike}
+use Rattle.trace_core.proofs.events.KernelFacts.{known-snapshot, known-tables, known-lent}
 use Rattle.page_tables.proofs.view.TablesShown.{number-lacks, even-moved}
 use Rattle.trace_core.proofs.parts.Parts.fork.Goals as goal
 

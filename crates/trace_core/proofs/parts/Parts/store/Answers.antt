@@ -2,8 +2,8 @@ use Rattle.std.proofs.Common.{length, refl, sym, ◌∙◌}
 use Rattle.std.proofs.Math.Logic.{∥∥₁_map}
 use Rattle.vm_base.specs.Places.{page_count}
 use Rattle.trace_core.specs.KernelStanding.{sides_of}
-use Rattle.trace_core.proofs.Writes.{page-within}
-use Rattle.trace_core.proofs.Stores.{stored-stands, stands-unstored, some-bytes, no-bytes}
+use Rattle.trace_core.proofs.events.Writes.{page-within}
+use Rattle.trace_core.proofs.events.Stores.{stored-stands, stands-unstored, some-bytes, no-bytes}
 use Rattle.page_tables.proofs.view.TablesShown.{even-alike}
 use Rattle.trace_core.proofs.parts.Parts.store.Goals as goal
 

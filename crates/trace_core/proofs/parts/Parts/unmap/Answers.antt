@@ -3,10 +3,10 @@ use Rattle.std.proofs.lemmas.Result.{err_from_is_err_and}
 use Rattle.area_list.specs.Answers.{refusal_of}
 use Rattle.page_tables.proofs.view.TablesShown.{even-moved, same-number}
 use Rattle.trace_core.specs.KernelStanding.{sides_of}
-use Rattle.trace_core.proofs.Writes.{moved-alike}
+use Rattle.trace_core.proofs.events.Writes.{moved-alike}
 use Rattle.trace_core.specs.CallAnswers.{area_outcome}
-use Rattle.trace_core.proofs.AreaChanges.{ran-unmap_refused, ran-unmapped}
-use Rattle.trace_core.proofs.Known.{known-tables, known-lent}
+use Rattle.trace_core.proofs.events.AreaChanges.{ran-unmap_refused, ran-unmapped}
+use Rattle.trace_core.proofs.events.KernelFacts.{known-tables, known-lent}
 use Rattle.trace_core.proofs.parts.Parts.unmap.Goals as goal
 
 pub unmap-requires-2-clause-stands : goal.unmap-requires-2-clause-stands
