@@ -1,0 +1,4 @@
+pub mod Entries
+pub mod Pages
+pub mod Answers
+pub mod FlatSeen
