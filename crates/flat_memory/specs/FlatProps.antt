@@ -37,4 +37,5 @@ FlatHolds-prop sides a b = λ i. record {
   own = le_prop a.own b.own i;
   given = λ number is. (le_prop (a.given number is).0 (b.given number is).0 i, le_prop (a.given number is).1 (b.given number is).1 i);
   last = le_prop a.last b.last i;
+  counted = le_prop a.counted b.counted i;
 }

@@ -115,6 +115,7 @@ TouchEnds old new address n (Err CellsFull) = ⊥
 pub record Forks (old new : Sides) (number : ℕ) : Type 0 where
   pub alone : old.child ≡ None
   pub next : number ≡ old.last + 1
+  pub small : number ≤ 4294967295
   pub memory : new.memory ≡ old.memory
   pub kept : mem_of new.kept ≡ mem_of old.memory
   pub room : new.kept.pages.room ≡ old.kept.pages.room
@@ -204,6 +205,7 @@ pub record FlatHolds (sides : Sides) : Type 0 where
   pub own : own_of (mem_of sides.memory) ≤ sides.most.value
   pub given : ForSome sides.child (λ number. (0 < number) × (number ≤ sides.last))
   pub last : sides.last ≤ 4294967295
+  pub counted : sides.refused ≤ 2 ^ 64 - 1
 
 -- what calls make of it: a number given out is given to no other child, and a child that lives keeps its memory
 pub record FlatWent (old new : BesideMemory) : Type 0 where
