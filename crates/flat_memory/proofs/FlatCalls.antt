@@ -39,7 +39,8 @@ use Rattle.flat_memory.proofs.UsedSlots.{cell-there, page-there, cells-more, use
 use Rattle.flat_memory.proofs.FlatStands.{holds-memory, kept-from, judged-answer}
 
 -- what holds then, where nothing but the memory and its counts has changed
-pub holds-from : (old new : Sides) → FlatHolds old → KeepsChild old new → IsFlat (mem_of new.memory) → len new.memory.pages.present ≤ new.memory.pages.room
+pub holds-from : (old new : Sides) → FlatHolds old → KeepsChild old new → IsFlat (mem_of new.memory)
+    → len new.memory.pages.present ≤ new.memory.pages.room
     → new.memory.pages.room ≡ old.memory.pages.room → own_of (mem_of new.memory) ≤ new.most.value → new.refused ≤ 2 ^ 64 - 1 → FlatHolds new
 holds-from old new holds others flat room same own counted = record {
   flat = flat;
@@ -58,7 +59,8 @@ err_is_not_ok : {X E : Type 0} (e : E) (x : X) → ◌≡◌ {A = Result X E} (E
 err_is_not_ok e x is = false≢true (ap is_ok is)
 
 -- what is granted is not refused first
-pub granted : {X : Type 0} (why : ℕ → Refusal) (found : Option ℕ) (answer : Result X Refusal) (after : X) → or_refused why found answer ≡ Ok after → (found ≡ None) × (answer ≡ Ok after)
+pub granted : {X : Type 0} (why : ℕ → Refusal) (found : Option ℕ) (answer : Result X Refusal) (after : X)
+    → or_refused why found answer ≡ Ok after → (found ≡ None) × (answer ≡ Ok after)
 granted why None answer after is = (refl, is)
 granted why (Some page) answer after is = absurd (err_is_not_ok (why page) after is)
 
@@ -67,11 +69,13 @@ module _ (old new : Sides) (address n : ℕ) (holds : FlatHolds old) (within : a
   whole = touched (mem_of old.memory) address n
 
   -- the pages of the range may be written where the areas grant it
-  writable_all : touch_of (mem_of old.memory) address n ≡ Ok whole → (page : ℕ) → IsInRange page address n → is_read_only (area_of old.memory.areas page) ≡ false
+  writable_all : touch_of (mem_of old.memory) address n ≡ Ok whole → (page : ℕ) → IsInRange page address n
+      → is_read_only (area_of old.memory.areas page) ≡ false
   writable_all is page among =
       let first = page_of address in
       let count = page_count address n in
-      let inside = granted OutsideAreas (outside old.memory.areas first count) (or_refused ReadOnly (unwritable old.memory.areas first count) (Ok whole)) whole is in
+      let inside = granted OutsideAreas (outside old.memory.areas first count)
+      (or_refused ReadOnly (unwritable old.memory.areas first count) (Ok whole)) whole is in
       let writable = granted ReadOnly (unwritable old.memory.areas first count) (Ok whole) whole inside.1 in
       fails_below count (λ page. is_read_only (area_of old.memory.areas page)) first writable.0 page among.0 among.1
 
@@ -79,13 +83,15 @@ module _ (old new : Sides) (address n : ℕ) (holds : FlatHolds old) (within : a
   touched-holds t =
       let same : mem_of new.memory ≡ whole = ap mem_of t.memory in
       holds-from old new holds t.others (subst IsFlat (sym same) (touch-flat (mem_of old.memory) address n whole holds.flat t.granted))
-      (subst (λ (side : Side). len side.pages.present ≤ side.pages.room) (sym t.memory) t.fits) (ap (λ (side : Side). side.pages.room) t.memory)
+      (subst (λ (side : Side). len side.pages.present ≤ side.pages.room) (sym t.memory) t.fits)
+      (ap (λ (side : Side). side.pages.room) t.memory)
       (omega (arith, ap own_of same, t.most)) (omega (arith, t.refused, holds.counted))
 
   lacking-holds : (at page : ℕ) → LacksPage old new address n at page → FlatHolds new
   lacking-holds at page l =
       holds-from old new holds l.others (subst (λ (side : Side). IsFlat (mem_of side)) (sym l.memory) holds.flat)
-      (subst (λ (side : Side). len side.pages.present ≤ side.pages.room) (sym l.memory) holds.room) (ap (λ (side : Side). side.pages.room) l.memory)
+      (subst (λ (side : Side). len side.pages.present ≤ side.pages.room) (sym l.memory) holds.room)
+      (ap (λ (side : Side). side.pages.room) l.memory)
       (omega (arith, ap (λ (side : Side). own_of (mem_of side)) l.memory, l.most, holds.own)) (omega (arith, l.refused))
 
   pub touch-holds : (r : Result (Unit {0}) Fault) → TouchEnds old new address n r → FlatHolds new
@@ -115,7 +121,8 @@ module _ (old new : Sides) (address n : ℕ) (holds : FlatHolds old) (within : a
     keeps = keeps_ready t;
   }
 
-  pub touch-touches : (r : Result (Unit {0}) Fault) → TouchEnds old new address n r → OnOk r (Touches (memory_of old) (memory_of new) address n)
+  pub touch-touches : (r : Result (Unit {0}) Fault) → TouchEnds old new address n r
+      → OnOk r (Touches (memory_of old) (memory_of new) address n)
   touch-touches (Ok done) t = touches t
   touch-touches (Err fault) e = tt
 
@@ -131,7 +138,8 @@ module _ (old new : Sides) (address n : ℕ) (holds : FlatHolds old) (within : a
     keeps = λ q ready. subst (λ (side : Side). IsIn q (ready_pages (mem_of side))) (sym l.memory) ready;
   }
 
-  pub touch-fails : (r : Result (Unit {0}) Fault) → TouchEnds old new address n r → IfErr r (λ fault. TouchFails (memory_of old) (memory_of new) address n fault)
+  pub touch-fails : (r : Result (Unit {0}) Fault) → TouchEnds old new address n r
+      → IfErr r (λ fault. TouchFails (memory_of old) (memory_of new) address n fault)
   touch-fails (Ok done) t = tt
   touch-fails (Err (NoFrame at page)) l = lacks at page l
   touch-fails (Err (NoArea page)) e = (judged-answer old address n holds within ∙ ap faulted e.0, ap memory_of e.1)
@@ -141,14 +149,16 @@ module _ (old new : Sides) (address n : ℕ) (holds : FlatHolds old) (within : a
   touch-fails (Err CellsFull) e = absurd e
 
   -- a cell of the touched memory is one of the old memory, or one of the range
-  new_cell : (cell : ℕ) → IsListed cell (cells_of whole) → IsListed cell (cells_of (mem_of old.memory)) ⊎ IsListed cell (cells_of_range address n)
+  new_cell : (cell : ℕ) → IsListed cell (cells_of whole) → IsListed cell (cells_of (mem_of old.memory))
+      ⊎ IsListed cell (cells_of_range address n)
   new_cell cell listed =
       let its = page-there whole cell listed in
       let page = its.0 in
       let first = page_of address in
       let count = page_count address n in
       let old_cell : get whole.present page ≡ get old.memory.pages.present page → IsListed cell (cells_of (mem_of old.memory)) =
-          λ same. subst (λ c. IsListed c (cells_of (mem_of old.memory))) its.1.1 (cell-there (mem_of old.memory) page (sym (ap is_some same) ∙ its.1.0)) in
+      λ same. subst (λ c. IsListed c (cells_of (mem_of old.memory))) its.1.1
+      (cell-there (mem_of old.memory) page (sym (ap is_some same) ∙ its.1.0)) in
       elim (cases_lt page first) [
         | inl below ↦ inl (old_cell (get-with_pages_beyond old.memory.pages.present first count page (inl below)))
         | inr above ↦ elim (cases_lt page (first + count)) [
@@ -157,12 +167,13 @@ module _ (old new : Sides) (address n : ℕ) (holds : FlatHolds old) (within : a
         ]
       ]
 
-  new_used : TouchesRange old new address n → (cell : ℕ) → IsIn cell (memory_of new).used → IsIn cell (memory_of old).used ⊎ IsListed cell (cells_of_range address n)
+  new_used : TouchesRange old new address n → (cell : ℕ) → IsIn cell (memory_of new).used → IsIn cell (memory_of old).used
+      ⊎ IsListed cell (cells_of_range address n)
   new_used t cell used =
       let then : IsIn cell (used_cells whole old.child (mem_of old.kept)) =
-          subst (λ (kept : Side). IsIn cell (used_cells whole old.child (mem_of kept))) t.others.kept
-          (subst (λ child. IsIn cell (used_cells whole child (mem_of new.kept))) t.others.child
-          (subst (λ m. IsIn cell (used_cells m new.child (mem_of new.kept))) (ap mem_of t.memory) used)) in
+      subst (λ (kept : Side). IsIn cell (used_cells whole old.child (mem_of kept))) t.others.kept
+      (subst (λ child. IsIn cell (used_cells whole child (mem_of new.kept))) t.others.child
+      (subst (λ m. IsIn cell (used_cells m new.child (mem_of new.kept))) (ap mem_of t.memory) used)) in
       elim (in_used whole old.child (mem_of old.kept) cell then) [
         | inl own ↦ elim (new_cell cell own) [
           | inl before ↦ inl (used_by_memory (mem_of old.memory) old.child (mem_of old.kept) cell before)
@@ -177,7 +188,8 @@ module _ (old new : Sides) (address n : ℕ) (holds : FlatHolds old) (within : a
       (subst (λ child. IsIn cell (used_cells (mem_of old.memory) child (mem_of new.kept))) others.child
       (subst (λ (side : Side). IsIn cell (used_cells (mem_of side) new.child (mem_of new.kept))) memory used))
 
-  pub touch-keeps : (r : Result (Unit {0}) Fault) → TouchEnds old new address n r → IsKept (memory_of old) (memory_of new) (cells_of_range address n)
+  pub touch-keeps : (r : Result (Unit {0}) Fault) → TouchEnds old new address n r → IsKept (memory_of old) (memory_of new)
+      (cells_of_range address n)
   touch-keeps (Ok done) t =
       kept-from old new (cells_of_range address n) holds (touched-holds t) (ap (λ (side : Side). side.pages.room) t.memory) (new_used t)
       (omega (arith, t.refused)) (omega (arith, t.most))
@@ -208,44 +220,51 @@ module _ (old new : Sides) (address n : ℕ) (holds : FlatHolds old) (within : a
 
 -- ---- storing
 
-module _ (old : Sides) (side : Side) (address : ℕ) (bytes : List ℕ) (holds : FlatHolds old) (ready : IsReady (memory_of old) address (length bytes))
+module _ (old : Sides) (side : Side) (address : ℕ) (bytes : List ℕ) (holds : FlatHolds old)
+    (ready : IsReady (memory_of old) address (length bytes))
     (fit : All (λ byte. byte < 256) bytes)
-    (is : side ≡ record old.memory { pages = record old.memory.pages { present = with_bytes old.memory.pages.present address bytes } }) where
-  abbrev stored_memory : FlatMemory
-  stored_memory = record (mem_of old.memory) { present = with_bytes old.memory.pages.present address bytes }
+    (is : side ≡ record old.memory { pages = record old.memory.pages { present = with_bytes old.memory.pages.present address bytes } })
+  where
+    abbrev stored_memory : FlatMemory
+    stored_memory = record (mem_of old.memory) { present = with_bytes old.memory.pages.present address bytes }
 
-  abbrev stored_sides : Sides
-  stored_sides = record old { memory = side }
+    abbrev stored_sides : Sides
+    stored_sides = record old { memory = side }
 
-  same_pages : (page : ℕ) → is_some (get stored_memory.present page) ≡ is_some (get old.memory.pages.present page)
-  same_pages page = is_some-with_bytes old.memory.pages.present address bytes (λ q among. ready-there (mem_of old.memory) q (ready q among)) page
+    same_pages : (page : ℕ) → is_some (get stored_memory.present page) ≡ is_some (get old.memory.pages.present page)
+    same_pages page = is_some-with_bytes old.memory.pages.present address bytes (λ q among. ready-there (mem_of old.memory) q (ready q among))
+        page
 
-  same_pages_then : (page : ℕ) → is_some (get side.pages.present page) ≡ is_some (get old.memory.pages.present page)
-  same_pages_then page = ap (λ (s : Side). is_some (get s.pages.present page)) is ∙ same_pages page
+    same_pages_then : (page : ℕ) → is_some (get side.pages.present page) ≡ is_some (get old.memory.pages.present page)
+    same_pages_then page = ap (λ (s : Side). is_some (get s.pages.present page)) is ∙ same_pages page
 
-  pub store-holds : FlatHolds stored_sides
-  store-holds =
-      let flat : IsFlat stored_memory = stored-flat (mem_of old.memory) address bytes holds.flat fit (λ page low high. ready-there (mem_of old.memory) page (ready page (low, high))) in
-      let few : len stored_memory.present ≤ len old.memory.pages.present = len-le stored_memory.present old.memory.pages.present (λ page there. sym (same_pages page) ∙ there) in
-      let own : own_of stored_memory ≡ own_of (mem_of old.memory) = own-alike stored_memory (mem_of old.memory) same_pages in
-      holds-from old stored_sides holds (record { kept = refl; child = refl; last = refl; born = refl })
-      (subst (λ (s : Side). IsFlat (mem_of s)) (sym is) flat)
-      (omega (arith, few, holds.room, ap (λ (s : Side). len s.pages.present) is, ap (λ (s : Side). s.pages.room) is))
-      (ap (λ (s : Side). s.pages.room) is)
-      (omega (arith, own, holds.own, ap (λ (s : Side). own_of (mem_of s)) is)) holds.counted
+    pub store-holds : FlatHolds stored_sides
+    store-holds =
+        let flat : IsFlat stored_memory = stored-flat (mem_of old.memory) address bytes holds.flat fit
+        (λ page low high. ready-there (mem_of old.memory) page (ready page (low, high))) in
+        let few : len stored_memory.present ≤ len old.memory.pages.present = len-le stored_memory.present old.memory.pages.present
+        (λ page there. sym (same_pages page) ∙ there) in
+        let own : own_of stored_memory ≡ own_of (mem_of old.memory) = own-alike stored_memory (mem_of old.memory) same_pages in
+        holds-from old stored_sides holds (record { kept = refl; child = refl; last = refl; born = refl })
+        (subst (λ (s : Side). IsFlat (mem_of s)) (sym is) flat)
+        (omega (arith, few, holds.room, ap (λ (s : Side). len s.pages.present) is, ap (λ (s : Side). s.pages.room) is))
+        (ap (λ (s : Side). s.pages.room) is)
+        (omega (arith, own, holds.own, ap (λ (s : Side). own_of (mem_of s)) is)) holds.counted
 
-  pub store-stores : memory_of stored_sides ≡ after_store (memory_of old) address bytes
-  store-stores =
-      ap (λ (s : Side). memory_of (record old { memory = s })) is
-      ∙ (λ i. record (after_store (memory_of old) address bytes) {
-        used = used-same stored_memory (mem_of old.memory) old.child (mem_of old.kept) same_pages i;
-        ready = ready-same stored_memory (mem_of old.memory) same_pages (λ page there. refl) i;
-      })
+    pub store-stores : memory_of stored_sides ≡ after_store (memory_of old) address bytes
+    store-stores =
+        ap (λ (s : Side). memory_of (record old { memory = s })) is
+        ∙ (λ i. record (after_store (memory_of old) address bytes) {
+          used = used-same stored_memory (mem_of old.memory) old.child (mem_of old.kept) same_pages i;
+          ready = ready-same stored_memory (mem_of old.memory) same_pages (λ page there. refl) i;
+        })
 
-  pub store-keeps : IsKept (memory_of old) (memory_of stored_sides) []
-  store-keeps = kept-from old stored_sides [] holds store-holds (ap (λ (s : Side). s.pages.room) is)
-      (λ cell used. inl (used-more (mem_of side) (mem_of old.memory) old.child (mem_of old.kept) (λ page there. sym (same_pages_then page) ∙ there) cell used))
-      (omega arith) (omega arith)
+    pub store-keeps : IsKept (memory_of old) (memory_of stored_sides) []
+    store-keeps = kept-from old stored_sides [] holds store-holds (ap (λ (s : Side). s.pages.room) is)
+        (λ cell used. inl
+        (used-more (mem_of side) (mem_of old.memory) old.child (mem_of old.kept) (λ page there. sym (same_pages_then page) ∙ there) cell
+        used))
+        (omega arith) (omega arith)
 
 -- ---- changes of areas
 
@@ -261,19 +280,25 @@ module _ (old : Sides) (side : Side) (holds : FlatHolds old) (flat : IsFlat (mem
 
   pub changed-keeps : IsKept (memory_of old) (memory_of (record old { memory = side })) []
   changed-keeps = kept-from old (record old { memory = side }) [] holds changed-holds room
-      (λ cell used. inl (used-more (mem_of side) (mem_of old.memory) old.child (mem_of old.kept) among cell used)) (omega arith) (omega arith)
+      (λ cell used. inl (used-more (mem_of side) (mem_of old.memory) old.child (mem_of old.kept) among cell used)) (omega arith)
+      (omega arith)
 
-still_there : (old : Sides) (side : Side) → side.pages ≡ old.memory.pages → (page : ℕ) → IsSome (get side.pages.present page) → IsSome (get old.memory.pages.present page)
+still_there : (old : Sides) (side : Side) → side.pages ≡ old.memory.pages → (page : ℕ) → IsSome (get side.pages.present page)
+    → IsSome (get old.memory.pages.present page)
 still_there old side pages page there = sym (ap (λ p. is_some (get p.present page)) pages) ∙ there
 
-pub map-side-flat : (old : Sides) (side : Side) (first n : ℕ) (perm : Perm) (r : Result (Unit {0}) AreaFault) → FlatHolds old → 0 < n → first + n ≤ 2 ^ 36
+pub map-side-flat : (old : Sides) (side : Side) (first n : ℕ) (perm : Perm) (r : Result (Unit {0}) AreaFault) → FlatHolds old → 0 < n
+    → first + n ≤ 2 ^ 36
     → SideChanges old.memory side r (map_of (mem_of old.memory) first n perm) → IsFlat (mem_of side)
-map-side-flat old side first n perm (Ok done) holds some within is = map-flat (mem_of old.memory) first n perm (mem_of side) holds.flat some within is.0
+map-side-flat old side first n perm (Ok done) holds some within is = map-flat (mem_of old.memory) first n perm (mem_of side) holds.flat some
+    within is.0
 map-side-flat old side first n perm (Err fault) holds some within is = subst (λ (s : Side). IsFlat (mem_of s)) (sym is.1) holds.flat
 
-pub protect-side-flat : (old : Sides) (side : Side) (first n : ℕ) (perm : Perm) (r : Result (Unit {0}) AreaFault) → FlatHolds old → 0 < n → first + n ≤ 2 ^ 36
+pub protect-side-flat : (old : Sides) (side : Side) (first n : ℕ) (perm : Perm) (r : Result (Unit {0}) AreaFault) → FlatHolds old → 0 < n
+    → first + n ≤ 2 ^ 36
     → SideChanges old.memory side r (protect_of (mem_of old.memory) first n perm) → IsFlat (mem_of side)
-protect-side-flat old side first n perm (Ok done) holds some within is = protect-flat (mem_of old.memory) first n perm (mem_of side) holds.flat some within is.0
+protect-side-flat old side first n perm (Ok done) holds some within is = protect-flat (mem_of old.memory) first n perm
+    (mem_of side) holds.flat some within is.0
 protect-side-flat old side first n perm (Err fault) holds some within is = subst (λ (s : Side). IsFlat (mem_of s)) (sym is.1) holds.flat
 
 pub unmap-side-flat : (old : Sides) (side : Side) (first n : ℕ) (r : Result (Unit {0}) AreaFault) → FlatHolds old → 0 < n
@@ -281,12 +306,14 @@ pub unmap-side-flat : (old : Sides) (side : Side) (first n : ℕ) (r : Result (U
 unmap-side-flat old side first n (Ok done) holds some is = unmap-flat (mem_of old.memory) first n (mem_of side) holds.flat some is.0
 unmap-side-flat old side first n (Err fault) holds some is = subst (λ (s : Side). IsFlat (mem_of s)) (sym is.1) holds.flat
 
-pub change-room : (old : Sides) (side : Side) (answer : Result FlatMemory Refusal) (r : Result (Unit {0}) AreaFault) → SideChanges old.memory side r answer → side.pages.room ≡ old.memory.pages.room
+pub change-room : (old : Sides) (side : Side) (answer : Result FlatMemory Refusal) (r : Result (Unit {0}) AreaFault)
+    → SideChanges old.memory side r answer → side.pages.room ≡ old.memory.pages.room
 change-room old side answer (Ok done) is = is.1
 change-room old side answer (Err fault) is = ap (λ (s : Side). s.pages.room) is.1
 
 -- an unmap leaves pages that were there
-pub left_there : (old : Sides) (side : Side) (first n : ℕ) (answer : Result FlatMemory Refusal) (r : Result (Unit {0}) AreaFault) → SideChanges old.memory side r answer
+pub left_there : (old : Sides) (side : Side) (first n : ℕ) (answer : Result FlatMemory Refusal) (r : Result (Unit {0}) AreaFault)
+    → SideChanges old.memory side r answer
     → OnOk r (side.pages ≡ record old.memory.pages { present = unmapped old.memory.pages.present first n })
     → (page : ℕ) → IsSome (get side.pages.present page) → IsSome (get old.memory.pages.present page)
 left_there old side first n answer (Ok done) is pages page there =
@@ -296,7 +323,8 @@ left_there old side first n answer (Ok done) is pages page there =
     kept : (beyond : Bool) (found : Option (List ℕ)) → is_some (cond beyond found None) ≡ true → is_some found ≡ true
     kept true found there = there
     kept false found there = absurd (false≢true there)
-left_there old side first n answer (Err fault) is pages page there = sym (ap (λ (s : Side). is_some (get s.pages.present page)) is.1) ∙ there
+left_there old side first n answer (Err fault) is pages page there = sym (ap (λ (s : Side). is_some (get s.pages.present page)) is.1)
+    ∙ there
 
 -- whether a page may only be read, by what it may be used for
 abbrev read_only_perm : Option Perm → Bool
@@ -308,7 +336,8 @@ read_only-perm None = refl
 read_only-perm (Some area) = refl
 
 -- a present page keeps what it may be used for where an area is mapped
-mapped_perms : (old : Sides) (side : Side) (first n : ℕ) (perm : Perm) → FlatHolds old → map_of (mem_of old.memory) first n perm ≡ Ok (mem_of side)
+mapped_perms : (old : Sides) (side : Side) (first n : ℕ) (perm : Perm) → FlatHolds old → map_of (mem_of old.memory) first n perm ≡ Ok
+    (mem_of side)
     → Sets old.memory.areas side.areas first n (Some perm) → (page : ℕ) → IsSome (get old.memory.pages.present page)
     → is_read_only (area_of side.areas page) ≡ is_read_only (area_of old.memory.areas page)
 mapped_perms old side first n perm holds is sets page there =
@@ -317,7 +346,8 @@ mapped_perms old side first n perm holds is sets page there =
       | inr beyond ↦ beyond
       | inl among ↦
           let parts = and_parts (leb first page) (ltb page (first + n)) among in
-          let none : area_of old.memory.areas page ≡ None = (taken-none old.memory.areas first n).0 free page (leb-true first page parts.0, ltb-true page (first + n) parts.1) in
+          let none : area_of old.memory.areas page ≡ None = (taken-none old.memory.areas first n).0 free page
+          (leb-true first page parts.0, ltb-true page (first + n) parts.1) in
           absurd (false≢true (sym (ap is_some none) ∙ holds.flat.in_areas page there))
     ] in
     read_only-perm (area_of side.areas page)
@@ -325,19 +355,25 @@ mapped_perms old side first n perm holds is sets page there =
     ∙ sym (read_only-perm (area_of old.memory.areas page))
 
 pub map-maps : (old : Sides) (side : Side) (first n : ℕ) (perm : Perm) (r : Result (Unit {0}) AreaFault) → FlatHolds old
-    → SideChanges old.memory side r (map_of (mem_of old.memory) first n perm) → OnOk r (Sets old.memory.areas side.areas first n (Some perm)) → side.pages ≡ old.memory.pages
+    → SideChanges old.memory side r (map_of (mem_of old.memory) first n perm)
+    → OnOk r (Sets old.memory.areas side.areas first n (Some perm)) → side.pages ≡ old.memory.pages
     → OnOk (fault_answer r) (Maps (memory_of old) (memory_of (record old { memory = side })) (map_answer (memory_of old) first n perm))
 map-maps old side first n perm (Err fault) holds is sets pages = tt
 map-maps old side first n perm (Ok done) holds is sets pages =
-    let alike : (page : ℕ) → is_some (get side.pages.present page) ≡ is_some (get old.memory.pages.present page) = λ page i. is_some (get (pages i).present page) in
-    (ap faulted is.0, λ i. record (memory_of old) {
-      mem = mem_of side;
-      room = (pages i).room;
-      used = used-same (mem_of side) (mem_of old.memory) old.child (mem_of old.kept) alike i;
-      ready = ready-same (mem_of side) (mem_of old.memory) alike (λ page there. mapped_perms old side first n perm holds is.0 sets page (sym (alike page) ∙ there)) i;
-    })
+    let alike : (page : ℕ) → is_some (get side.pages.present page) ≡ is_some (get old.memory.pages.present page) =
+    λ page i. is_some (get (pages i).present page) in (
+      ap faulted is.0,
+      λ i. record (memory_of old) {
+        mem = mem_of side;
+        room = (pages i).room;
+        used = used-same (mem_of side) (mem_of old.memory) old.child (mem_of old.kept) alike i;
+        ready = ready-same (mem_of side) (mem_of old.memory) alike
+            (λ page there. mapped_perms old side first n perm holds is.0 sets page (sym (alike page) ∙ there)) i;
+      },
+    )
 
-pub pages_still : (old : Sides) (side : Side) → side.pages ≡ old.memory.pages → (page : ℕ) → IsSome (get side.pages.present page) → IsSome (get old.memory.pages.present page)
+pub pages_still : (old : Sides) (side : Side) → side.pages ≡ old.memory.pages → (page : ℕ) → IsSome (get side.pages.present page)
+    → IsSome (get old.memory.pages.present page)
 pages_still old side pages page there = still_there old side pages page there
 
 -- ---- forking and reaping
@@ -349,23 +385,26 @@ fork-holds old new number holds f = record {
   room = subst (λ (side : Side). len side.pages.present ≤ side.pages.room) (sym f.memory) holds.room;
   same_room = f.room ∙ holds.same_room ∙ sym (ap (λ (side : Side). side.pages.room) f.memory);
   own = omega (arith, holds.own, f.most, ap (λ (side : Side). own_of (mem_of side)) f.memory);
-  given = λ n is. let same : number ≡ n = ap (λ o. unwrap_or o number) (sym f.child ∙ is) in (omega (arith, same, f.next), omega (arith, same, f.last));
+  given = λ n is. let same : number ≡ n = ap (λ o. unwrap_or o number) (sym f.child ∙ is) in
+      (omega (arith, same, f.next), omega (arith, same, f.last));
   last = omega (arith, f.last, f.small);
   counted = omega (arith, f.refused, holds.counted);
 }
 
 pub fork-leaves : (old new : Sides) (number : ℕ) → FlatHolds old → Forks old new number
     → LeavesMemory (memory_of old) (memory_of new) × IsKept (memory_of old) (memory_of new) []
-fork-leaves old new number holds f =
-    (record { mem = ap mem_of f.memory; most = f.most },
-     kept-from old new [] holds (fork-holds old new number holds f) (ap (λ (side : Side). side.pages.room) f.memory) used (omega (arith, f.refused)) (omega (arith, f.most)))
+fork-leaves old new number holds f = (
+  record { mem = ap mem_of f.memory; most = f.most },
+  kept-from old new [] holds (fork-holds old new number holds f) (ap (λ (side : Side). side.pages.room) f.memory) used
+      (omega (arith, f.refused)) (omega (arith, f.most)),
+)
   where
     used : (cell : ℕ) → IsIn cell (memory_of new).used → IsIn cell (memory_of old).used ⊎ IsListed cell []
     used cell is =
         let then : IsIn cell (used_cells (mem_of old.memory) (Some number) (mem_of old.memory)) =
-            subst (λ m. IsIn cell (used_cells (mem_of old.memory) (Some number) m)) f.kept
-            (subst (λ child. IsIn cell (used_cells (mem_of old.memory) child (mem_of new.kept))) f.child
-            (subst (λ (side : Side). IsIn cell (used_cells (mem_of side) new.child (mem_of new.kept))) f.memory is)) in
+        subst (λ m. IsIn cell (used_cells (mem_of old.memory) (Some number) m)) f.kept
+        (subst (λ child. IsIn cell (used_cells (mem_of old.memory) child (mem_of new.kept))) f.child
+        (subst (λ (side : Side). IsIn cell (used_cells (mem_of side) new.child (mem_of new.kept))) f.memory is)) in
         elim (in_used (mem_of old.memory) (Some number) (mem_of old.memory) cell then) [
           | inl own ↦ inl (used_by_memory (mem_of old.memory) old.child (mem_of old.kept) cell own)
           | inr its ↦ inl (used_by_memory (mem_of old.memory) old.child (mem_of old.kept) cell its)
@@ -377,10 +416,14 @@ still-kept sides holds = kept-from sides sides [] holds holds refl (λ cell used
 pub unforked-leaves : (old new : Sides) (fault : ForkFault) → FlatHolds old → ForkEnds old new (Err fault)
     → LeavesMemory (memory_of old) (memory_of new) × IsKept (memory_of old) (memory_of new) []
 unforked-leaves old new (NoFrameLeft at) holds e = absurd e
-unforked-leaves old new TooMany holds e = (record { mem = ap (λ (s : Sides). mem_of s.memory) e.1; most = ap (λ (s : Sides). s.most.value) e.1 },
-    subst (λ (s : Sides). IsKept (memory_of old) (memory_of s) []) (sym e.1) (still-kept old holds))
-unforked-leaves old new NumbersSpent holds e = (record { mem = ap (λ (s : Sides). mem_of s.memory) e.2; most = ap (λ (s : Sides). s.most.value) e.2 },
-    subst (λ (s : Sides). IsKept (memory_of old) (memory_of s) []) (sym e.2) (still-kept old holds))
+unforked-leaves old new TooMany holds e = (
+  record { mem = ap (λ (s : Sides). mem_of s.memory) e.1; most = ap (λ (s : Sides). s.most.value) e.1 },
+  subst (λ (s : Sides). IsKept (memory_of old) (memory_of s) []) (sym e.1) (still-kept old holds),
+)
+unforked-leaves old new NumbersSpent holds e = (
+  record { mem = ap (λ (s : Sides). mem_of s.memory) e.2; most = ap (λ (s : Sides). s.most.value) e.2 },
+  subst (λ (s : Sides). IsKept (memory_of old) (memory_of s) []) (sym e.2) (still-kept old holds),
+)
 
 pub reap-holds : (sides : Sides) → FlatHolds sides → FlatHolds (record sides { child = None })
 reap-holds sides holds = record {
@@ -395,10 +438,12 @@ reap-holds sides holds = record {
 }
 
 pub reap-leaves : (sides : Sides) → FlatHolds sides
-    → LeavesAtReap (memory_of sides) (memory_of (record sides { child = None })) × IsKept (memory_of sides) (memory_of (record sides { child = None })) []
-reap-leaves sides holds =
-    (record { mem = refl; most = refl; refused = refl; keeps = λ page ready. ready },
-     kept-from sides (record sides { child = None }) [] holds (reap-holds sides holds) refl used (omega arith) (omega arith))
+    → LeavesAtReap (memory_of sides) (memory_of (record sides { child = None }))
+    × IsKept (memory_of sides) (memory_of (record sides { child = None })) []
+reap-leaves sides holds = (
+  record { mem = refl; most = refl; refused = refl; keeps = λ page ready. ready },
+  kept-from sides (record sides { child = None }) [] holds (reap-holds sides holds) refl used (omega arith) (omega arith),
+)
   where
     used : (cell : ℕ) → IsIn cell (memory_of (record sides { child = None })).used → IsIn cell (memory_of sides).used ⊎ IsListed cell []
     used cell is = elim (in_used (mem_of sides.memory) None (mem_of sides.kept) cell is) [
@@ -426,24 +471,29 @@ none_lost : (cells : List ℕ) → first_found empty cells ≡ None
 none_lost [] = refl
 none_lost (cell ∷ cells) = ap (λ found. option_or found (first_found empty cells)) (get-empty nat_cmp cell) ∙ none_lost cells
 
-pub kept-read : (kept : FlatMemory) (address n : ℕ) (bytes : List ℕ) → outside kept.areas (page_of address) (page_count address n) ≡ None → bytes ≡ bytes_at kept.present address n
+pub kept-read : (kept : FlatMemory) (address n : ℕ) (bytes : List ℕ) → outside kept.areas (page_of address) (page_count address n) ≡ None
+    → bytes ≡ bytes_at kept.present address n
     → snapshot_answer (nest_of kept) address n ≡ Ok bytes
 kept-read kept address n bytes inside is =
-    ap (λ found. unless_fault OutsideThen found (unless_fault Lost (first_found empty (cells_of_range address n)) (Ok (bytes_at kept.present address n)))) inside
+    ap (λ found. unless_fault OutsideThen found
+    (unless_fault Lost (first_found empty (cells_of_range address n)) (Ok (bytes_at kept.present address n)))) inside
     ∙ ap (λ found. unless_fault Lost found (Ok (bytes_at kept.present address n))) (none_lost (cells_of_range address n)) ∙ ap Ok (sym is)
 
 -- ---- a new process
 
-pub new-holds : (memory kept : Side) (room last : ℕ) (sides : Sides) → memory.areas ≡ [] → memory.pages ≡ no_pages room → kept.areas ≡ [] → kept.pages ≡ no_pages room → last ≤ 4294967295
+pub new-holds : (memory kept : Side) (room last : ℕ) (sides : Sides) → memory.areas ≡ [] → memory.pages ≡ no_pages room → kept.areas ≡ []
+    → kept.pages ≡ no_pages room → last ≤ 4294967295
     → sides.memory ≡ memory → sides.kept ≡ kept → sides.child ≡ None → sides.last ≡ last → sides.refused ≡ 0 → FlatHolds sides
 new-holds memory kept room last sides areas pages kept_areas kept_pages small is its alone given unrefused =
     let none : mem_of sides.memory ≡ empty_memory = ap mem_of is ∙ (λ i. record { areas = areas i; present = (pages i).present }) in
-    let none_kept : mem_of sides.kept ≡ empty_memory = ap mem_of its ∙ (λ i. record { areas = kept_areas i; present = (kept_pages i).present }) in
+    let none_kept : mem_of sides.kept ≡ empty_memory = ap mem_of its
+    ∙ (λ i. record { areas = kept_areas i; present = (kept_pages i).present }) in
     record {
       flat = subst IsFlat (sym none) opening-flat;
       kept = subst IsFlat (sym none_kept) opening-flat;
       room = omega (arith, ap (λ (m : FlatMemory). len m.present) none ∙ len-empty nat_cmp (List ℕ));
-      same_room = ap (λ (s : Side). s.pages.room) its ∙ ap (λ (t : PageTable). t.room) kept_pages ∙ sym (ap (λ (s : Side). s.pages.room) is ∙ ap (λ (t : PageTable). t.room) pages);
+      same_room = ap (λ (s : Side). s.pages.room) its ∙ ap (λ (t : PageTable). t.room) kept_pages
+          ∙ sym (ap (λ (s : Side). s.pages.room) is ∙ ap (λ (t : PageTable). t.room) pages);
       own = omega (arith, ap own_of none ∙ own-empty);
       given = λ n there. absurd (false≢true (ap is_some (sym alone ∙ there)));
       last = omega (arith, given, small);

@@ -23,7 +23,8 @@ holds-memory sides holds = record {
   flat = holds.flat;
   room = holds.room;
   own = holds.own;
-  used = λ page there. used_by_memory (mem_of sides.memory) sides.child (mem_of sides.kept) (cell_of page) (cell-there (mem_of sides.memory) page there);
+  used = λ page there. used_by_memory (mem_of sides.memory) sides.child (mem_of sides.kept) (cell_of page)
+      (cell-there (mem_of sides.memory) page there);
   slots = few-below all_slots (memory_of sides).used (used-low (mem_of sides.memory) sides.child (mem_of sides.kept) holds.flat holds.kept);
   present = λ page ready. ready-there (mem_of sides.memory) page ready;
   writable = λ page ready. ready-writable (mem_of sides.memory) page ready;
@@ -32,7 +33,8 @@ holds-memory sides holds = record {
 
 -- what a call keeps that gives slots to these cells
 pub kept-from : (old new : Sides) (cells : List ℕ) → FlatHolds old → FlatHolds new → new.memory.pages.room ≡ old.memory.pages.room
-    → ((cell : ℕ) → IsIn cell (memory_of new).used → IsIn cell (memory_of old).used ⊎ IsListed cell cells) → old.refused ≤ new.refused → old.most.value ≤ new.most.value
+    → ((cell : ℕ) → IsIn cell (memory_of new).used → IsIn cell (memory_of old).used ⊎ IsListed cell cells) → old.refused ≤ new.refused
+    → old.most.value ≤ new.most.value
     → IsKept (memory_of old) (memory_of new) cells
 kept-from old new cells before after room used counted grown = record {
   before = holds-memory old before;
@@ -61,10 +63,12 @@ range-low address n within cell listed =
     ]
 
 -- the slots suffice
-pub slots-suffice : (sides : Sides) (address n : ℕ) → FlatHolds sides → address + n ≤ 2 ^ 48 → is_out_of_slots (memory_of sides) address n ≡ false
+pub slots-suffice : (sides : Sides) (address n : ℕ) → FlatHolds sides → address + n ≤ 2 ^ 48
+    → is_out_of_slots (memory_of sides) address n ≡ false
 slots-suffice sides address n holds within = slots-below (memory_of sides) address n all_slots
     (used-low (mem_of sides.memory) sides.child (mem_of sides.kept) holds.flat holds.kept) (range-low address n within) (omega arith)
 
 -- so the areas alone refuse a touch
-pub judged-answer : (sides : Sides) (address n : ℕ) → FlatHolds sides → address + n ≤ 2 ^ 48 → touch_answer (memory_of sides) address n ≡ faulted (touch_of (mem_of sides.memory) address n)
+pub judged-answer : (sides : Sides) (address n : ℕ) → FlatHolds sides → address + n ≤ 2 ^ 48
+    → touch_answer (memory_of sides) address n ≡ faulted (touch_of (mem_of sides.memory) address n)
 judged-answer sides address n holds within = touch_answer-areas (memory_of sides) address n (slots-suffice sides address n holds within)

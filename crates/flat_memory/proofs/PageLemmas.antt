@@ -38,7 +38,8 @@ pub sorted-where : (es : List Numbered) → AreSorted es → (p : ℕ → Bool) 
 sorted-where es sorted p = is_sorted-where_key nat_cmp p es sorted
 
 pub map-where : (es : List Numbered) → AreSorted es → (p : ℕ → Bool) → map_of (where_key nat_cmp p es) ≡ retain_keys (map_of es) p
-map-where es sorted p = same_numbered _ _ (λ q. get-map (where_key nat_cmp p es) (sorted-where es sorted p) q ∙ find-where_key nat_cmp p q (alike p q) es
+map-where es sorted p = same_numbered _ _ (λ q. get-map (where_key nat_cmp p es) (sorted-where es sorted p) q
+    ∙ find-where_key nat_cmp p q (alike p q) es
     ∙ sym (get-retain_keys (map_of es) p q (alike p q) ∙ ap (λ found. cond (p q) found None) (get-map es sorted q)))
 
 -- ---- a page is added
@@ -48,35 +49,48 @@ pub added : (es : List Numbered) (page place : ℕ) (v : List ℕ) → AreSorted
 added es page place v sorted is absent =
     let none : find nat_cmp page es ≡ None = sym (get-map es sorted page) ∙ absent in
     sym (put-between es place page v is.within is.below (λ k d from inside.
-        let at_least : page ≤ (get_or es k d).0 = is.above k d from inside in
-        let apart : (get_or es k d).0 ≢ page = apart_from_none es (true_from _ sorted) page none k d inside in
-        elim (cases_lt page (get_or es k d).0) [ inl more ↦ more | inr less ↦ absurd (apart (omega (arith, at_least, less))) ]))
+    let at_least : page ≤ (get_or es k d).0 = is.above k d from inside in
+    let apart : (get_or es k d).0 ≢ page = apart_from_none es (true_from _ sorted) page none k d inside in
+    elim (cases_lt page (get_or es k d).0) [ inl more ↦ more | inr less ↦ absurd (apart (omega (arith, at_least, less))) ]))
 
 -- ---- a page is written
 
 -- a present page stands at its place
-pub place_inside : (es : List Numbered) (page place : ℕ) → AreSorted es → IsPlace es page place → IsSome (get (map_of es) page) → place < length es
+pub place_inside : (es : List Numbered) (page place : ℕ) → AreSorted es → IsPlace es page place → IsSome (get (map_of es) page)
+    → place < length es
 place_inside es page place sorted is there = elim (cases_lt place (length es)) [
   | inl inside ↦ inside
-  | inr past ↦ absurd (false≢true (ap is_some (sym (get-map es sorted page ∙ found_none es page place sorted is (λ inside d. absurd (omega (arith, inside, past))))) ∙ there))
+  | inr past ↦
+      absurd (false≢true
+      (ap is_some (sym (get-map es sorted page ∙ found_none es page place sorted is (λ inside d. absurd (omega (arith, inside, past)))))
+      ∙ there))
 ]
 
-pub place_its : (es : List Numbered) (page place : ℕ) → AreSorted es → IsPlace es page place → IsSome (get (map_of es) page) → (d : Numbered) → (get_or es place d).0 ≡ page
+pub place_its : (es : List Numbered) (page place : ℕ) → AreSorted es → IsPlace es page place → IsSome (get (map_of es) page)
+    → (d : Numbered) → (get_or es place d).0 ≡ page
 place_its es page place sorted is there d = elim (cases_eq (get_or es place d).0 page) [
   | inl same ↦ same
-  | inr apart ↦ absurd (false≢true (ap is_some (sym (get-map es sorted page ∙ found_none es page place sorted is (λ inside e same. apart (ap (λ x. x.0) (other inside e) ∙ same)))) ∙ there))
+  | inr apart ↦
+      absurd (false≢true
+      (ap is_some
+      (sym (get-map es sorted page ∙ found_none es page place sorted is (λ inside e same. apart (ap (λ x. x.0) (other inside e) ∙ same))))
+      ∙ there))
 ]
   where
     other : place < length es → (e : Numbered) → get_or es place d ≡ get_or es place e
     other inside e = get_or_default es place d e inside
 
-pub written : (es : List Numbered) (page place at : ℕ) (bytes : List ℕ) (old new : Numbered) → AreSorted es → IsPlace es page place → IsSome (get (map_of es) page)
-    → old ≡ get_or es place old → new ≡ (old.0, spliced old.1 at bytes) → set es place new ≡ put nat_cmp page (spliced (page_at (map_of es) page) at bytes) es
+pub written : (es : List Numbered) (page place at : ℕ) (bytes : List ℕ) (old new : Numbered) → AreSorted es → IsPlace es page place
+    → IsSome (get (map_of es) page)
+    → old ≡ get_or es place old → new ≡ (old.0, spliced old.1 at bytes) → set es place new ≡ put nat_cmp page
+    (spliced (page_at (map_of es) page) at bytes) es
 written es page place at bytes old new sorted is there read wrote =
     let inside : place < length es = place_inside es page place sorted is there in
     let its : (get_or es place old).0 ≡ page = place_its es page place sorted is there old in
-    let held : page_at (map_of es) page ≡ old.1 = ap (λ found. unwrap_or found []) (get-map es sorted page ∙ find-here es (true_from _ sorted) place old page inside its) ∙ ap (λ e. e.1) (sym read) in
-    ap (set es place) (wrote ∙ ap (λ n. (n, spliced old.1 at bytes)) (ap (λ e. e.0) read ∙ its) ∙ ap (λ b. (page, spliced b at bytes)) (sym held))
+    let held : page_at (map_of es) page ≡ old.1 = ap (λ found. unwrap_or found [])
+    (get-map es sorted page ∙ find-here es (true_from _ sorted) place old page inside its) ∙ ap (λ e. e.1) (sym read) in
+    ap (set es place) (wrote ∙ ap (λ n. (n, spliced old.1 at bytes)) (ap (λ e. e.0) read ∙ its) ∙ ap (λ b. (page, spliced b at bytes))
+    (sym held))
     ∙ sym (put-here es (true_from _ sorted) place old page (spliced (page_at (map_of es) page) at bytes) inside its)
 
 -- ---- the rest

@@ -28,7 +28,8 @@ length-part done piece xs fits =
     ap (λ n. length (take n (drop done xs))) k ∙ length-take-le piece (drop done xs) room
 
 -- a piece read behind the bytes so far
-pub read-more : (pages : PageMap) (addr done piece : ℕ) (buf new : List ℕ) → done + piece ≤ length buf → length new ≡ length (mid_of done (done + piece - done) buf)
+pub read-more : (pages : PageMap) (addr done piece : ℕ) (buf new : List ℕ) → done + piece ≤ length buf
+    → length new ≡ length (mid_of done (done + piece - done) buf)
     → new ≡ bytes_at pages (addr + done) (length (mid_of done (done + piece - done) buf)) → take done buf ≡ bytes_at pages addr done
     → take (done + piece) (put_mid done (done + piece - done) buf new) ≡ bytes_at pages addr (done + piece)
 read-more pages addr done piece buf new fits size read before =
@@ -47,7 +48,8 @@ longer_range page address k n le among = elim (cases_eq k 0) [
       absurd (omega (arith, nothing, among.0, among.1))
   | inr some ↦
       let short : page_count address k ≡ page_of (address + k - 1) + 1 - page_of address = cond-false (eqb k 0) 0 _ (ne_eqb k 0 some) in
-      let long : page_count address n ≡ page_of (address + n - 1) + 1 - page_of address = cond-false (eqb n 0) 0 _ (ne_eqb n 0 (λ none. some (omega (arith, none, le)))) in
+      let long : page_count address n ≡ page_of (address + n - 1) + 1 - page_of address =
+      cond-false (eqb n 0) 0 _ (ne_eqb n 0 (λ none. some (omega (arith, none, le)))) in
       (among.0, omega (arith, short, long, among.0, among.1, le, some))
 ]
 
@@ -55,7 +57,8 @@ pub some_of_full : (found : Option (List ℕ)) → length (unwrap_or found []) �
 some_of_full None full = absurd (omega (arith, full))
 some_of_full (Some bytes) full = refl
 
-module _ (present : PageMap) (addr done piece : ℕ) (bytes : List ℕ) (full : AreFullPages present addr (length bytes)) (fits : done + piece ≤ length bytes) (some : 0 < piece) where
+module _ (present : PageMap) (addr done piece : ℕ) (bytes : List ℕ) (full : AreFullPages present addr (length bytes))
+    (fits : done + piece ≤ length bytes) (some : 0 < piece) where
   abbrev so_far : PageMap
   so_far = with_bytes present addr (take done bytes)
 
@@ -83,15 +86,18 @@ module _ (present : PageMap) (addr done piece : ℕ) (bytes : List ℕ) (full : 
       let size : length part ≡ piece = ap length is ∙ length-part done piece bytes fits in
       let here : done + piece - done ≡ piece = omega arith in
       let whole : take (done + piece) bytes ≡ take done bytes ++ part =
-          sym (take-append-drop done (take (done + piece) bytes)) ∙ ap (λ f. f ++ drop done (take (done + piece) bytes)) (take-take done (done + piece) bytes (omega arith))
-          ∙ ap (λ b. take done bytes ++ b) (drop-take done piece bytes ∙ sym (is ∙ ap (λ n. take n (drop done bytes)) here)) in
+      sym (take-append-drop done (take (done + piece) bytes)) ∙ ap (λ f. f ++ drop done (take (done + piece) bytes))
+      (take-take done (done + piece) bytes (omega arith))
+      ∙ ap (λ b. take done bytes ++ b) (drop-take done piece bytes ∙ sym (is ∙ ap (λ n. take n (drop done bytes)) here)) in
       sym (ap (with_bytes present addr) whole ∙ with_bytes-append present addr (take done bytes) part
       ∙ ap (λ n. with_bytes so_far (addr + n) part) front
-      ∙ with_bytes_in so_far (addr + done) part (page_at so_far (page_of (addr + done))) (some_of_full (get so_far (page_of (addr + done))) still_full) still_full (omega (arith, size, room)))
+      ∙ with_bytes_in so_far (addr + done) part (page_at so_far (page_of (addr + done)))
+      (some_of_full (get so_far (page_of (addr + done))) still_full) still_full (omega (arith, size, room)))
 
 -- ---- touching
 
-pub with_pages-split : (j k : ℕ) (present : PageMap) (first : ℕ) → with_pages present first (j + k) ≡ with_pages (with_pages present first j) (first + j) k
+pub with_pages-split : (j k : ℕ) (present : PageMap) (first : ℕ) → with_pages present first (j + k) ≡ with_pages
+    (with_pages present first j) (first + j) k
 with_pages-split zero k present first =
     let none : zero + k ≡ k = omega arith in
     let here : first ≡ first + zero = omega arith in
@@ -103,37 +109,47 @@ with_pages-split (suc j) k present first =
     ∙ ap (λ f. with_pages (with_pages (with_page present first) (first + 1) j) f k) further
 
 -- one page more
-pub with_pages-more : (present : PageMap) (first page : ℕ) → first ≤ page → with_pages present first (page + 1 - first) ≡ with_page (with_pages present first (page - first)) page
+pub with_pages-more : (present : PageMap) (first page : ℕ) → first ≤ page → with_pages present first (page + 1 - first) ≡ with_page
+    (with_pages present first (page - first)) page
 with_pages-more present first page le =
     let count : page + 1 - first ≡ page - first + 1 = omega (arith, le) in
     let here : first + (page - first) ≡ page = omega (arith, le) in
-    ap (with_pages present first) count ∙ with_pages-split (page - first) 1 present first ∙ ap (with_page (with_pages present first (page - first))) here
+    ap (with_pages present first) count ∙ with_pages-split (page - first) 1 present first
+    ∙ ap (with_page (with_pages present first (page - first))) here
 
 -- a page is as it was while those below it were touched
 pub not_yet : (present : PageMap) (first page : ℕ) → first ≤ page → get (with_pages present first (page - first)) page ≡ get present page
 not_yet present first page le = get-with_pages_beyond present first (page - first) page (inr (omega (arith, le)))
 
 -- a page that is there takes no room
-pub len-there : (present : PageMap) (first page : ℕ) → first ≤ page → is_some (get present page) ≡ true → len (with_pages present first (page + 1 - first)) ≡ len (with_pages present first (page - first))
+pub len-there : (present : PageMap) (first page : ℕ) → first ≤ page → is_some (get present page) ≡ true
+    → len (with_pages present first (page + 1 - first)) ≡ len (with_pages present first (page - first))
 len-there present first page le there =
-    ap len (with_pages-more present first page le ∙ with_page_there (with_pages present first (page - first)) page (ap is_some (not_yet present first page le) ∙ there))
+    ap len (with_pages-more present first page le ∙ with_page_there (with_pages present first (page - first)) page
+    (ap is_some (not_yet present first page le) ∙ there))
 
 -- an absent one takes one
-pub len-absent : (present : PageMap) (first page : ℕ) → first ≤ page → is_some (get present page) ≡ false → len (with_pages present first (page + 1 - first)) ≡ len (with_pages present first (page - first)) + 1
+pub len-absent : (present : PageMap) (first page : ℕ) → first ≤ page → is_some (get present page) ≡ false
+    → len (with_pages present first (page + 1 - first)) ≡ len (with_pages present first (page - first)) + 1
 len-absent present first page le absent =
-    let missing : is_some (get (with_pages present first (page - first)) page) ≡ false = ap is_some (not_yet present first page le) ∙ absent in
+    let missing : is_some (get (with_pages present first (page - first)) page) ≡ false = ap is_some (not_yet present first page le)
+    ∙ absent in
     ap len (with_pages-more present first page le ∙ with_page_absent (with_pages present first (page - first)) page missing)
     ∙ len-insert nat_cmp_total (with_pages present first (page - first)) page zero_page
     ∙ cond-false (is_some (get (with_pages present first (page - first)) page)) _ _ missing
 
 -- the pages up to one take no more room than all
-pub len-part : (present : PageMap) (first page count : ℕ) → first ≤ page → page < first + count → len (with_page (with_pages present first (page - first)) page) ≤ len (with_pages present first count)
+pub len-part : (present : PageMap) (first page count : ℕ) → first ≤ page → page < first + count
+    → len (with_page (with_pages present first (page - first)) page) ≤ len (with_pages present first count)
 len-part present first page count le lt =
     let both : page + 1 - first + (first + count - (page + 1)) ≡ count = omega (arith, le, lt) in
-    let whole : with_pages (with_pages present first (page + 1 - first)) (first + (page + 1 - first)) (first + count - (page + 1)) ≡ with_pages present first count =
-        sym (with_pages-split (page + 1 - first) (first + count - (page + 1)) present first) ∙ ap (with_pages present first) both in
-    let grows = len-le (with_pages present first (page + 1 - first)) (with_pages (with_pages present first (page + 1 - first)) (first + (page + 1 - first)) (first + count - (page + 1)))
-        (λ q there. kept-with_pages (first + count - (page + 1)) (with_pages present first (page + 1 - first)) (first + (page + 1 - first)) q there) in
+    let whole : with_pages (with_pages present first (page + 1 - first)) (first + (page + 1 - first)) (first + count - (page + 1)) ≡
+    with_pages present first count =
+    sym (with_pages-split (page + 1 - first) (first + count - (page + 1)) present first) ∙ ap (with_pages present first) both in
+    let grows = len-le (with_pages present first (page + 1 - first))
+    (with_pages (with_pages present first (page + 1 - first)) (first + (page + 1 - first)) (first + count - (page + 1)))
+    (λ q there. kept-with_pages (first + count - (page + 1)) (with_pages present first (page + 1 - first)) (first + (page + 1 - first)) q
+    there) in
     omega (arith, grows, ap len whole, ap len (with_pages-more present first page le))
 
 none_of : (found : Option (List ℕ)) → is_some found ≡ false → found ≡ None

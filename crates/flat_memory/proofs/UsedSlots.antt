@@ -43,7 +43,8 @@ among_keys cell (k ∷ ks) there = elim (either (eqb cell (cell_of k)) (member c
 ]
 
 -- a cell of the memory has a present page
-pub page-there : (memory : FlatMemory) (cell : ℕ) → IsListed cell (cells_of memory) → (page : ℕ) × (IsSome (get memory.present page) × (cell_of page ≡ cell))
+pub page-there : (memory : FlatMemory) (cell : ℕ) → IsListed cell (cells_of memory) → (page : ℕ)
+    × (IsSome (get memory.present page) × (cell_of page ≡ cell))
 page-there memory cell listed =
     let found = among_keys cell (keys memory.present) (sym (listed-member (cells_of memory) cell) ∙ listed) in
     (found.0, (sym (member-keys memory.present found.0) ∙ found.1.0, found.1.1))
@@ -55,7 +56,8 @@ cells-more few more among cell listed =
     let its = page-there few cell listed in
     subst (λ c. IsListed c (cells_of more)) its.1.1 (cell-there more its.0 (among its.0 its.1.0))
 
-pub used-more : (few more : FlatMemory) (child : Option ℕ) (kept : FlatMemory) → ((page : ℕ) → IsSome (get few.present page) → IsSome (get more.present page)) → (cell : ℕ)
+pub used-more : (few more : FlatMemory) (child : Option ℕ) (kept : FlatMemory)
+    → ((page : ℕ) → IsSome (get few.present page) → IsSome (get more.present page)) → (cell : ℕ)
     → IsIn cell (used_cells few child kept) → IsIn cell (used_cells more child kept)
 used-more few more child kept among cell used = elim (in_used few child kept cell used) [
   | inl own ↦ used_by_memory more child kept cell (cells-more few more among cell own)
@@ -68,7 +70,8 @@ both_true false true there back = back refl
 both_true false false there back = refl
 
 -- memories with the same pages use the same slots
-pub used-same : (one other : FlatMemory) (child : Option ℕ) (kept : FlatMemory) → ((page : ℕ) → is_some (get one.present page) ≡ is_some (get other.present page))
+pub used-same : (one other : FlatMemory) (child : Option ℕ) (kept : FlatMemory)
+    → ((page : ℕ) → is_some (get one.present page) ≡ is_some (get other.present page))
     → used_cells one child kept ≡ used_cells other child kept
 used-same one other child kept alike = set.same_set nat_cmp_total nat_cmp-IsAntisymmetric _ _ (λ cell. both_true _ _
     (used-more one other child kept (λ page there. sym (alike page) ∙ there) cell)
@@ -81,7 +84,8 @@ cell-low memory flat cell listed =
     let low : its.0 < 2 ^ 36 = flat.low its.0 (flat.in_areas its.0 its.1.0) in
     omega (arith, low, its.1.1)
 
-pub used-low : (memory : FlatMemory) (child : Option ℕ) (kept : FlatMemory) → IsFlat memory → IsFlat kept → (cell : ℕ) → IsIn cell (used_cells memory child kept) → cell < 2 ^ 27
+pub used-low : (memory : FlatMemory) (child : Option ℕ) (kept : FlatMemory) → IsFlat memory → IsFlat kept → (cell : ℕ)
+    → IsIn cell (used_cells memory child kept) → cell < 2 ^ 27
 used-low memory child kept flat kept_flat cell used = elim (in_used memory child kept cell used) [
   | inl own ↦ cell-low memory flat cell own
   | inr its ↦ cell-low kept kept_flat cell (by child its)
@@ -94,7 +98,8 @@ used-low memory child kept flat kept_flat cell used = elim (in_used memory child
 -- a set of numbers below a limit is no larger than the limit
 pub few-below : (limit : ℕ) (numbers : Numbers) → ((n : ℕ) → IsIn n numbers → n < limit) → set.len numbers ≤ limit
 few-below limit numbers low =
-    let few = len-among (range_with_len 0 limit) numbers (λ n there. listed-range limit 0 n (omega arith) (let less : n < limit = low n there in omega (arith, less))) in
+    let few = len-among (range_with_len 0 limit) numbers
+    (λ n there. listed-range limit 0 n (omega arith) (let less : n < limit = low n there in omega (arith, less))) in
     omega (arith, few, length-range_with_len 0 limit)
 
 -- ---- pages that may be stored to
@@ -108,40 +113,50 @@ listed-filter p [] n = none (p n)
 listed-filter p (k ∷ ks) n = elim (cases_Bool (p k)) [
   | inl passes ↦ ap (member n) (cond-true (p k) (k ∷ filter p ks) (filter p ks) passes) ∙ ap (λ b. eqb n k || b) (listed-filter p ks n)
       ∙ elim (cases_Bool (eqb n k)) [
-        | inl same ↦ ap (λ b. b || (p n && member n ks)) same ∙ sym (ap (λ b. b && (eqb n k || member n ks)) (ap p (eqb-true n k same) ∙ passes) ∙ ap (λ b. b || member n ks) same)
+        | inl same ↦ ap (λ b. b || (p n && member n ks)) same
+            ∙ sym (ap (λ b. b && (eqb n k || member n ks)) (ap p (eqb-true n k same) ∙ passes) ∙ ap (λ b. b || member n ks) same)
         | inr apart ↦ ap (λ b. b || (p n && member n ks)) apart ∙ sym (ap (λ b. p n && (b || member n ks)) apart)
       ]
   | inr fails ↦ ap (member n) (cond-false (p k) (k ∷ filter p ks) (filter p ks) fails) ∙ listed-filter p ks n
       ∙ elim (cases_Bool (eqb n k)) [
-        | inl same ↦ ap (λ b. b && member n ks) (ap p (eqb-true n k same) ∙ fails) ∙ sym (ap (λ b. b && (eqb n k || member n ks)) (ap p (eqb-true n k same) ∙ fails))
+        | inl same ↦ ap (λ b. b && member n ks) (ap p (eqb-true n k same) ∙ fails)
+            ∙ sym (ap (λ b. b && (eqb n k || member n ks)) (ap p (eqb-true n k same) ∙ fails))
         | inr apart ↦ sym (ap (λ b. p n && (b || member n ks)) apart)
       ]
 ]
 
-pub contains-ready : (memory : FlatMemory) (page : ℕ) → set.contains (ready_pages memory) page ≡ (may_write memory.areas page && is_some (get memory.present page))
+pub contains-ready : (memory : FlatMemory) (page : ℕ) → set.contains (ready_pages memory) page ≡
+    (may_write memory.areas page && is_some (get memory.present page))
 contains-ready memory page =
-    set.contains-from_list_nat (filter (may_write memory.areas) (keys memory.present)) page ∙ listed-member (filter (may_write memory.areas) (keys memory.present)) page
-    ∙ listed-filter (may_write memory.areas) (keys memory.present) page ∙ ap (λ b. may_write memory.areas page && b) (member-keys memory.present page)
+    set.contains-from_list_nat (filter (may_write memory.areas) (keys memory.present)) page
+    ∙ listed-member (filter (may_write memory.areas) (keys memory.present)) page
+    ∙ listed-filter (may_write memory.areas) (keys memory.present) page ∙ ap (λ b. may_write memory.areas page && b)
+    (member-keys memory.present page)
 
 -- a page that may be stored to is present, and lies in no area that may only be read
 pub ready-there : (memory : FlatMemory) (page : ℕ) → IsIn page (ready_pages memory) → IsSome (get memory.present page)
-ready-there memory page ready = (and_parts (may_write memory.areas page) (is_some (get memory.present page)) (sym (contains-ready memory page) ∙ ready)).1
+ready-there memory page ready =
+    (and_parts (may_write memory.areas page) (is_some (get memory.present page)) (sym (contains-ready memory page) ∙ ready)).1
 
 pub ready-writable : (memory : FlatMemory) (page : ℕ) → IsIn page (ready_pages memory) → is_read_only (area_of memory.areas page) ≡ false
-ready-writable memory page ready = unturned _ (and_parts (may_write memory.areas page) (is_some (get memory.present page)) (sym (contains-ready memory page) ∙ ready)).0
+ready-writable memory page ready =
+    unturned _ (and_parts (may_write memory.areas page) (is_some (get memory.present page)) (sym (contains-ready memory page) ∙ ready)).0
   where
     unturned : (b : Bool) → not b ≡ true → b ≡ false
     unturned true is = absurd (false≢true is)
     unturned false is = refl
 
-pub ready-from : (memory : FlatMemory) (page : ℕ) → is_read_only (area_of memory.areas page) ≡ false → IsSome (get memory.present page) → IsIn page (ready_pages memory)
+pub ready-from : (memory : FlatMemory) (page : ℕ) → is_read_only (area_of memory.areas page) ≡ false → IsSome (get memory.present page)
+    → IsIn page (ready_pages memory)
 ready-from memory page writable there =
     contains-ready memory page ∙ and_from (may_write memory.areas page) (is_some (get memory.present page)) (ap not writable) there
 
 -- memories with the same pages, of which the same may be written, have the same ones ready
 pub ready-same : (one other : FlatMemory) → ((page : ℕ) → is_some (get one.present page) ≡ is_some (get other.present page))
-    → ((page : ℕ) → IsSome (get one.present page) → is_read_only (area_of one.areas page) ≡ is_read_only (area_of other.areas page)) → ready_pages one ≡ ready_pages other
+    → ((page : ℕ) → IsSome (get one.present page) → is_read_only (area_of one.areas page) ≡ is_read_only (area_of other.areas page))
+    → ready_pages one ≡ ready_pages other
 ready-same one other alike perms = set.same_set nat_cmp_total nat_cmp-IsAntisymmetric _ _ (λ page. both_true _ _
-    (λ ready. ready-from other page (sym (perms page (ready-there one page ready)) ∙ ready-writable one page ready) (sym (alike page) ∙ ready-there one page ready))
+    (λ ready. ready-from other page (sym (perms page (ready-there one page ready)) ∙ ready-writable one page ready)
+    (sym (alike page) ∙ ready-there one page ready))
     (λ ready. let there : IsSome (get one.present page) = alike page ∙ ready-there other page ready in
-        ready-from one page (perms page there ∙ ready-writable other page ready) there))
+    ready-from one page (perms page there ∙ ready-writable other page ready) there))

@@ -15,10 +15,12 @@ AreSorted entries = T (is_sorted nat_cmp entries)
 pub record IsPlace (entries : List Numbered) (page place : ℕ) : Type 0 where
   pub within : place ≤ length entries
   pub below : (k : ℕ) (d : Numbered) → k < place → (slice_index_or entries k d).0 < page
-  pub above : (k : ℕ) (d : Numbered) → place ≤ k → k < length entries → page ≤ (slice_index_or entries k d).0
+  pub above : (k : ℕ) (d : Numbered) → place ≤ k → k < length entries
+      → page ≤ (slice_index_or entries k d).0
 
 -- the entry at this place is that of the page; or else there is none
 abbrev pub FoundAt : List Numbered → ℕ → Option ℕ → Type 0
 FoundAt entries page None = find nat_cmp page entries ≡ None
-FoundAt entries page (Some place) = (place < length entries) × ((d : Numbered) → find nat_cmp page entries ≡ Some (slice_index_or entries place d).1)
+FoundAt entries page (Some place) = (place < length entries)
+    × ((d : Numbered) → find nat_cmp page entries ≡ Some (slice_index_or entries place d).1)
     × ((d : Numbered) → (slice_index_or entries place d).0 ≡ page)

@@ -22,20 +22,29 @@ IsFlat-prop : (memory : FlatMemory) → IsProp (IsFlat memory)
 IsFlat-prop memory a b = λ i. record {
   in_order = AreInOrder-prop memory.areas a.in_order b.in_order i;
   few = le_prop a.few b.few i;
-  bytes = λ page bytes there k d within. le_prop (a.bytes page bytes there k d within) (b.bytes page bytes there k d within) i;
-  whole = λ page bytes there. Coded-set coded_ℕ (length bytes) 4096 (a.whole page bytes there) (b.whole page bytes there) i;
+  bytes = λ page bytes there k d within. le_prop (a.bytes page bytes there k d within)
+      (b.bytes page bytes there k d within) i;
+  whole = λ page bytes there. Coded-set coded_ℕ (length bytes) 4096 (a.whole page bytes there)
+      (b.whole page bytes there) i;
   low = λ page inside. le_prop (a.low page inside) (b.low page inside) i;
-  in_areas = λ page there. Coded-set coded_bool (is_some (area_of memory.areas page)) true (a.in_areas page there) (b.in_areas page there) i;
+  in_areas = λ page there. Coded-set coded_bool (is_some (area_of memory.areas page)) true
+      (a.in_areas page there) (b.in_areas page there) i;
 }
 
+-- of two proofs of what holds of a process each is the other
 pub FlatHolds-prop : (sides : Sides) → IsProp (FlatHolds sides)
 FlatHolds-prop sides a b = λ i. record {
   flat = IsFlat-prop (mem_of sides.memory) a.flat b.flat i;
   kept = IsFlat-prop (mem_of sides.kept) a.kept b.kept i;
   room = le_prop a.room b.room i;
-  same_room = Coded-set coded_ℕ sides.kept.pages.room sides.memory.pages.room a.same_room b.same_room i;
+  same_room = Coded-set coded_ℕ sides.kept.pages.room sides.memory.pages.room a.same_room
+      b.same_room i;
   own = le_prop a.own b.own i;
-  given = λ number is. (le_prop (a.given number is).0 (b.given number is).0 i, le_prop (a.given number is).1 (b.given number is).1 i);
+  given = λ number is. (
+    le_prop (a.given number is).0 (b.given number is).0 i,
+    le_prop
+        (a.given number is).1 (b.given number is).1 i,
+  );
   last = le_prop a.last b.last i;
   counted = le_prop a.counted b.counted i;
 }

@@ -44,6 +44,7 @@ used_cells memory child kept = set.from_list (cells_of memory ++ kept_cells chil
 abbrev pub all_slots : ℕ
 all_slots = 2 ^ 27
 
+-- the process as a memory, of which it is not told how many frames are enough
 abbrev pub memory_of : Sides → MemoryState
 memory_of sides = record {
   mem = mem_of sides.memory;
@@ -84,7 +85,10 @@ pub record KeepsChild (old new : Sides) : Type 0 where
 pub record TouchesRange (old new : Sides) (address n : ℕ) : Type 0 where
   pub granted : touch_of (mem_of old.memory) address n ≡ Ok (touched (mem_of old.memory) address n)
   pub fits : len (touched (mem_of old.memory) address n).present ≤ old.memory.pages.room
-  pub memory : new.memory ≡ record old.memory { pages = record old.memory.pages { present = (touched (mem_of old.memory) address n).present } }
+  pub memory : new.memory ≡ record old.memory {
+    pages =
+        record old.memory.pages { present = (touched (mem_of old.memory) address n).present };
+  }
   pub refused : new.refused ≡ old.refused
   pub most : new.most.value ≡ most_asked old.most.value old.memory address n
   pub others : KeepsChild old new
@@ -94,7 +98,8 @@ pub record LacksPage (old new : Sides) (address n at page : ℕ) : Type 0 where
   pub granted : touch_of (mem_of old.memory) address n ≡ Ok (touched (mem_of old.memory) address n)
   pub range : IsInRange page address n
   pub absent : get old.memory.pages.present page ≡ None
-  pub full : len (with_pages old.memory.pages.present (page_of address) (page - page_of address)) ≡ old.memory.pages.room
+  pub full : len (with_pages old.memory.pages.present (page_of address) (page - page_of address)) ≡
+      old.memory.pages.room
   pub memory : new.memory ≡ old.memory
   pub refused : new.refused ≡ next_count old.refused
   pub told : at ≡ new.refused
@@ -105,8 +110,10 @@ pub record LacksPage (old new : Sides) (address n at page : ℕ) : Type 0 where
 abbrev pub TouchEnds : Sides → Sides → ℕ → ℕ → Result (Unit {0}) Fault → Type 0
 TouchEnds old new address n (Ok done) = TouchesRange old new address n
 TouchEnds old new address n (Err (NoFrame at page)) = LacksPage old new address n at page
-TouchEnds old new address n (Err (NoArea page)) = (touch_of (mem_of old.memory) address n ≡ Err (OutsideAreas page)) × (new ≡ old)
-TouchEnds old new address n (Err (NoWrite page)) = (touch_of (mem_of old.memory) address n ≡ Err (ReadOnly page)) × (new ≡ old)
+TouchEnds old new address n (Err (NoArea page)) =
+    (touch_of (mem_of old.memory) address n ≡ Err (OutsideAreas page)) × (new ≡ old)
+TouchEnds old new address n (Err (NoWrite page)) =
+    (touch_of (mem_of old.memory) address n ≡ Err (ReadOnly page)) × (new ≡ old)
 TouchEnds old new address n (Err (Overlap page)) = ⊥
 TouchEnds old new address n (Err AreasFull) = ⊥
 TouchEnds old new address n (Err CellsFull) = ⊥
@@ -137,11 +144,13 @@ abbrev pub fault_answer : Result (Unit {0}) AreaFault → Result (Unit {0}) Faul
 fault_answer (Ok done) = Ok done
 fault_answer (Err fault) = Err (fault_of (refusal_of fault))
 
--- a page of the range finds no room exactly where more pages would be present than there is room for; those before it fill the room
+-- a page of the range finds no room exactly where more pages would be present than there is room
+-- for; those before it fill the room
 abbrev pub IsRefusedByRoom : MemoryState → ℕ → ℕ → Result (Unit {0}) Fault → Type 0
 IsRefusedByRoom old address n (Ok done) = len (touched old.mem address n).present ≤ old.room
 IsRefusedByRoom old address n (Err (NoFrame at page)) =
-    (old.room < len (touched old.mem address n).present) × (len (with_pages old.mem.present (page_of address) (page - page_of address)) ≡ old.room)
+    (old.room < len (touched old.mem address n).present)
+    × (len (with_pages old.mem.present (page_of address) (page - page_of address)) ≡ old.room)
 IsRefusedByRoom old address n (Err (NoArea page)) = Unit {0}
 IsRefusedByRoom old address n (Err (NoWrite page)) = Unit {0}
 IsRefusedByRoom old address n (Err (Overlap page)) = Unit {0}
@@ -150,15 +159,23 @@ IsRefusedByRoom old address n (Err CellsFull) = Unit {0}
 
 -- ---- as a process
 
--- what stands beside the memory: the child that lives, what it has, the number given out last, and the refused touches at its fork
+-- what stands beside the memory: the child that lives, what it has, the number given out last, and
+-- the refused touches at its fork
 pub record BesideMemory : Type 0 where
   pub child : Option ℕ
   pub kept : FlatMemory
   pub last : ℕ
   pub born : ℕ
 
+-- the same of these two sides
 abbrev pub beside_of : Sides → BesideMemory
-beside_of sides = record { child = sides.child; kept = mem_of sides.kept; last = sides.last; born = sides.born.value }
+beside_of sides = record {
+  child = sides.child;
+  kept = mem_of sides.kept;
+  last = sides.last;
+  born =
+      sides.born.value;
+}
 
 -- the number of the child that lives, if one does
 abbrev pub numbers_of : Option ℕ → List ℕ
@@ -193,10 +210,20 @@ is_child (Some child) number = child == number
 
 -- a child has all of its memory from its fork on, so no cell waits to be copied and none is lost
 abbrev pub nest_of : FlatMemory → SnapshotState
-nest_of kept = record { mem = kept; found = empty; refused = 0; todo = 0; passed = true; whole = true }
+nest_of kept = record {
+  mem = kept;
+  found = empty;
+  refused = 0;
+  todo = 0;
+  passed = true;
+  whole =
+      true;
+}
 
 -- ---- what holds at each moment
 
+-- both sides are flat and have the same room, which the pages keep, and no count has passed its
+-- bound
 pub record FlatHolds (sides : Sides) : Type 0 where
   pub flat : IsFlat (mem_of sides.memory)
   pub kept : IsFlat (mem_of sides.kept)
@@ -207,7 +234,9 @@ pub record FlatHolds (sides : Sides) : Type 0 where
   pub last : sides.last ≤ 4294967295
   pub counted : sides.refused ≤ 2 ^ 64 - 1
 
--- what calls make of it: a number given out is given to no other child, and a child that lives keeps its memory
+-- what calls make of it: a number given out is given to no other child, and a child that lives
+-- keeps its memory
 pub record FlatWent (old new : BesideMemory) : Type 0 where
   pub last : old.last ≤ new.last
-  pub kept : (number : ℕ) → number ≤ old.last → new.child ≡ Some number → (old.child ≡ Some number) × (new.kept ≡ old.kept)
+  pub kept : (number : ℕ) → number ≤ old.last → new.child ≡ Some number → (old.child ≡ Some number)
+      × (new.kept ≡ old.kept)

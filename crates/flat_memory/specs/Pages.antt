@@ -16,7 +16,8 @@ abbrev pub no_pages : ℕ → PageTable
 no_pages room = record { present = empty; room = room }
 
 abbrev pub page_table_code : Coded PageTable
-page_table_code = code_by (PageMap × ℕ) (coded× page_map_code coded_ℕ) (λ t. (t.present, t.room)) (λ p. record { present = p.0; room = p.1 }) (λ _. refl)
+page_table_code = code_by (PageMap × ℕ) (coded× page_map_code coded_ℕ) (λ t. (t.present, t.room))
+    (λ p. record { present = p.0; room = p.1 }) (λ _. refl)
 
 -- the bytes of a page, or none where it is absent
 abbrev pub page_at : PageMap → ℕ → List ℕ
@@ -29,4 +30,5 @@ with_written present page at bytes = insert present page (spliced (page_at prese
 -- how many of n pages are absent
 abbrev pub absent_count : PageMap → ℕ → ℕ → ℕ
 absent_count present first zero = 0
-absent_count present first (suc n) = cond (is_some (get present first)) 0 1 + absent_count present (first + 1) n
+absent_count present first (suc n) = cond (is_some (get present first)) 0 1 + absent_count present
+    (first + 1) n

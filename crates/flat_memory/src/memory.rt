@@ -24,7 +24,8 @@ impl Memory for Flat {
 
     ghost went_none = { λ p. went-none (beside_of p.sides) };
 
-    ghost went_on = { λ p q r one two. went-on (beside_of p.sides) (beside_of q.sides) (beside_of r.sides) one two };
+    ghost went_on = { λ p q r one two. went-on (beside_of p.sides) (beside_of q.sides) (beside_of r.sides) one
+        two };
 
     fn read(&mut self, addr: u64, buf: &mut [u8]) -> Result<(), Fault> {
         match self.sides.memory.read(addr, buf) {
@@ -39,9 +40,11 @@ impl Memory for Flat {
         requires few { len ≤ 4194304 }
         ensures touched { OnOk result (Touches (memory_of self.old.sides) (memory_of self.new.sides) addr len) }
         ensures fault { IfErr result
-            (λ fault. TouchFails (memory_of self.old.sides) (memory_of self.new.sides) addr len fault) }
+            (λ fault. TouchFails (memory_of self.old.sides) (memory_of self.new.sides) addr len
+            fault) }
         ensures room { IsRefusedByRoom (memory_of self.old.sides) addr len result }
-        ensures keeps { IsKept (memory_of self.old.sides) (memory_of self.new.sides) (cells_of_range addr len) }
+        ensures keeps { IsKept (memory_of self.old.sides) (memory_of self.new.sides)
+            (cells_of_range addr len) }
         ensures aside { beside_of self.new.sides ≡ beside_of self.old.sides }
         ensures went { FlatWent (beside_of self.old.sides) (beside_of self.new.sides) }
     {

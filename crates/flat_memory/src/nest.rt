@@ -32,7 +32,8 @@ impl Nest for Flat {
 
     ghost went_none = { λ p. went-none (beside_of p.sides) };
 
-    ghost went_on = { λ p q r one two. went-on (beside_of p.sides) (beside_of q.sides) (beside_of r.sides) one two };
+    ghost went_on = { λ p q r one two. went-on (beside_of p.sides) (beside_of q.sides) (beside_of r.sides) one
+        two };
 
     fn child_read(
         &mut self,

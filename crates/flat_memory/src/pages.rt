@@ -92,7 +92,8 @@ impl Pages {
     pub(crate) fn write(&mut self, page: u64, at: usize, bytes: &[u8])
         requires present { IsSome (get self.old.present page) }
         requires within { at + length bytes.now ≤ 4096 }
-        ensures { self.new ≡ record self.old { present = with_written self.old.present page at bytes.now } }
+        ensures { self.new ≡ record self.old
+            { present = with_written self.old.present page at bytes.now } }
     {
         let place = place_of(&self.entries, page);
         self.entries[place].write(at, bytes);
@@ -100,7 +101,8 @@ impl Pages {
 
     /// Takes pages out. Those that are absent are passed over.
     pub(crate) fn remove(&mut self, first: u64, pages: u64)
-        ensures { self.new ≡ record self.old { present = retain_keys self.old.present (is_beyond first pages) } }
+        ensures { self.new ≡ record self.old
+            { present = retain_keys self.old.present (is_beyond first pages) } }
     {
         take_out(&mut self.entries, &mut self.spare, first, pages);
     }
@@ -130,7 +132,8 @@ fn zeroed_pages(alloc: Global, room: usize) -> Result<Vec<Page>, NoMemory>
 // Takes the entries of some pages out, and lays their pages aside.
 fn take_out(entries: &mut Vec<Entry>, spare: &mut Vec<Page>, first: u64, pages: u64)
     requires room { vec_len entries.old + vec_len spare.old ≤ vec_capacity spare.old }
-    ensures entries { entries.new.items ≡ where_key nat_cmp (is_beyond first pages) entries.old.items }
+    ensures entries { entries.new.items ≡ where_key nat_cmp (is_beyond first pages)
+        entries.old.items }
     ensures all { vec_len entries.new + vec_len spare.new ≡ vec_len entries.old + vec_len spare.old }
     ensures room { vec_capacity entries.new ≡ vec_capacity entries.old }
     ensures spare_room { vec_capacity spare.new ≡ vec_capacity spare.old }

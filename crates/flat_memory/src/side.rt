@@ -41,9 +41,12 @@ impl Side {
     /// Reads the bytes of a range, or tells its lowest page that lies in no area.
     pub(crate) fn read(&self, addr: u64, buf: &mut [u8]) -> Result<(), u64>
         requires { addr + length buf.old ≤ 2 ^ 48 }
-        ensures inside { OnOk result (outside self.now.areas (page_of addr) (page_count addr (length buf.old)) ≡ None) }
+        ensures inside { OnOk result (outside self.now.areas (page_of addr) (page_count addr (length buf.old))
+            ≡ None) }
         ensures bytes { OnOk result (buf.new ≡ bytes_at self.now.pages.present addr (length buf.old)) }
-        ensures outside { IfErr result (λ page. outside self.now.areas (page_of addr) (page_count addr (length buf.old)) ≡ Some page) }
+        ensures outside { IfErr result
+            (λ page. outside self.now.areas (page_of addr) (page_count addr (length buf.old)) ≡ Some
+            page) }
     {
         let count = page_count(addr, buf.len() as u64);
         if let Some(page) = first_outside(&self.areas, addr / PAGE_BYTES as u64, count) {
@@ -72,7 +75,8 @@ impl Side {
     /// The page at which a touch of a range finds no room.
     pub(crate) fn lacking(&self, addr: u64, len: u64) -> Option<u64>
         requires { addr + len ≤ 2 ^ 48 }
-        ensures { LacksRoom self.now.pages.present self.now.pages.room (page_of addr) (page_count addr len) result }
+        ensures { LacksRoom self.now.pages.present self.now.pages.room (page_of addr)
+            (page_count addr len) result }
     {
         lacking(&self.pages, addr / PAGE_BYTES as u64, page_count(addr, len))
     }
@@ -81,16 +85,26 @@ impl Side {
     pub(crate) fn touch(&mut self, addr: u64, len: u64)
         requires within { addr + len ≤ 2 ^ 48 }
         requires room { page_total (touched (mem_of self.old) addr len).present ≤ self.old.pages.room }
-        ensures { self.new ≡ record self.old { pages = record self.old.pages { present = (touched (mem_of self.old) addr len).present } } }
+        ensures { self.new ≡ record self.old {
+          pages =
+              record self.old.pages { present = (touched (mem_of self.old) addr len).present };
+        } }
     {
-        touch_range(&mut self.pages, addr / PAGE_BYTES as u64, page_count(addr, len));
+        touch_range(
+            &mut self.pages,
+            addr / PAGE_BYTES as u64,
+            page_count(addr, len),
+        );
     }
 
     /// Stores bytes in pages that are present.
     pub(crate) fn store(&mut self, addr: u64, bytes: &[u8])
         requires within { addr + length bytes.now ≤ 2 ^ 48 }
         requires full { AreFullPages self.old.pages.present addr (length bytes.now) }
-        ensures { self.new ≡ record self.old { pages = record self.old.pages { present = with_bytes self.old.pages.present addr bytes.now } } }
+        ensures { self.new ≡ record self.old {
+          pages =
+              record self.old.pages { present = with_bytes self.old.pages.present addr bytes.now };
+        } }
     {
         store_range(&mut self.pages, addr, bytes);
     }
@@ -111,7 +125,9 @@ impl Side {
         requires some { 0 < pages }
         requires within { first + pages ≤ 2 ^ 36 }
         ensures answer { SideChanges self.old self.new result (unmap_of (mem_of self.old) first pages) }
-        ensures pages { OnOk result (self.new.pages ≡ record self.old.pages { present = unmapped self.old.pages.present first pages }) }
+        ensures pages { OnOk result
+            (self.new.pages ≡ record self.old.pages
+            { present = unmapped self.old.pages.present first pages }) }
     {
         match self.areas.unmap(first, pages) {
             Ok(()) => {

@@ -58,7 +58,8 @@ impl Sides {
         }
     }
 
-    /// Copies the memory to a child, and tells its number. No number is used up where there is none.
+    /// Copies the memory to a child, and tells its number. No number is used up where there is
+    /// none.
     pub(crate) fn fork(&mut self) -> Result<u32, ForkFault>
         requires { count self.old.memory.pages.present ≤ self.old.kept.pages.room }
         ensures { ForkEnds self.old self.new result }
@@ -79,7 +80,8 @@ impl Sides {
     // Touches a range that the areas grant.
     fn touch_granted(&mut self, addr: u64, len: u64) -> Result<(), Fault>
         requires within { addr + len ≤ 2 ^ 48 }
-        requires granted { touch_of (mem_of self.old.memory) addr len ≡ Ok (touched (mem_of self.old.memory) addr len) }
+        requires granted { touch_of (mem_of self.old.memory) addr len ≡ Ok
+            (touched (mem_of self.old.memory) addr len) }
         ensures { TouchEnds self.old self.new addr len result }
     {
         let asked = Asked {

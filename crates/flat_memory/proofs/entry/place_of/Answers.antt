@@ -10,7 +10,8 @@ pub returns : goal.returns
 returns c =
     let entries = c.args.entries.now in
     let page = c.args.page in
-    let point = c.partition_point.ensures.partitioned (λ (e : Numbered). ltb e.0 page) (always_returns_same _ _ _ (λ a r f k. search (rules, of_calls)))
+    let point = c.partition_point.ensures.partitioned (λ (e : Numbered). ltb e.0 page)
+    (always_returns_same _ _ _ (λ a r f k. search (rules, of_calls)))
     (below_partitioned entries (true_from _ c.requires) page) in
     record {
       within = c.partition_point.ensures.bound;

@@ -10,12 +10,21 @@ loop-page-preserved c =
     elim c.if-not-contains.branch [
       | then-not-contains+else-free-eq0 w ↦ record {
         above = omega (arith, inv.above);
-        free = omega (arith, inv.free, w.free-is, w.if-free-eq0.false,
-            len-absent c.args.pages.now.present c.args.first c.loop-page.page inv.above (sym c.contains.ensures ∙ w.if-not-contains.true));
+        free = omega (
+          arith,
+          inv.free,
+          w.free-is,
+          w.if-free-eq0.false,
+          len-absent c.args.pages.now.present c.args.first c.loop-page.page inv.above (sym c.contains.ensures ∙ w.if-not-contains.true),
+        );
       }
       | else-not-contains w ↦ record {
         above = omega (arith, inv.above);
-        free = omega (arith, inv.free, w.free-is,
-            len-there c.args.pages.now.present c.args.first c.loop-page.page inv.above (sym c.contains.ensures ∙ w.if-not-contains.false));
+        free = omega (
+          arith,
+          inv.free,
+          w.free-is,
+          len-there c.args.pages.now.present c.args.first c.loop-page.page inv.above (sym c.contains.ensures ∙ w.if-not-contains.false),
+        );
       }
     ]

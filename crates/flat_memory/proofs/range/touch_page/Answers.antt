@@ -14,5 +14,6 @@ add-requires-clause-free c =
     let present = c.args.pages.now.present in
     let absent : is_some (get present c.args.page) ≡ false = sym c.contains.ensures ∙ c.if-not-contains.true in
     let more : len (with_page present c.args.page) ≡ len present + 1 =
-        ap len (with_page_absent present c.args.page absent) ∙ len-insert nat_cmp_total present c.args.page zero_page ∙ cond-false (is_some (get present c.args.page)) _ _ absent in
+    ap len (with_page_absent present c.args.page absent) ∙ len-insert nat_cmp_total present c.args.page zero_page
+    ∙ cond-false (is_some (get present c.args.page)) _ _ absent in
     omega (arith, more, c.requires)

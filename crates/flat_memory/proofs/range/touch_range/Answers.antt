@@ -20,5 +20,6 @@ loop-page-preserved c =
       above = omega (arith, inv.above);
       touched = c.touch_page.ensures
           ∙ ap (λ (t : PageTable). record { present = with_page t.present c.loop-page.page; room = t.room }) inv.touched
-          ∙ ap (λ (m : PageMap). record { present = m; room = c.args.pages.now.room }) (sym (with_pages-more c.args.pages.now.present c.args.first c.loop-page.page inv.above));
+          ∙ ap (λ (m : PageMap). record { present = m; room = c.args.pages.now.room })
+          (sym (with_pages-more c.args.pages.now.present c.args.first c.loop-page.page inv.above));
     }

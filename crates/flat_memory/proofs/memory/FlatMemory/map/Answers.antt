@@ -12,7 +12,8 @@ invariant_of-self c =
     let side = c.map.new.self in
     record {
       holds = changed-holds sides side c.args.self.now.holds
-          (map-side-flat sides side c.args.first c.args.pages c.args.perm c.map.result c.args.self.now.holds c.requires.some c.requires.within c.map.ensures.answer)
+          (map-side-flat sides side c.args.first c.args.pages c.args.perm c.map.result c.args.self.now.holds c.requires.some
+          c.requires.within c.map.ensures.answer)
           (change-room sides side _ c.map.result c.map.ensures.answer) (pages_still sides side c.map.ensures.pages);
     }
 
@@ -20,13 +21,17 @@ pub returns-clause-mapped : goal.returns-clause-mapped
 returns-clause-mapped c =
     let sides = c.args.self.now.sides in
     let side = c.map.new.self in
-    subst (λ r. OnOk r (Maps (memory_of sides) (memory_of (record sides { memory = side })) (map_answer (memory_of sides) c.args.first c.args.pages c.args.perm))) (sym c.fault_answer.ensures)
-    (map-maps sides side c.args.first c.args.pages c.args.perm c.map.result c.args.self.now.holds c.map.ensures.answer c.map.ensures.areas c.map.ensures.pages)
+    subst (λ r. OnOk r
+    (Maps (memory_of sides) (memory_of (record sides { memory = side }))
+    (map_answer (memory_of sides) c.args.first c.args.pages c.args.perm))) (sym c.fault_answer.ensures)
+    (map-maps sides side c.args.first c.args.pages c.args.perm c.map.result c.args.self.now.holds c.map.ensures.answer c.map.ensures.areas
+    c.map.ensures.pages)
 
 pub returns-clause-keeps : goal.returns-clause-keeps
 returns-clause-keeps c =
     let sides = c.args.self.now.sides in
     let side = c.map.new.self in
     changed-keeps sides side c.args.self.now.holds
-    (map-side-flat sides side c.args.first c.args.pages c.args.perm c.map.result c.args.self.now.holds c.requires.some c.requires.within c.map.ensures.answer)
+    (map-side-flat sides side c.args.first c.args.pages c.args.perm c.map.result c.args.self.now.holds c.requires.some c.requires.within
+    c.map.ensures.answer)
     (change-room sides side _ c.map.result c.map.ensures.answer) (pages_still sides side c.map.ensures.pages)

@@ -8,7 +8,8 @@ invariant_of-self c =
     let side = c.protect.new.self in
     record {
       holds = changed-holds sides side c.args.self.now.holds
-          (protect-side-flat sides side c.args.first c.args.pages c.args.perm c.protect.result c.args.self.now.holds c.requires.some c.requires.within c.protect.ensures.answer)
+          (protect-side-flat sides side c.args.first c.args.pages c.args.perm c.protect.result c.args.self.now.holds c.requires.some
+          c.requires.within c.protect.ensures.answer)
           (change-room sides side _ c.protect.result c.protect.ensures.answer) (pages_still sides side c.protect.ensures.pages);
     }
 
@@ -17,5 +18,6 @@ returns-clause-keeps c =
     let sides = c.args.self.now.sides in
     let side = c.protect.new.self in
     changed-keeps sides side c.args.self.now.holds
-    (protect-side-flat sides side c.args.first c.args.pages c.args.perm c.protect.result c.args.self.now.holds c.requires.some c.requires.within c.protect.ensures.answer)
+    (protect-side-flat sides side c.args.first c.args.pages c.args.perm c.protect.result c.args.self.now.holds c.requires.some
+    c.requires.within c.protect.ensures.answer)
     (change-room sides side _ c.protect.result c.protect.ensures.answer) (pages_still sides side c.protect.ensures.pages)

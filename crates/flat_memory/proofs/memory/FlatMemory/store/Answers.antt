@@ -9,7 +9,8 @@ use Rattle.flat_memory.proofs.memory.FlatMemory.store.Goals as goal
 
 pub store-requires-clause-full : goal.store-requires-clause-full
 store-requires-clause-full c =
-    full_from_ready (memory_of c.args.self.now.sides) c.args.addr (length c.args.bytes.now) (holds-memory c.args.self.now.sides c.args.self.now.holds) c.requires.ready
+    full_from_ready (memory_of c.args.self.now.sides) c.args.addr (length c.args.bytes.now)
+    (holds-memory c.args.self.now.sides c.args.self.now.holds) c.requires.ready
 
 pub invariant_of-self : goal.invariant_of-self
 invariant_of-self c = record {

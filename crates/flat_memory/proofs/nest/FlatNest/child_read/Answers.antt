@@ -7,7 +7,8 @@ use Rattle.flat_memory.proofs.nest.FlatNest.child_read.Goals as goal
 
 pub returns-in-Ok-clause-bytes : goal.returns-in-Ok-clause-bytes
 returns-in-Ok-clause-bytes c =
-    kept-read (mem_of c.args.self.now.sides.kept) c.args.addr (length c.args.buf.now) c.read.new.buf c.in-Ok.ensures.inside c.in-Ok.ensures.bytes
+    kept-read (mem_of c.args.self.now.sides.kept) c.args.addr (length c.args.buf.now) c.read.new.buf c.in-Ok.ensures.inside
+    c.in-Ok.ensures.bytes
 
 pub returns-in-Ok-clause-keeps : goal.returns-in-Ok-clause-keeps
 returns-in-Ok-clause-keeps c = nest-keeps (mem_of c.args.self.now.sides.kept)

@@ -15,7 +15,7 @@ use Rattle.flat_memory.proofs.pages.Pages.add.Goals as goal
 pub take_last-zeros-requires : goal.take_last-zeros-requires
 take_last-zeros-requires c =
     let size : count c.args.self.now.present ≡ length c.self.inside.entries.items =
-        ap (λ t. count t.present) (sym c.self.view_is) ∙ len-map c.self.inside.entries.items c.self.invariant.0 in
+    ap (λ t. count t.present) (sym c.self.view_is) ∙ len-map c.self.inside.entries.items c.self.invariant.0 in
     let room : vec_len c.self.inside.entries + vec_len c.self.inside.spare ≡ c.args.self.now.room = ap (λ t. t.room) c.self.view_is in
     omega (arith, size, room, c.requires.free)
 
@@ -27,13 +27,14 @@ invariant_of-self c =
     let absent : get (map_of es) c.args.page ≡ None = ap (λ t. get t.present c.args.page) c.self.view_is ∙ c.requires.absent in
     let ok = c.insert-added.ensures.succeeds (omega (arith, c.self.invariant.1, c.take_last-zeros.ensures.len)) in
     let items : c.insert-added.new.self.items ≡ put nat_cmp c.args.page zero_page es =
-        c.insert-added.ensures.items ∙ cond-true _ _ _ ok
-        ∙ ap (λ e. take place es ++ e ∷ drop place es) (c.new.ensures ∙ ap (λ v. (c.args.page, v)) c.clear.ensures)
-        ∙ added es c.args.page place zero_page c.self.invariant.0 is absent in
-    let longer : vec_len c.insert-added.new.self ≡ vec_len c.self.inside.entries + 1 = c.insert-added.ensures.len ∙ cond-true _ _ _ ok in
-    (subst AreSorted (sym items) (sorted-put es c.self.invariant.0 c.args.page zero_page),
-     omega (arith, longer, c.take_last-zeros.ensures.len, c.self.invariant.1, c.insert-added.ensures.capacity),
-     omega (arith, longer, c.take_last-zeros.ensures.len, c.self.invariant.2, c.take_last-zeros.ensures.capacity))
+    c.insert-added.ensures.items ∙ cond-true _ _ _ ok
+    ∙ ap (λ e. take place es ++ e ∷ drop place es) (c.new.ensures ∙ ap (λ v. (c.args.page, v)) c.clear.ensures)
+    ∙ added es c.args.page place zero_page c.self.invariant.0 is absent in
+    let longer : vec_len c.insert-added.new.self ≡ vec_len c.self.inside.entries + 1 = c.insert-added.ensures.len ∙ cond-true _ _ _ ok in (
+      subst AreSorted (sym items) (sorted-put es c.self.invariant.0 c.args.page zero_page),
+      omega (arith, longer, c.take_last-zeros.ensures.len, c.self.invariant.1, c.insert-added.ensures.capacity),
+      omega (arith, longer, c.take_last-zeros.ensures.len, c.self.invariant.2, c.take_last-zeros.ensures.capacity),
+    )
 
 pub returns : goal.returns
 returns c =
@@ -43,10 +44,11 @@ returns c =
     let absent : get (map_of es) c.args.page ≡ None = ap (λ t. get t.present c.args.page) c.self.view_is ∙ c.requires.absent in
     let ok = c.insert-added.ensures.succeeds (omega (arith, c.self.invariant.1, c.take_last-zeros.ensures.len)) in
     let items : c.insert-added.new.self.items ≡ put nat_cmp c.args.page zero_page es =
-        c.insert-added.ensures.items ∙ cond-true _ _ _ ok
-        ∙ ap (λ e. take place es ++ e ∷ drop place es) (c.new.ensures ∙ ap (λ v. (c.args.page, v)) c.clear.ensures)
-        ∙ added es c.args.page place zero_page c.self.invariant.0 is absent in
+    c.insert-added.ensures.items ∙ cond-true _ _ _ ok
+    ∙ ap (λ e. take place es ++ e ∷ drop place es) (c.new.ensures ∙ ap (λ v. (c.args.page, v)) c.clear.ensures)
+    ∙ added es c.args.page place zero_page c.self.invariant.0 is absent in
     let longer : vec_len c.insert-added.new.self ≡ vec_len c.self.inside.entries + 1 = c.insert-added.ensures.len ∙ cond-true _ _ _ ok in
     let room : vec_len c.self.inside.entries + vec_len c.self.inside.spare ≡ c.args.self.now.room = ap (λ t. t.room) c.self.view_is in
-    same_table _ _ (ap map_of items ∙ map-put es c.self.invariant.0 c.args.page zero_page ∙ ap (λ t. insert t.present c.args.page zero_page) c.self.view_is)
+    same_table _ _ (ap map_of items ∙ map-put es c.self.invariant.0 c.args.page zero_page ∙ ap (λ t. insert t.present c.args.page zero_page)
+    c.self.view_is)
     (omega (arith, longer, c.take_last-zeros.ensures.len, room))

@@ -13,4 +13,5 @@ use Rattle.flat_memory.proofs.PageLemmas.{map_of, get-map, len-map, sorted-put, 
 use Rattle.flat_memory.proofs.pages.Pages.new.Goals as goal
 
 pub returns : goal.returns
-returns c = same_table _ _ (map-none c.in_ok-entries.entries.items c.in_ok-entries.ensures.items) (omega (arith, c.in_ok-entries.ensures.len, c.in_ok-spare.ensures.len))
+returns c = same_table _ _ (map-none c.in_ok-entries.entries.items c.in_ok-entries.ensures.items)
+    (omega (arith, c.in_ok-entries.ensures.len, c.in_ok-spare.ensures.len))

@@ -13,13 +13,16 @@ use Rattle.flat_memory.proofs.PageLemmas.{map_of, get-map, len-map, sorted-put, 
 use Rattle.flat_memory.proofs.pages.Pages.remove.Goals as goal
 
 pub invariant_of-self : goal.invariant_of-self
-invariant_of-self c =
-    (subst AreSorted (sym c.take_out.ensures.entries) (sorted-where c.self.inside.entries.items c.self.invariant.0 (is_beyond c.args.first c.args.pages)),
-     omega (arith, c.take_out.ensures.all, c.take_out.ensures.room, c.self.invariant.1),
-     omega (arith, c.take_out.ensures.all, c.take_out.ensures.spare_room, c.self.invariant.2))
+invariant_of-self c = (
+  subst AreSorted (sym c.take_out.ensures.entries)
+      (sorted-where c.self.inside.entries.items c.self.invariant.0 (is_beyond c.args.first c.args.pages)),
+  omega (arith, c.take_out.ensures.all, c.take_out.ensures.room, c.self.invariant.1),
+  omega (arith, c.take_out.ensures.all, c.take_out.ensures.spare_room, c.self.invariant.2),
+)
 
 pub returns : goal.returns
 returns c =
-    same_table _ _ (ap map_of c.take_out.ensures.entries ∙ map-where c.self.inside.entries.items c.self.invariant.0 (is_beyond c.args.first c.args.pages)
+    same_table _ _ (ap map_of c.take_out.ensures.entries ∙ map-where c.self.inside.entries.items c.self.invariant.0
+    (is_beyond c.args.first c.args.pages)
     ∙ ap (λ t. retain_keys t.present (is_beyond c.args.first c.args.pages)) c.self.view_is)
     (c.take_out.ensures.all ∙ ap (λ t. t.room) c.self.view_is)

@@ -15,7 +15,8 @@ use Rattle.flat_memory.proofs.pages.Pages.write.Goals as goal
 pub index_mut-requires : goal.index_mut-requires
 index_mut-requires c =
     let es = c.self.inside.entries.items in
-    let is : IsPlace es c.args.page c.place_of-place.result = subst (λ l. IsPlace l c.args.page c.place_of-place.result) c.deref.ensures.value c.place_of-place.ensures in
+    let is : IsPlace es c.args.page c.place_of-place.result = subst (λ l. IsPlace l c.args.page c.place_of-place.result)
+    c.deref.ensures.value c.place_of-place.ensures in
     let there : IsSome (get (map_of es) c.args.page) = ap (λ t. is_some (get t.present c.args.page)) c.self.view_is ∙ c.requires.present in
     let inside : c.place_of-place.result < length es = place_inside es c.args.page c.place_of-place.result c.self.invariant.0 is there in
     omega (arith, inside)
@@ -23,18 +24,23 @@ index_mut-requires c =
 pub invariant_of-self : goal.invariant_of-self
 invariant_of-self c =
     let es = c.self.inside.entries.items in
-    let is : IsPlace es c.args.page c.place_of-place.result = subst (λ l. IsPlace l c.args.page c.place_of-place.result) c.deref.ensures.value c.place_of-place.ensures in
+    let is : IsPlace es c.args.page c.place_of-place.result = subst (λ l. IsPlace l c.args.page c.place_of-place.result)
+    c.deref.ensures.value c.place_of-place.ensures in
     let there : IsSome (get (map_of es) c.args.page) = ap (λ t. is_some (get t.present c.args.page)) c.self.view_is ∙ c.requires.present in
-    let items = written es c.args.page c.place_of-place.result c.args.at c.args.bytes.now c.index_mut.result.now c.write.new.self c.self.invariant.0 is there
-        c.index_mut.ensures.value c.write.ensures in
+    let items = written es c.args.page c.place_of-place.result c.args.at c.args.bytes.now c.index_mut.result.now c.write.new.self
+    c.self.invariant.0 is there
+    c.index_mut.ensures.value c.write.ensures in
     (subst AreSorted (sym items) (sorted-put es c.self.invariant.0 c.args.page _), c.self.invariant.1, c.self.invariant.2)
 
 pub returns : goal.returns
 returns c =
     let es = c.self.inside.entries.items in
-    let is : IsPlace es c.args.page c.place_of-place.result = subst (λ l. IsPlace l c.args.page c.place_of-place.result) c.deref.ensures.value c.place_of-place.ensures in
+    let is : IsPlace es c.args.page c.place_of-place.result = subst (λ l. IsPlace l c.args.page c.place_of-place.result)
+    c.deref.ensures.value c.place_of-place.ensures in
     let there : IsSome (get (map_of es) c.args.page) = ap (λ t. is_some (get t.present c.args.page)) c.self.view_is ∙ c.requires.present in
-    let items = written es c.args.page c.place_of-place.result c.args.at c.args.bytes.now c.index_mut.result.now c.write.new.self c.self.invariant.0 is there
-        c.index_mut.ensures.value c.write.ensures in
+    let items = written es c.args.page c.place_of-place.result c.args.at c.args.bytes.now c.index_mut.result.now c.write.new.self
+    c.self.invariant.0 is there
+    c.index_mut.ensures.value c.write.ensures in
     same_table _ _ (ap map_of items ∙ map-put es c.self.invariant.0 c.args.page _
-    ∙ ap (λ t. insert t.present c.args.page (spliced (page_at t.present c.args.page) c.args.at c.args.bytes.now)) c.self.view_is) (ap (λ t. t.room) c.self.view_is)
+    ∙ ap (λ t. insert t.present c.args.page (spliced (page_at t.present c.args.page) c.args.at c.args.bytes.now)) c.self.view_is)
+    (ap (λ t. t.room) c.self.view_is)
