@@ -1,6 +1,6 @@
 -- The hash table of a store, and when a memory stands for a finite map.
-use Rattle.std.specs.Prelude.{◌≡◌, ◌⊎◌, ℕ, ◌+◌, ◌*◌, ◌%◌, ◌^◌, ◌≤◌, ◌<◌, bit_xor, fold, List, [], ◌∷◌, length, map, IsPermutation, All, replicate, slice_index_or, reverse, filter, ◌==◌, if◌then◌else◌}
-use Rattle.std.specs.List.{flat_map, range_with_len}
+use Rattle.std.specs.Prelude.{◌≡◌, ℕ, zero, suc, ◌==◌, if◌then◌else◌, ◌+◌, ◌*◌, ◌%◌, ◌^◌, ◌≤◌, ◌<◌, bit_xor, fold, List, [], length, map, IsPermutation, All, replicate, slice_index_or}
+use Rattle.std.specs.List.{flat_map}
 use Rattle.std.specs.Ordering.{nat_cmp}
 use Rattle.std.specs.Cmp.Lexicographic.{slice_cmp}
 use Rattle.std.specs.FinMap.{FinMap, entries}
@@ -8,10 +8,11 @@ use Rattle.vm_base.specs.FlatMemory.{FlatMemory, bytes_at}
 use Rattle.store_meaning.specs.Layout.{array_a, array_b, array_field, buckets_field, pairs_field, header_at, store_areas, class_of, word_at, number_at}
 use Rattle.store_meaning.specs.HeapLayout.{Block, Heap, IsHeap, Links}
 
--- FNV-1a of 64 bits
+-- one byte of FNV-1a of 64 bits
 abbrev pub hash_step : ℕ → ℕ → ℕ
 hash_step hash byte = bit_xor hash byte * 1099511628211 % 2 ^ 64
 
+-- FNV-1a of 64 bits
 abbrev pub hash_of : List ℕ → ℕ
 hash_of key = fold hash_step 14695981039346656037 key
 
@@ -42,7 +43,8 @@ pub record Holds (memory : FlatMemory) (entry : Entry) : Type 0 where
   pub key_length : number_at memory (entry.at + 8) 4 ≡ length entry.key
   pub value_length : number_at memory (entry.at + 12) 4 ≡ length entry.value
   pub key : bytes_at memory.present (entry.at + 16) (length entry.key) ≡ entry.key
-  pub value : bytes_at memory.present (entry.at + 16 + length entry.key) (length entry.value) ≡ entry.value
+  pub value : bytes_at memory.present (entry.at + 16 + length entry.key) (length entry.value)
+      ≡ entry.value
   pub short_key : length entry.key ≤ 65536
   pub short_value : length entry.value ≤ 1048576
 
@@ -59,15 +61,30 @@ chain_of table bucket = slice_index_or table.chains bucket []
 abbrev pub entries_of : Table → List Entry
 entries_of table = flat_map (λ chain. chain) table.chains
 
--- the memory has this table, whose blocks are those in use: each chain is linked from its bucket and ends, and has the keys of that bucket's hashes
+-- the other region of arrays
+abbrev pub other_array : ℕ → ℕ
+other_array array = if array == array_a then array_b else array_a
+
+-- where the array lies that was doubled so often
+abbrev pub array_after : ℕ → ℕ
+array_after zero = array_a
+array_after (suc times) = other_array (array_after times)
+
+-- an array of 512 buckets that was doubled so often
+pub record IsDoubled (table : Table) (times : ℕ) : Type 0 where
+  pub buckets : length table.chains ≡ 512 * 2 ^ times
+  pub few : times ≤ 15
+  pub region : table.array ≡ array_after times
+
+-- the memory has this table, whose blocks are those in use: each chain is linked from its bucket
+-- and ends, and has the keys of that bucket's hashes
 pub record IsTable (memory : FlatMemory) (table : Table) : Type 0 where
   pub areas : memory.areas ≡ store_areas table.array (length table.chains)
-  pub region : (table.array ≡ array_a) ⊎ (table.array ≡ array_b)
   pub array : word_at memory array_field ≡ table.array
   pub buckets : word_at memory buckets_field ≡ length table.chains
   pub pairs : word_at memory pairs_field ≡ length (entries_of table)
   pub rest : bytes_at memory.present (header_at + 168) 3928 ≡ replicate 3928 0
-  pub doubled : (times : ℕ) × ((length table.chains ≡ 512 * 2 ^ times) × (times ≤ 15))
+  pub doubled : (times : ℕ) × IsDoubled table times
   pub linked : (bucket : ℕ) → bucket < length table.chains
       → Links memory (table.array + 8 * bucket) (map (λ entry. entry.at) (chain_of table bucket))
   pub hashed : (bucket : ℕ) → bucket < length table.chains
@@ -83,7 +100,8 @@ pub record Store : Type 0 where
   pub table : Table
   pub heap : Heap
 
--- the memory stands for the map by this store: each pair stands in one block, and the blocks of the table are the heap's blocks in use
+-- the memory stands for the map by this store: each pair stands in one block, and the blocks of the
+-- table are the heap's blocks in use
 pub record IsStore (memory : FlatMemory) (store : Store) (of : Pairs) : Type 0 where
   pub table : IsTable memory store.table
   pub heap : IsHeap memory store.heap

@@ -1,4 +1,5 @@
--- Where a store lies in a memory: its regions, and the fields of its header. Numbers in pages stand with their highest byte first.
+-- Where a store lies in a memory: its regions, and the fields of its header. Numbers in pages stand
+-- with their highest byte first.
 use Rattle.std.specs.Prelude.{ℕ, ◌+◌, ◌*◌, ◌-◌, ◌/◌, ◌^◌, nat_le, List, [], ◌∷◌, unwrap_or}
 use Rattle.std.specs.List.{find, range_with_len, flat_map}
 use Rattle.byteorder.specs.Endian.{big_number}
@@ -87,4 +88,6 @@ store_areas array buckets = header_area ∷ store_area array (array_pages bucket
 
 -- the cells of a store's regions: the header's, those of the two regions of arrays, and the heap's
 abbrev pub store_cells : List ℕ
-store_cells = 1 ∷ flat_map (λ (part : ℕ × ℕ). range_with_len part.0 part.1) ((1024, 64) ∷ (2048, 64) ∷ (4096, 257) ∷ [])
+store_cells =
+    1 ∷ flat_map (λ (part : ℕ × ℕ). range_with_len part.0 part.1)
+    ((1024, 64) ∷ (2048, 64) ∷ (4096, 257) ∷ [])
