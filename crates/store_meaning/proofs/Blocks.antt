@@ -23,7 +23,7 @@ widened : (from to below : ℕ) (blocks : List Block) → below ≤ from → All
 widened from to below [] less all = tt
 widened from to below (block ∷ blocks) less all = ((omega (arith, less, all.0.0), all.0.1), widened from to below blocks less all.1)
 
-fill_rises : (from to : ℕ) (blocks : List Block) → Fill from blocks to → from ≤ to
+pub fill_rises : (from to : ℕ) (blocks : List Block) → Fill from blocks to → from ≤ to
 fill_rises from to [] fill = omega (arith, fill)
 fill_rises from to (block ∷ blocks) fill = omega (arith, fill_rises (from + block_bytes block) to blocks fill.1)
 
