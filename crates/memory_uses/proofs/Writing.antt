@@ -9,12 +9,14 @@ use Rattle.memory_uses.specs.Written.{Writes, WritesOrFails, WritesTwice, FailsT
 use Rattle.memory_uses.specs.Copied.{NotCopied}
 
 pub written_or_refused : (result : Result (Unit {0}) Fault) (old new : MemoryState) (address : ℕ) (bytes : List ℕ)
-    → OnOk result (Writes old new address bytes) → IfErr result (λ fault. TouchFails old new address (length bytes) fault) → WritesOrFails old new address bytes
+    → OnOk result (Writes old new address bytes) → IfErr result (λ fault. TouchFails old new address (length bytes) fault)
+    → WritesOrFails old new address bytes
 written_or_refused (Ok done) old new address bytes writes fails = inl writes
 written_or_refused (Err fault) old new address bytes writes fails = inr (fault, fails)
 
 pub written_twice : (result : Result (Unit {0}) Fault) (old between new : MemoryState) (address second : ℕ) (bytes : List ℕ)
-    → Writes old between address bytes → OnOk result (Writes between new second bytes) → OnOk result (WritesTwice old new address second bytes)
+    → Writes old between address bytes → OnOk result (Writes between new second bytes)
+    → OnOk result (WritesTwice old new address second bytes)
 written_twice (Ok done) old between new address second bytes first again = record { between = between; first = first; again = again }
 written_twice (Err fault) old between new address second bytes first again = tt
 
