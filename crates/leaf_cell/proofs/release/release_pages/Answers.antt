@@ -13,11 +13,11 @@ release_page-requires-clause-room g c = λ q named.
 pub loop-page-preserved : goal.loop-page-preserved
 loop-page-preserved g c = record {
   released = releasing-more g.A.Allot.goes (g.A.Allot.state c.args.allot.now) (g.A.Allot.state c.loop-page.allot) (g.A.Allot.state c.release_page.new.allot)
-      c.args.table.now.places (table_places c.args.other.now) c.args.frames.now.items c.loop-page.frames.items c.release_page.new.frames.items 0 c.loop-page.page
+      c.args.table.now.places (table_places c.args.other.now) c.args.frames.now c.loop-page.frames c.release_page.new.frames 0 c.loop-page.page
       c.loop-page-test.true (omega arith) c.requires.size c.requires.home c.requires.others c.loop-page.invariant.released
       (released-as g.A.Allot.goes (g.A.Allot.state c.loop-page.allot) (g.A.Allot.state c.release_page.new.allot)
       c.get.result (version_at c.args.table.now.places c.loop-page.page) c.place_in.result (version_at (table_places c.args.other.now) c.loop-page.page)
-      c.loop-page.frames.items c.release_page.new.frames.items c.get.ensures c.place_in.ensures c.release_page.ensures.released);
+      c.loop-page.frames c.release_page.new.frames c.get.ensures c.place_in.ensures c.release_page.ensures.released);
   out = omega (arith, c.loop-page.invariant.out, c.release_page.ensures.out);
   untold = c.release_page.ensures.untold;
   unrefused = c.release_page.ensures.unrefused ∙ c.loop-page.invariant.unrefused;

@@ -1,0 +1,39 @@
+//! Words of 8 bytes in the pages of a memory, the highest byte first.
+ghost use Rattle.std.specs.Prelude.{◌≡◌, ◌+◌, ◌≤◌, ◌^◌, []};
+ghost use Rattle.byteorder.specs.Endian.{big_bytes};
+ghost use Rattle.vm_base.specs.MemoryState.{IsMemory, IsKept};
+ghost use Rattle.vm_base.specs.MemoryCalls.{IsReady, after_store};
+ghost use Rattle.store_meaning.specs.Layout.{word_at};
+ghost use Rattle.store_meaning.specs.HeapLayout.{ArePresent};
+
+use byteorder::{BigEndian, ByteOrder};
+use vm_base::Memory;
+
+// The word at an address. Its pages are present, so they lie in areas and the read is not refused.
+pub fn read_word<M: Memory>(m: &mut M, addr: u64) -> u64
+    requires present { ArePresent (M.state m.old).mem addr 8 }
+    requires within { addr + 8 ≤ 2 ^ 48 }
+    ensures word { result ≡ word_at (M.state m.old).mem addr }
+    ensures sound { IsMemory (M.state m.old) }
+    ensures same { M.state m.new ≡ M.state m.old }
+    ensures aside { M.aside m.new ≡ M.aside m.old }
+    ensures went { M.went m.old m.new }
+{
+    let mut bytes = [0; 8];
+    let _read = m.read(addr, &mut bytes);
+    BigEndian::read_u64(&bytes)
+}
+
+// Stores a word in pages that were touched.
+pub fn store_word<M: Memory>(m: &mut M, addr: u64, word: u64)
+    requires within { addr + 8 ≤ 2 ^ 48 }
+    requires ready { IsReady (M.state m.old) addr 8 }
+    ensures stored { M.state m.new ≡ after_store (M.state m.old) addr (big_bytes 8 word) }
+    ensures keeps { IsKept (M.state m.old) (M.state m.new) [] }
+    ensures aside { M.aside m.new ≡ M.aside m.old }
+    ensures went { M.went m.old m.new }
+{
+    let mut bytes = [0; 8];
+    BigEndian::write_u64(&mut bytes, word);
+    m.store(addr, &bytes);
+}

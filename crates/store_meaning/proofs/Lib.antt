@@ -1,0 +1,10 @@
+mod Worked
+pub mod Lists
+pub mod Words
+pub mod Chains
+pub mod Blocks
+pub mod HeapUse
+pub mod HeapSteps
+pub mod GivingBack
+pub mod HeapEnd
+pub mod Halves
