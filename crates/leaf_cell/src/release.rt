@@ -1,7 +1,7 @@
 //! Frames that go back.
 ghost use Rattle.std.specs.Prelude.{ℕ, ◌≡◌, ◌+◌, ◌<◌, ◌≤◌, length, slice_set, slice_index_or, replicate, count_by, is_some, Some, None};
 ghost use Rattle.vm_base.specs.Deals.{LeadsAlong, Returned};
-ghost use Rattle.kernel_meaning.specs.Leaves.{no_versions};
+ghost use Rattle.kernel_meaning.specs.Leaves.{no_versions, version_at};
 ghost use Rattle.leaf_cell.specs.Inside.{table_places, own_places, snapshot_places, leaf_value};
 ghost use Rattle.leaf_cell.specs.Releasing.{one_if, own_if, IsLeafReleased, AreHome, Releasing, IsReleased};
 
@@ -56,7 +56,35 @@ fn release_pages<A: Allot>(
     ensures unrefused { A.refused (A.state allot.new) ≡ A.refused (A.state allot.old) }
 {
     for page in 0..CELL_PAGES {
-        release_page(table.get(page), place_in(other, page), frames, allot);
+        release_entry(table, other, page, frames, allot);
+    }
+}
+
+/// Gives back the frame of a page, where a table names it and the other does not. The other is
+/// looked at only where the page is present.
+fn release_entry<A: Allot>(
+    table: &LeafTable,
+    other: &Option<LeafTable>,
+    page: u16,
+    frames: &mut FramePlaces,
+    allot: &mut A,
+)
+    requires size { length frames.old ≡ 1024 }
+    requires home { (page < CELL_PAGES) × AreHome table.now.places }
+    requires out { count_by is_some frames.old ≤ A.out (A.state allot.old) }
+    requires untold { A.grants allot.old ≡ None }
+    ensures released { IsReleased A.goes (A.state allot.old) (A.state allot.new)
+        (version_at table.now.places page) (version_at (table_places other.now) page)
+        frames.old frames.new }
+    ensures out { A.out (A.state allot.new) + count_by is_some frames.old
+        ≡ A.out (A.state allot.old) + count_by is_some frames.new }
+    ensures untold { A.grants allot.new ≡ None }
+    ensures unrefused { A.refused (A.state allot.new) ≡ A.refused (A.state allot.old) }
+{
+    let place = table.get(page);
+    match place {
+        Some(_) => release_page(place, place_in(other, page), frames, allot),
+        None => {}
     }
 }
 
