@@ -232,7 +232,8 @@ module _ (old : Sides) (side : Side) (address : ℕ) (bytes : List ℕ) (holds :
     stored_sides = record old { memory = side }
 
     same_pages : (page : ℕ) → is_some (get stored_memory.present page) ≡ is_some (get old.memory.pages.present page)
-    same_pages page = is_some-with_bytes old.memory.pages.present address bytes (λ q among. ready-there (mem_of old.memory) q (ready q among))
+    same_pages page =
+        is_some-with_bytes old.memory.pages.present address bytes (λ q among. ready-there (mem_of old.memory) q (ready q among))
         page
 
     same_pages_then : (page : ℕ) → is_some (get side.pages.present page) ≡ is_some (get old.memory.pages.present page)

@@ -22,8 +22,10 @@ impl Flat {
     /// A process without areas or pages, with room for so many pages. The last child had this
     /// number, which is 0 before the first. It fails only for want of memory.
     pub fn new(alloc: Global, pages: u32, last: u32) -> Result<Flat, NoMemory>
-        ensures memory { IfOk result (λ flat. ⟦<Flat as Memory>⟧.state flat ≡ opening_memory pages) }
-        ensures children { IfOk result (λ flat. ⟦<Flat as Process>⟧.children (⟦<Flat as Process>⟧.beside flat)
+        ensures memory { IfOk result
+            (λ flat. ⟦<Flat as Memory>⟧.state flat ≡ opening_memory pages) }
+        ensures children { IfOk result
+            (λ flat. ⟦<Flat as Process>⟧.children (⟦<Flat as Process>⟧.beside flat)
             ≡ record { numbers = []; live = 0; last = last; limit = 1 }) }
     {
         let memory = Side::new(alloc, pages)?;

@@ -24,8 +24,8 @@ impl Memory for Flat {
 
     ghost went_none = { λ p. went-none (beside_of p.sides) };
 
-    ghost went_on = { λ p q r one two. went-on (beside_of p.sides) (beside_of q.sides) (beside_of r.sides) one
-        two };
+    ghost went_on = { λ p q r one two.
+        went-on (beside_of p.sides) (beside_of q.sides) (beside_of r.sides) one two };
 
     fn read(&mut self, addr: u64, buf: &mut [u8]) -> Result<(), Fault> {
         match self.sides.memory.read(addr, buf) {
@@ -38,7 +38,8 @@ impl Memory for Flat {
     fn touch(&mut self, addr: u64, len: u64) -> Result<(), Fault>
         requires within { addr + len ≤ 2 ^ 48 }
         requires few { len ≤ 4194304 }
-        ensures touched { OnOk result (Touches (memory_of self.old.sides) (memory_of self.new.sides) addr len) }
+        ensures touched { OnOk result
+            (Touches (memory_of self.old.sides) (memory_of self.new.sides) addr len) }
         ensures fault { IfErr result
             (λ fault. TouchFails (memory_of self.old.sides) (memory_of self.new.sides) addr len
             fault) }

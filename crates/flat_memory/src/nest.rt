@@ -32,8 +32,8 @@ impl Nest for Flat {
 
     ghost went_none = { λ p. went-none (beside_of p.sides) };
 
-    ghost went_on = { λ p q r one two. went-on (beside_of p.sides) (beside_of q.sides) (beside_of r.sides) one
-        two };
+    ghost went_on = { λ p q r one two.
+        went-on (beside_of p.sides) (beside_of q.sides) (beside_of r.sides) one two };
 
     fn child_read(
         &mut self,
@@ -76,9 +76,11 @@ impl Housing for Flat {
 
     ghost went_nest = { λ p q went. went };
 
-    ghost went_child = { λ p q c went lived lives. went_child p.sides q.sides p.holds went c.number lived lives };
+    ghost went_child = { λ p q c went lived lives.
+        went_child p.sides q.sides p.holds went c.number lived lives };
 
-    ghost lost_since = { λ p q c went lived lives cell at before found. absurd (none_found cell at found) };
+    ghost lost_since = { λ p q c went lived lives cell at before found.
+        absurd (none_found cell at found) };
 
     ghost used_kept = { λ p c cell lives listed. used_kept p.sides c.number lives cell listed };
 

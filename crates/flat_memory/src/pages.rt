@@ -134,7 +134,8 @@ fn take_out(entries: &mut Vec<Entry>, spare: &mut Vec<Page>, first: u64, pages: 
     requires room { vec_len entries.old + vec_len spare.old ≤ vec_capacity spare.old }
     ensures entries { entries.new.items ≡ where_key nat_cmp (is_beyond first pages)
         entries.old.items }
-    ensures all { vec_len entries.new + vec_len spare.new ≡ vec_len entries.old + vec_len spare.old }
+    ensures all { vec_len entries.new + vec_len spare.new
+        ≡ vec_len entries.old + vec_len spare.old }
     ensures room { vec_capacity entries.new ≡ vec_capacity entries.old }
     ensures spare_room { vec_capacity spare.new ≡ vec_capacity spare.old }
 {
@@ -153,7 +154,8 @@ fn take_out(entries: &mut Vec<Entry>, spare: &mut Vec<Page>, first: u64, pages: 
 fn give_back(entries: &mut Vec<Entry>, spare: &mut Vec<Page>)
     requires room { vec_len entries.old + vec_len spare.old ≤ vec_capacity spare.old }
     ensures entries { entries.new.items ≡ [] }
-    ensures all { vec_len entries.new + vec_len spare.new ≡ vec_len entries.old + vec_len spare.old }
+    ensures all { vec_len entries.new + vec_len spare.new
+        ≡ vec_len entries.old + vec_len spare.old }
     ensures room { vec_capacity entries.new ≡ vec_capacity entries.old }
     ensures spare_room { vec_capacity spare.new ≡ vec_capacity spare.old }
 {
@@ -169,7 +171,8 @@ fn copy_into(entries: &mut Vec<Entry>, spare: &mut Vec<Page>, from: &[Entry])
     requires ready { length from.now ≤ vec_len spare.old }
     requires room { length from.now ≤ vec_capacity entries.old }
     ensures entries { entries.new.items ≡ from.now }
-    ensures all { vec_len entries.new + vec_len spare.new ≡ vec_len entries.old + vec_len spare.old }
+    ensures all { vec_len entries.new + vec_len spare.new
+        ≡ vec_len entries.old + vec_len spare.old }
     ensures room { vec_capacity entries.new ≡ vec_capacity entries.old }
     ensures spare_room { vec_capacity spare.new ≡ vec_capacity spare.old }
 {

@@ -81,7 +81,8 @@ fn zeros(len: usize) -> &'static [u8]
 pub(crate) fn store_range(pages: &mut Pages, addr: u64, bytes: &[u8])
     requires within { addr + length bytes.now ≤ 2 ^ 48 }
     requires full { AreFullPages pages.old.present addr (length bytes.now) }
-    ensures { pages.new ≡ record pages.old { present = with_bytes pages.old.present addr bytes.now } }
+    ensures { pages.new
+        ≡ record pages.old { present = with_bytes pages.old.present addr bytes.now } }
 {
     let mut done = 0;
     while done < bytes.len() {

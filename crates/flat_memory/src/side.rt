@@ -41,9 +41,10 @@ impl Side {
     /// Reads the bytes of a range, or tells its lowest page that lies in no area.
     pub(crate) fn read(&self, addr: u64, buf: &mut [u8]) -> Result<(), u64>
         requires { addr + length buf.old ≤ 2 ^ 48 }
-        ensures inside { OnOk result (outside self.now.areas (page_of addr) (page_count addr (length buf.old))
-            ≡ None) }
-        ensures bytes { OnOk result (buf.new ≡ bytes_at self.now.pages.present addr (length buf.old)) }
+        ensures inside { OnOk result
+            (outside self.now.areas (page_of addr) (page_count addr (length buf.old)) ≡ None) }
+        ensures bytes { OnOk result
+            (buf.new ≡ bytes_at self.now.pages.present addr (length buf.old)) }
         ensures outside { IfErr result
             (λ page. outside self.now.areas (page_of addr) (page_count addr (length buf.old)) ≡ Some
             page) }
@@ -84,7 +85,8 @@ impl Side {
     /// Makes each page of a range present.
     pub(crate) fn touch(&mut self, addr: u64, len: u64)
         requires within { addr + len ≤ 2 ^ 48 }
-        requires room { page_total (touched (mem_of self.old) addr len).present ≤ self.old.pages.room }
+        requires room { page_total (touched (mem_of self.old) addr len).present
+            ≤ self.old.pages.room }
         ensures { self.new ≡ record self.old {
           pages =
               record self.old.pages { present = (touched (mem_of self.old) addr len).present };
@@ -113,7 +115,8 @@ impl Side {
     pub(crate) fn map(&mut self, first: u64, pages: u64, perm: Perm) -> Result<(), AreaFault>
         requires some { 0 < pages }
         requires within { first + pages ≤ 2 ^ 36 }
-        ensures answer { SideChanges self.old self.new result (map_of (mem_of self.old) first pages perm) }
+        ensures answer { SideChanges self.old self.new result
+            (map_of (mem_of self.old) first pages perm) }
         ensures areas { OnOk result (Sets self.old.areas self.new.areas first pages (Some perm)) }
         ensures pages { self.new.pages ≡ self.old.pages }
     {
@@ -124,7 +127,8 @@ impl Side {
     pub(crate) fn unmap(&mut self, first: u64, pages: u64) -> Result<(), AreaFault>
         requires some { 0 < pages }
         requires within { first + pages ≤ 2 ^ 36 }
-        ensures answer { SideChanges self.old self.new result (unmap_of (mem_of self.old) first pages) }
+        ensures answer { SideChanges self.old self.new result
+            (unmap_of (mem_of self.old) first pages) }
         ensures pages { OnOk result
             (self.new.pages ≡ record self.old.pages
             { present = unmapped self.old.pages.present first pages }) }
@@ -142,7 +146,8 @@ impl Side {
     pub(crate) fn protect(&mut self, first: u64, pages: u64, perm: Perm) -> Result<(), AreaFault>
         requires some { 0 < pages }
         requires within { first + pages ≤ 2 ^ 36 }
-        ensures answer { SideChanges self.old self.new result (protect_of (mem_of self.old) first pages perm) }
+        ensures answer { SideChanges self.old self.new result
+            (protect_of (mem_of self.old) first pages perm) }
         ensures pages { self.new.pages ≡ self.old.pages }
     {
         self.areas.protect(first, pages, perm)
@@ -152,7 +157,8 @@ impl Side {
     pub(crate) fn copy_from(&mut self, side: &Side)
         requires { page_total side.now.pages.present ≤ self.old.pages.room }
         ensures areas { self.new.areas ≡ side.now.areas }
-        ensures pages { self.new.pages ≡ record self.old.pages { present = side.now.pages.present } }
+        ensures pages { self.new.pages
+            ≡ record self.old.pages { present = side.now.pages.present } }
     {
         self.areas = side.areas.copy();
         self.pages.copy_from(&side.pages);
