@@ -1,11 +1,10 @@
 -- The search for the least class of a size, from a class on.
-use Rattle.std.proofs.Common.{◌≡◌, ◌⊎◌, ℕ, ◌+◌, ◌-◌, ◌^◌, ◌<◌, ◌≤◌, Bool, true, false, Some, None, Option, refl, sym, ◌∙◌, ap, arith, inl, inr, unwrap_or}
+use Rattle.std.proofs.Common.{◌≡◌, ◌⊎◌, ℕ, ◌+◌, ◌-◌, ◌^◌, ◌<◌, ◌≤◌, Bool, true, false, sym, ◌∙◌, ap, arith, inl, inr, unwrap_or}
 use Rattle.std.specs.Prelude.{nat_le}
 use Rattle.std.proofs.lemmas.Bool.{cases_Bool}
 use Rattle.std.proofs.lemmas.Bool.Decides.{nat_tests}
 use Rattle.vm_base.specs.FlatStep.{lowest}
 use Rattle.vm_base.proofs.Ranges.{lowest_here, lowest_above}
-use Rattle.store_meaning.specs.Layout.{class_of}
 
 -- the least class from this one on whose blocks hold so many bytes
 abbrev pub class_from : ℕ → ℕ → ℕ

@@ -1,9 +1,9 @@
 -- Reads and stores in pages that are present, or that were touched.
-use Rattle.std.proofs.Common.{◌≡◌, ℕ, ◌+◌, ◌*◌, ◌<◌, ◌≤◌, List, Result, Ok, Err, Some, None, IsSome, IfErr, OnOk, refl, sym, ◌∙◌, ap, arith, eqb, ◌-◌}
+use Rattle.std.proofs.Common.{◌≡◌, ℕ, ◌+◌, ◌*◌, ◌<◌, ◌≤◌, arith, eqb, ◌-◌}
 use Rattle.std.proofs.lemmas.Bool.{cond-false, ne_eqb}
 use Rattle.vm_base.specs.Places.{page_of, page_count}
-use Rattle.vm_base.specs.FlatMemory.{FlatMemory, bytes_at}
-use Rattle.vm_base.specs.MemoryState.{MemoryState, IsMemory, IsIn}
+use Rattle.vm_base.specs.FlatMemory.{FlatMemory}
+use Rattle.vm_base.specs.MemoryState.{MemoryState}
 use Rattle.vm_base.specs.MemoryCalls.{IsReady, IsInRange}
 use Rattle.store_meaning.specs.Layout.{header_at}
 use Rattle.store_meaning.specs.HeapLayout.{ArePresent}

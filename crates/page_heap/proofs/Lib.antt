@@ -1,3 +1,5 @@
 pub mod Classes
 pub mod Flat
 pub mod Plans
+pub mod Mapped
+pub mod Beginning

@@ -1,21 +1,21 @@
 -- Which block a heap gives next, and what taking it stores.
-use Rattle.std.proofs.Common.{◌≡◌, ℕ, ◌+◌, ◌-◌, ◌*◌, ◌^◌, ◌<◌, ◌≤◌, Bool, true, false, List, [], ◌∷◌, length, cond, refl, sym, ◌∙◌, ap, subst, arith, true≢false, pow_pos, pow_mono, Contains, IsSome}
-use Rattle.std.specs.FinMap.{get, len}
+use Rattle.std.proofs.Common.{◌≡◌, ℕ, ◌+◌, ◌-◌, ◌^◌, ◌<◌, ◌≤◌, true, false, List, [], ◌∷◌, refl, sym, ◌∙◌, ap, subst, arith, true≢false, pow_pos, pow_mono, Contains}
+use Rattle.std.specs.FinMap.{len}
 use Rattle.std.specs.List.{AllByRecursion}
 use Rattle.std.proofs.lemmas.List.Elements.{recursion_from_All}
 use Rattle.std.proofs.lemmas.List.FromFn.{get_or-range_with_len}
 use Rattle.vm_base.specs.FlatMemory.{FlatMemory}
 use Rattle.vm_base.specs.FlatLaws.{AreFullPages}
-use Rattle.vm_base.specs.MemoryState.{MemoryState, IsMemory, IsIn}
-use Rattle.vm_base.specs.MemoryCalls.{IsReady, IsInRange, after_store}
+use Rattle.vm_base.specs.MemoryState.{MemoryState, IsMemory}
+use Rattle.vm_base.specs.MemoryCalls.{IsReady}
 use Rattle.vm_base.proofs.FlatLaws.{full_from_ready}
-use Rattle.store_meaning.specs.Layout.{classes, class_of, header_at, heap_at, heap_end, top_field, list_field, word_at}
-use Rattle.store_meaning.specs.HeapLayout.{Block, Heap, IsHeap, Links, ArePresent, HalfIsPresent, with_next, committed, freed, blocks_of, free_of}
+use Rattle.store_meaning.specs.Layout.{classes, header_at, heap_at, heap_end, top_field, list_field, word_at}
+use Rattle.store_meaning.specs.HeapLayout.{Block, Heap, IsHeap, Links, ArePresent, HalfIsPresent, with_next, committed, freed, blocks_of}
 use Rattle.store_meaning.proofs.Lists.{all_permuted, all_left, all_contained, class_within}
-use Rattle.store_meaning.proofs.HeapSteps.{of_free, free_within, blocks_within, takes_top, takes_free, class_bytes}
+use Rattle.store_meaning.proofs.HeapSteps.{of_free, free_within, blocks_within, takes_top, takes_free}
 use Rattle.store_meaning.proofs.Blocks.{fill_rises}
 use Rattle.store_meaning.proofs.HeapEnd.{block_fits}
-use Rattle.store_meaning.proofs.GivingBack.{gives_back, giving}
+use Rattle.store_meaning.proofs.GivingBack.{gives_back}
 use Rattle.page_heap.specs.declared.planned.Plan.{Plan}
 use Rattle.page_heap.specs.HeapCalls.{plan_by, plan_for, commit_store, free_store, HasInUse}
 use Rattle.page_heap.proofs.Flat.{ready_field, in_range}

@@ -2,13 +2,17 @@
 use Rattle.std.specs.Prelude.{◌≡◌, ℕ, ◌+◌, ◌≤◌, ◌^◌, false, true, if◌then◌else◌, List, [], ◌∷◌, Contains, IsSome, replicate}
 use Rattle.std.specs.FinMap.{get}
 use Rattle.byteorder.specs.Endian.{big_bytes}
-use Rattle.vm_base.specs.FlatMemory.{FlatMemory, bytes_at}
+use Rattle.vm_base.specs.FlatMemory.{Area, FlatMemory, bytes_at}
 use Rattle.vm_base.specs.MemoryState.{MemoryState}
 use Rattle.vm_base.specs.MemoryCalls.{IsReady, after_store}
 use Rattle.store_meaning.specs.Layout.{class_of, classes, top_field, list_field, header_at, header_area, heap_area, word_at}
-use Rattle.store_meaning.specs.HeapLayout.{Block, Heap, IsHeap, opening_heap}
+use Rattle.store_meaning.specs.HeapLayout.{Heap, IsHeap, opening_heap}
 use Rattle.store_meaning.specs.Standing.{MayHoldStore}
 use Rattle.page_heap.specs.declared.planned.Plan.{Plan}
+
+-- the memory with other areas, and all else as it was
+abbrev pub with_areas : MemoryState → List Area → MemoryState
+with_areas state areas = record state { mem = record state.mem { areas = areas } }
 
 -- the memory has the two areas and the header's page alone, with a heap without blocks; and the header may be stored to
 pub record Begins (old new : MemoryState) : Type 0 where

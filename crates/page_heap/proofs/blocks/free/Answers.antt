@@ -1,9 +1,9 @@
-use Rattle.std.proofs.Common.{◌≡◌, ℕ, ◌≤◌, ◌<◌, ◌+◌, [], Contains, sym, ◌∙◌, ap, subst, arith}
+use Rattle.std.proofs.Common.{◌≡◌, [], sym, ◌∙◌, ap, subst, arith}
 use Rattle.byteorder.specs.Endian.{big_bytes}
 use Rattle.vm_base.specs.MemoryState.{IsKept}
 use Rattle.vm_base.specs.MemoryCalls.{after_store}
 use Rattle.vm_base.proofs.IsKeptOn.{IsKept-on}
-use Rattle.store_meaning.specs.Layout.{classes, list_field, word_at, heap_end}
+use Rattle.store_meaning.specs.Layout.{list_field, word_at}
 use Rattle.store_meaning.specs.HeapLayout.{IsHeap, freed}
 use Rattle.store_meaning.proofs.Lists.{class_within}
 use Rattle.page_heap.specs.HeapCalls.{free_store}

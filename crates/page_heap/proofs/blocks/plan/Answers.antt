@@ -1,6 +1,5 @@
 use Rattle.std.proofs.Common.{◌≡◌, ◌≤◌, ◌+◌, ◌^◌, false, true, Contains, sym, ◌∙◌, ap, subst, arith}
 use Rattle.store_meaning.specs.Layout.{classes, top_field, list_field, word_at, heap_at, heap_end}
-use Rattle.page_heap.specs.declared.planned.Plan.{Plan}
 use Rattle.page_heap.specs.HeapCalls.{plan_for}
 use Rattle.page_heap.proofs.Plans.{planned_top, planned_free, plan_fits, class_listed}
 use Rattle.page_heap.proofs.blocks.plan.Goals as goal

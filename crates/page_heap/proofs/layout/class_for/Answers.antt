@@ -1,4 +1,4 @@
-use Rattle.std.proofs.Common.{◌≡◌, ◌^◌, ◌<◌, ◌≤◌, ◌+◌, sym, ◌∙◌, arith, pow_mono}
+use Rattle.std.proofs.Common.{◌≡◌, ◌^◌, ◌<◌, ◌≤◌, sym, ◌∙◌, arith, pow_mono}
 use Rattle.page_heap.proofs.Classes.{class_from-here, class_from-above, class_from-last}
 use Rattle.page_heap.proofs.layout.class_for.Goals as goal
 
