@@ -58,6 +58,11 @@ even-slots slots s slot new here before after =
     let shares : shares_in (slice_set slots s new) + share slot.cell.leaves ≡ shares_in slots + share new.cell.leaves = shares-set slots s slot new here in
     omega (arith, held, shares, before, after)
 
+-- and where they were as many as their shares, they still are
+pub still-even : (frames shares frames_then shares_then : ℕ) → frames + shares_then ≡ shares + frames_then → frames ≡ shares
+    → frames_then ≡ shares_then
+still-even frames shares frames_then shares_then moved even = omega (arith, moved, even)
+
 -- a cell that stands for some account holds the share of its own leaves
 pub holds-own : (view : CellView) (account : CellAccount) → StandsFor view account → HoldsShare view → held_of view ≡ share view.leaves
 holds-own view account stands holds = holds account stands ∙ sym (share-stands view account stands)

@@ -214,8 +214,8 @@ ready-left-all (page ∷ pages) leaves q apart ready = elim (cases_eq q page) [
 module _ (first n i : ℕ) (small : i < n) (added : List ℕ) (now mid final : PageTables) (deals more : List Deal) (sides : Sides)
     (slots : ℕ) (so_far : IsTouchedUpTo first n i added now deals sides slots)
     (page : ℕ) (here : page ≡ first + i) (refusal : FrameRefusal) (touch : FollowsTouch page mid more (Some refusal) (sides_then first n i small added now mid deals more sides slots so_far page here))
-    (taken : (s : Sides) → TablesStandFor mid s → TablesStandFor final (sides_without_pages added s)) (snapshot : final.snapshot ≡ mid.snapshot)
-    (even : frames_in mid.slots.items + shares_in final.slots.items ≡ shares_in mid.slots.items + frames_in final.slots.items) where
+    (taken : (s : Sides) → TablesStandFor mid s → TablesStandFor final (sides_without_pages added s)) (snapshot : final.snapshot ≡
+    mid.snapshot) where
   abbrev back : ℕ
   back = frames_of mid - frames_of final
 
@@ -244,7 +244,7 @@ module _ (first n i : ℕ) (small : i < n) (added : List ℕ) (now mid final : P
       let after : held_frames final_leaves ≡ tables_of final.directory + snapshot_frames final.snapshot + shares_in final.slots.items =
       frames-law final.directory final.snapshot final.slots.items final_sides ends in
       let same : snapshot_frames final.snapshot ≡ snapshot_frames mid.snapshot = ap snapshot_frames snapshot in
-      omega (arith, before, after, same, even)
+      omega (arith, before, after, same, mid.even, final.even)
 
   abbrev all : List Deal
   all = deals ++ (more ++ returned back)

@@ -12,7 +12,7 @@ use Rattle.kernel_meaning.specs.EventRequests.{page_version}
 use Rattle.page_tables.specs.declared.tables.PageTables.{PageTables}
 use Rattle.page_tables.specs.Sides.{Sides}
 use Rattle.page_tables.specs.Standing.{TablesStandFor, slot_count}
-use Rattle.page_tables.specs.Held.{frames_of, frames_in, shares_in}
+use Rattle.page_tables.specs.Held.{frames_of}
 use Rattle.page_tables.specs.Clearing.{sides_without}
 use Rattle.page_tables.specs.Ranges.{sides_without_pages, AreThere}
 use Rattle.page_tables.proofs.Presence.{one-present}
@@ -35,7 +35,6 @@ pub record IsTakenBack {State : Type 0} (goes : State → Deal → State → Typ
   pub held : out to + frames_of old ≡ out from + frames_of now
   pub slots : slot_count now ≡ slot_count old
   pub unrefused : refused to ≡ refused from
-  pub even : frames_in old.slots.items + shares_in now.slots.items ≡ shares_in old.slots.items + frames_in now.slots.items
   pub snapshot : now.snapshot ≡ old.snapshot
 
 module _ {State : Type 0} (goes : State → Deal → State → Type 0) (refused : State → ℕ) (out : State → ℕ) (from middle to : State) (done left : List ℕ) (page : ℕ) (old now next : PageTables) where
@@ -43,12 +42,11 @@ module _ {State : Type 0} (goes : State → Deal → State → Type 0) (refused 
       → LeadsAlong goes middle (returned (frames_of now - frames_of next)) to → frames_of next ≤ frames_of now
       → ((sides : Sides) → TablesStandFor now sides → TablesStandFor next (sides_without (cell_of page) (page % 512) 1 sides))
       → out to + frames_of now ≡ out middle + frames_of next → slot_count next ≡ slot_count now → refused to ≡ refused middle
-      → frames_in now.slots.items + shares_in next.slots.items ≡ shares_in now.slots.items + frames_in next.slots.items → next.snapshot ≡ now.snapshot
+      → next.snapshot ≡ now.snapshot
       → IsTakenBack goes refused out from to (done ++ page ∷ []) left old next
-  one-more so_far led shrunk follows held slots unrefused even snapshot =
+  one-more so_far led shrunk follows held slots unrefused snapshot =
       let less : frames_of now ≤ frames_of old = so_far.shrunk in
       let whole : frames_of old - frames_of now + (frames_of now - frames_of next) ≡ frames_of old - frames_of next = omega arith in
-      let balance : frames_in old.slots.items + shares_in now.slots.items ≡ shares_in old.slots.items + frames_in now.slots.items = so_far.even in
       let before : out middle + frames_of old ≡ out from + frames_of now = so_far.held in
       record {
         led = subst (λ ds. LeadsAlong goes from ds to) (returned-append (frames_of old - frames_of now) (frames_of now - frames_of next) ∙ ap returned whole)
@@ -59,7 +57,6 @@ module _ {State : Type 0} (goes : State → Deal → State → Type 0) (refused 
         held = omega arith;
         slots = slots ∙ so_far.slots;
         unrefused = unrefused ∙ so_far.unrefused;
-        even = omega (arith, balance, even);
         snapshot = snapshot ∙ so_far.snapshot;
       }
 
@@ -75,7 +72,6 @@ none-taken goes refused out from left old there = record {
   held = refl;
   slots = refl;
   unrefused = refl;
-  even = omega arith;
   snapshot = refl;
 }
 

@@ -2,6 +2,7 @@ pub mod Courses
 pub mod Sides
 pub mod SlotViews
 pub mod Standing
+pub mod SlotFrames
 pub mod Held
 pub mod TablesView
 pub mod Accesses

@@ -1,6 +1,6 @@
 -- What page tables show to those above: their slots as a list of views, the pages and the number of
 -- their snapshot, and which cells each side has.
-use Rattle.std.specs.Prelude.{◌≡◌, ℕ, ◌+◌, Bool, List, [], ◌∷◌, map, Option, None, is_some}
+use Rattle.std.specs.Prelude.{◌≡◌, ℕ, Bool, List, [], ◌∷◌, map, Option, None, is_some}
 use Rattle.std.specs.Ordering.{nat_cmp}
 use Rattle.std.specs.FinMap.{FinMap, get, insert, empty}
 use Rattle.vm_base.specs.FlatMemory.{PageMap}
@@ -10,7 +10,6 @@ use Rattle.leaf_cell.specs.CellView.{CellView, parent_page, kept_page}
 use Rattle.page_tables.specs.declared.slot.Slot.{Slot}
 use Rattle.page_tables.specs.declared.tables.PageTables.{PageTables}
 use Rattle.page_tables.specs.Standing.{number_of, slot_in}
-use Rattle.page_tables.specs.Held.{frames_in, shares_in}
 use Rattle.page_tables.specs.SlotViews.{SlotView, with_read_pages, pages_in}
 
 -- each of these snapshots with its pages in a cell
@@ -58,13 +57,3 @@ LacksSnapshot tables = tables.snapshot ≡ None
 -- the snapshot is as it was, with its directory
 abbrev pub HasSameSnapshot : PageTables → PageTables → Type 0
 HasSameSnapshot old new = new.snapshot ≡ old.snapshot
-
--- each cell holds as many frames as its share
-abbrev pub IsEven : PageTables → Type 0
-IsEven tables = frames_in tables.slots.items ≡ shares_in tables.slots.items
-
--- what the cells hold has changed as their shares have
-abbrev pub KeepsEven : PageTables → PageTables → Type 0
-KeepsEven old new =
-    frames_in old.slots.items + shares_in new.slots.items
-    ≡ shares_in old.slots.items + frames_in new.slots.items

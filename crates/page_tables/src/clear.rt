@@ -12,7 +12,7 @@ ghost use Rattle.page_tables.specs.Making.{MadeEvent};
 ghost use Rattle.page_tables.specs.Permissions.{StopsWriting};
 ghost use Rattle.page_tables.specs.Sides.{Sides};
 ghost use Rattle.page_tables.specs.Standing.{TablesStandFor, slot_count};
-ghost use Rattle.page_tables.specs.Held.{frames_of, frames_in, shares_in};
+ghost use Rattle.page_tables.specs.Held.{frames_of};
 
 use crate::pieces::CELL_PAGES;
 use crate::slot::Slot;
@@ -33,7 +33,6 @@ impl PageTables {
         ensures untold { A.grants allot.new ≡ None }
         ensures slots { slot_count self.new ≡ slot_count self.old }
         ensures unrefused { A.refused (A.state allot.new) ≡ A.refused (A.state allot.old) }
-        ensures even { frames_in self.old.slots.items + shares_in self.new.slots.items ≡ shares_in self.old.slots.items + frames_in self.new.slots.items }
         ensures snapshot { self.new.snapshot ≡ self.old.snapshot }
         ensures writable { StopsWriting first count self.old self.new }
     {
@@ -62,7 +61,6 @@ impl PageTables {
         ensures untold { A.grants allot.new ≡ None }
         ensures slots { slot_count self.new ≡ slot_count self.old }
         ensures unrefused { A.refused (A.state allot.new) ≡ A.refused (A.state allot.old) }
-        ensures even { frames_in self.old.slots.items + shares_in self.new.slots.items ≡ shares_in self.old.slots.items + frames_in self.new.slots.items }
         ensures snapshot { self.new.snapshot ≡ self.old.snapshot }
         ensures writable { StopsWriting (cell * 512 + first_in_cell cell first) (count_in_cell cell first (end - first)) self.old self.new }
     {
@@ -99,7 +97,6 @@ impl PageTables {
         ensures untold { A.grants allot.new ≡ None }
         ensures slots { slot_count self.new ≡ slot_count self.old }
         ensures unrefused { A.refused (A.state allot.new) ≡ A.refused (A.state allot.old) }
-        ensures even { frames_in self.old.slots.items + shares_in self.new.slots.items ≡ shares_in self.old.slots.items + frames_in self.new.slots.items }
         ensures snapshot { self.new.snapshot ≡ self.old.snapshot }
         ensures writable { StopsWriting (cell * 512 + first) count self.old self.new }
     {
@@ -125,7 +122,6 @@ impl PageTables {
         ensures untold { A.grants allot.new ≡ None }
         ensures slots { slot_count self.new ≡ slot_count self.old }
         ensures unrefused { A.refused (A.state allot.new) ≡ A.refused (A.state allot.old) }
-        ensures even { frames_in self.old.slots.items + shares_in self.new.slots.items ≡ shares_in self.old.slots.items + frames_in self.new.slots.items }
         ensures snapshot { self.new.snapshot ≡ self.old.snapshot }
         ensures writable { StopsWriting (cell * 512 + first) count self.old self.new }
     {

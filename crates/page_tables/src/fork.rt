@@ -39,7 +39,6 @@ impl PageTables {
         ensures held { A.out (A.state allot.new) + frames_of self.old ≡ A.out (A.state allot.old) + frames_of self.new }
         ensures untold { A.grants allot.new ≡ None }
         ensures slots { slot_count self.new ≡ slot_count self.old }
-        ensures even { frames_in self.old.slots.items + shares_in self.new.slots.items ≡ shares_in self.old.slots.items + frames_in self.new.slots.items }
         ensures lives { OnOk result (number_of self.new.snapshot ≡ Some number) }
         ensures kept { OnErr result (self.new.snapshot ≡ None) }
         ensures writable { WritesAfterFork result self.old self.new }
@@ -79,7 +78,6 @@ impl PageTables {
         ensures held { A.out (A.state allot.new) + frames_of self.old ≡ A.out (A.state allot.old) + frames_of self.new }
         ensures untold { A.grants allot.new ≡ None }
         ensures slots { slot_count self.new ≡ slot_count self.old }
-        ensures even { frames_in self.old.slots.items + shares_in self.new.slots.items ≡ shares_in self.old.slots.items + frames_in self.new.slots.items }
         ensures gone { self.new.snapshot ≡ None }
         ensures writable { KeepsWriting self.old self.new }
     {

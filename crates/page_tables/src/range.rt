@@ -10,7 +10,7 @@ ghost use Rattle.page_tables.specs.Sides.{Sides};
 ghost use Rattle.page_tables.specs.Standing.{TablesStandFor, slot_count};
 ghost use Rattle.page_tables.specs.Accesses.{IsReady};
 ghost use Rattle.page_tables.specs.Permissions.{may_write, is_alone, is_there, StopsWritingAt, WritesAfterRange};
-ghost use Rattle.page_tables.specs.Held.{frames_of, frames_in, shares_in};
+ghost use Rattle.page_tables.specs.Held.{frames_of};
 ghost use Rattle.page_tables.specs.Ranges.{MadeRange, HasRoom, cells_of_pages, range_refusal, sides_without_pages, AreThere};
 
 use crate::pieces::cell_and_index;
@@ -68,7 +68,6 @@ impl PageTables {
         ensures untold { A.grants allot.new ≡ None }
         ensures at { IfErr result (λ e. e.at ≡ A.refused (A.state allot.new)) }
         ensures slots { slot_count self.new ≡ slot_count self.old }
-        ensures even { frames_in self.old.slots.items + shares_in self.new.slots.items ≡ shares_in self.old.slots.items + frames_in self.new.slots.items }
         ensures snapshot { self.new.snapshot ≡ self.old.snapshot }
         ensures noted { vec_capacity added.new ≡ vec_capacity added.old }
         ensures writable { WritesAfterRange first count result self.old self.new }
@@ -148,7 +147,6 @@ impl PageTables {
         ensures untold { A.grants allot.new ≡ None }
         ensures slots { slot_count self.new ≡ slot_count self.old }
         ensures unrefused { A.refused (A.state allot.new) ≡ A.refused (A.state allot.old) }
-        ensures even { frames_in self.old.slots.items + shares_in self.new.slots.items ≡ shares_in self.old.slots.items + frames_in self.new.slots.items }
         ensures snapshot { self.new.snapshot ≡ self.old.snapshot }
         ensures writable { StopsWritingAt added.now self.old self.new }
     {

@@ -1,6 +1,7 @@
 //! The page tables, made with all their room.
 ghost use Rattle.std.specs.Prelude.{◌≡◌, ◌≤◌, IfOk};
 ghost use Rattle.page_tables.specs.Spare.{HasSpare};
+ghost use Rattle.page_tables.specs.SlotFrames.{frames_in, shares_in};
 
 use crate::slot::{Slot, free_slots};
 use std::alloc::Global;
@@ -24,6 +25,8 @@ pub struct PageTables {
     pub(crate) spare: Option<Directory>,
     pub(crate) slots: Vec<Slot>,
     ghost spared: { HasSpare snapshot spare },
+    /// Each cell holds as many frames as its share.
+    ghost even: { frames_in slots.items ≡ shares_in slots.items },
 }
 
 impl PageTables {

@@ -6,7 +6,7 @@ ghost use Rattle.vm_base.specs.Places.{cell_of};
 ghost use Rattle.kernel_meaning.specs.FrameLaw.{lacks_slots};
 ghost use Rattle.page_tables.specs.Sides.{Sides};
 ghost use Rattle.page_tables.specs.Standing.{TablesStandFor, HasSlotFor, IsSlotOf, IsSlotChosen, slot_count};
-ghost use Rattle.page_tables.specs.Held.{frames_of, frames_in, shares_in};
+ghost use Rattle.page_tables.specs.Held.{frames_of};
 ghost use Rattle.page_tables.specs.Permissions.{WritesAfterPage};
 ghost use Rattle.page_tables.specs.Making.{MadeTouch, page_refusal};
 
@@ -36,7 +36,6 @@ impl PageTables {
         ensures untold { A.grants allot.new ≡ None }
         ensures counted { IfErr result (λ e. (A.refused (A.state allot.new) ≡ next_count (A.refused (A.state allot.old))) × (e.at ≡ A.refused (A.state allot.new))) }
         ensures slots { slot_count self.new ≡ slot_count self.old }
-        ensures even { frames_in self.old.slots.items + shares_in self.new.slots.items ≡ shares_in self.old.slots.items + frames_in self.new.slots.items }
         ensures snapshot { self.new.snapshot ≡ self.old.snapshot }
         ensures writable { WritesAfterPage page result self.old self.new }
     {
@@ -61,7 +60,6 @@ impl PageTables {
         ensures untold { A.grants allot.new ≡ None }
         ensures counted { IfErr result (λ e. (A.refused (A.state allot.new) ≡ next_count (A.refused (A.state allot.old))) × (e.at ≡ A.refused (A.state allot.new))) }
         ensures slots { slot_count self.new ≡ slot_count self.old }
-        ensures even { frames_in self.old.slots.items + shares_in self.new.slots.items ≡ shares_in self.old.slots.items + frames_in self.new.slots.items }
         ensures snapshot { self.new.snapshot ≡ self.old.snapshot }
         ensures writable { WritesAfterPage page result self.old self.new }
     {
@@ -85,7 +83,6 @@ impl PageTables {
         ensures untold { A.grants allot.new ≡ None }
         ensures counted { IfErr result (λ e. (A.refused (A.state allot.new) ≡ next_count (A.refused (A.state allot.old))) × (e.at ≡ A.refused (A.state allot.new))) }
         ensures slots { slot_count self.new ≡ slot_count self.old }
-        ensures even { frames_in self.old.slots.items + shares_in self.new.slots.items ≡ shares_in self.old.slots.items + frames_in self.new.slots.items }
         ensures snapshot { self.new.snapshot ≡ self.old.snapshot }
         ensures writable { WritesAfterPage page result self.old self.new }
     {

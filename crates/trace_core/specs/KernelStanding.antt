@@ -9,7 +9,7 @@ use Rattle.kernel_meaning.specs.FrameLaw.{losses_of}
 use Rattle.page_tables.specs.declared.tables.PageTables.{PageTables}
 use Rattle.page_tables.specs.Sides.{Sides}
 use Rattle.page_tables.specs.Standing.{TablesStandFor, slot_count}
-use Rattle.page_tables.specs.TablesView.{snapshot_number, IsEven}
+use Rattle.page_tables.specs.TablesView.{snapshot_number}
 use Rattle.page_tables.specs.Held.{frames_of, frames_in, shares_in}
 use Rattle.trace_events.specs.declared.outcome.Outcome.{Outcome}
 use Rattle.trace_core.specs.declared.parts.SnapshotAreas.{SnapshotAreas}
@@ -78,7 +78,6 @@ pub record KernelStands (parts : KernelParts) (machine : Machine) (state : Kerne
   pub counts : state.world.refused_copies ≡ kept_counts parts.snapshot
   pub supply : IsSupplied machine state parts.supply
   pub out : parts.supply.out ≡ frames_of parts.tables
-  pub even : IsEven parts.tables
   pub slots : slot_count parts.tables ≡ machine.slots
   pub limit : machine.limit ≡ 1
 

@@ -20,7 +20,7 @@ use Rattle.page_tables.specs.Sides.{Sides}
 use Rattle.page_tables.specs.Standing.{TablesStandFor}
 use Rattle.page_tables.specs.Held.{shares_in, frames_of}
 use Rattle.page_tables.specs.SlotViews.{with_owned_pages, pages_in}
-use Rattle.page_tables.specs.TablesView.{state_shown, slot_shown, IsEven}
+use Rattle.page_tables.specs.TablesView.{state_shown, slot_shown}
 use Rattle.page_tables.proofs.view.ViewReads.{read-or-old}
 use Rattle.page_tables.proofs.view.ViewSides.{seen-pages}
 
@@ -121,9 +121,9 @@ slots-held slots =
     (λ q there. all-named slots q (sym (member-keys pages q) ∙ there)) in
     omega (arith, shorter, length-keys pages, few-named slots)
 
--- where each cell holds its share, the parent has no more pages than the tables hold frames
-pub seen-held : (tables : PageTables) (sides : Sides) → TablesStandFor tables sides → IsEven tables → len sides.pages ≤ frames_of tables
-seen-held tables sides st even =
+-- the parent has no more pages than the tables hold frames
+pub seen-held : (tables : PageTables) (sides : Sides) → TablesStandFor tables sides → len sides.pages ≤ frames_of tables
+seen-held tables sides st =
     let held : len sides.pages ≤ shares_in tables.slots.items =
     subst (λ pages. len pages ≤ shares_in tables.slots.items) (seen-pages tables sides st) (slots-held tables.slots.items) in
-    omega (arith, held, even)
+    omega (arith, held, tables.even)

@@ -23,10 +23,10 @@ use Rattle.page_tables.specs.declared.tables.SnapshotTables.{SnapshotTables}
 use Rattle.page_tables.specs.declared.tables.PageTables.{PageTables}
 use Rattle.page_tables.specs.Sides.{Sides, opening_sides}
 use Rattle.page_tables.specs.Standing.{owner_at, number_of, slot_in, numbers_at, slot_count, TablesStandFor}
-use Rattle.page_tables.specs.Held.{frames_of, HoldAlike}
+use Rattle.page_tables.specs.Held.{frames_of}
 use Rattle.page_tables.specs.Permissions.{LeavesAllButPermissions}
 use Rattle.page_tables.specs.SlotViews.{SlotView, owner_in, lost_there, is_waiting, IsShown, AreViewsOf}
-use Rattle.page_tables.specs.TablesView.{state_shown, slot_shown, views_of, has_cell, snapshot_number, snapshot_has, LacksSnapshot, HasSameSnapshot, IsEven, KeepsEven}
+use Rattle.page_tables.specs.TablesView.{state_shown, slot_shown, views_of, has_cell, snapshot_number, snapshot_has, LacksSnapshot, HasSameSnapshot}
 use Rattle.page_tables.proofs.ParentPages.{account_at, slot-stands}
 use Rattle.page_tables.proofs.ParentStore.{alone-view}
 use Rattle.page_tables.proofs.Readiness.{alone-meant}
@@ -233,25 +233,14 @@ module _ (tables : PageTables) (sides : Sides) (st : TablesStandFor tables sides
           absurd (false≢true (sym (ap is_some
           (ap (λ q. option_and_then (λ pages. get pages q) (get sides.snapshots n)) (sym whole) ∙ none)) ∙ there))
 
-  -- where each cell holds its share, the tables hold the frames of the frame law
-  pub held-shown : IsEven tables → held_frames sides.leaves ≡ frames_of tables
-  held-shown even = let law = frames-law tables.directory tables.snapshot slots sides st in omega (arith, law, even)
+  -- the tables hold the frames of the frame law
+  pub held-shown : held_frames sides.leaves ≡ frames_of tables
+  held-shown = let law = frames-law tables.directory tables.snapshot slots sides st in omega (arith, law, tables.even)
 
 -- ---- what calls keep
 
 pub same-number : (old new : PageTables) → HasSameSnapshot old new → snapshot_number new ≡ snapshot_number old
 same-number old new same = ap number_of same
-
--- each cell still holds its share
-pub even-moved : (old new : PageTables) → KeepsEven old new → IsEven old → IsEven new
-even-moved old new moved even = omega (arith, moved, even)
-
-pub even-alike : (old new : PageTables) → HoldAlike old.slots.items new.slots.items → IsEven old → IsEven new
-even-alike old new alike even = alike.frames ∙ even ∙ sym alike.shares
-
--- so it is where nothing but permissions has changed
-pub even-permissions : (old new : PageTables) → LeavesAllButPermissions old new → IsEven old → IsEven new
-even-permissions old new alike even = alike.frames ∙ even ∙ sym alike.shares
 
 pub number-permissions : (old new : PageTables) → LeavesAllButPermissions old new → snapshot_number new ≡ snapshot_number old
 number-permissions old new alike = ap number_of alike.snapshot
@@ -265,9 +254,3 @@ none-lives (Some tables) none = absurd (false≢true (none tables.number ∙ eq-
 -- no snapshot lives where the sides have none
 pub opening-number : (tables : PageTables) → TablesStandFor tables opening_sides → snapshot_number tables ≡ None
 opening-number tables stands = none-lives tables.snapshot (λ n. sym (ap is_some (get-empty nat_cmp n)) ∙ stands.snapshot_of.live n)
-
--- where they hold no frame each cell holds its share
-pub opening-even : (tables : PageTables) → TablesStandFor tables opening_sides → frames_of tables ≡ 0 → IsEven tables
-opening-even tables stands held =
-    let law = frames-law tables.directory tables.snapshot tables.slots.items opening_sides stands in
-    omega (arith, law, held)

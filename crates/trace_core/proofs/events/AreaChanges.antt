@@ -18,7 +18,7 @@ use Rattle.page_tables.specs.Held.{frames_of, frames_in, shares_in}
 use Rattle.page_tables.specs.Making.{Follows}
 use Rattle.page_tables.specs.Clearing.{pages_without}
 use Rattle.page_tables.specs.Standing.{slot_count}
-use Rattle.page_tables.proofs.view.TablesShown.{even-permissions, number-permissions}
+use Rattle.page_tables.proofs.view.TablesShown.{number-permissions}
 use Rattle.page_tables.specs.Permissions.{LeavesAllButPermissions}
 use Rattle.page_tables.proofs.ProtectedPages.{protect-runs}
 use Rattle.trace_events.specs.declared.event.Event.TheVariants.{Unmap}
@@ -33,7 +33,7 @@ use Rattle.trace_core.specs.Supplied.{IsSupplied}
 use Rattle.trace_core.proofs.supplies.AnswerLemmas.{no_request_has_led}
 use Rattle.trace_core.proofs.runs.SupplyRuns.{supplied-parent}
 use Rattle.trace_core.proofs.events.Writes.{ran-unchanged, out-then}
-use Rattle.page_tables.specs.TablesView.{snapshot_number, IsEven}
+use Rattle.page_tables.specs.TablesView.{snapshot_number}
 
 -- ---- each call changes the areas of a memory as it changes their list, or is refused alike
 
@@ -85,7 +85,6 @@ ran-permissions from late machine end outcome tables alike ran = record {
     counts = ran.stands.counts;
     supply = ran.stands.supply;
     out = ran.stands.out ∙ sym alike.held;
-    even = even-permissions _ _ alike ran.stands.even;
     slots = alike.slots ∙ ran.stands.slots;
     limit = ran.stands.limit;
   };
@@ -125,7 +124,6 @@ module _ (parts : KernelParts) (machine : Machine) (state : KernelState) (st : K
       counts = st.counts;
       supply = record { frames = st.supply.frames; held = st.supply.held; asker = st.supply.asker; refused = st.supply.refused; pending = st.supply.pending };
       out = st.out;
-      even = st.even;
       slots = st.slots;
       limit = st.limit;
     };
@@ -208,9 +206,9 @@ module _ (parts : KernelParts) (machine : Machine) (state : KernelState) (st : K
         ap (λ xs. pages_unmapped first n (progress_between state.leaves state.made xs [])) (sym (append-nil (answers_of deals))) ∙ follows.runs.runs [] [] in
         λ i. areas_changed state (unmap-is (Ok areas) changed i) (runs i)
 
-    pub ran-unmapped : IsEven new → to.out ≡ frames_of new → snapshot_number new ≡ kept_number parts.snapshot → slot_count new ≡ machine.slots
+    pub ran-unmapped : to.out ≡ frames_of new → snapshot_number new ≡ kept_number parts.snapshot → slot_count new ≡ machine.slots
         → EventRan parts (record { areas = areas; tables = new; supply = to; snapshot = parts.snapshot; last = parts.last }) machine unmap_end Done
-    ran-unmapped even out number slots = record {
+    ran-unmapped out number slots = record {
       deals = deals;
       led = led;
       after = unmapped.after;
@@ -227,9 +225,9 @@ module _ (parts : KernelParts) (machine : Machine) (state : KernelState) (st : K
         counts = st.counts;
         supply = subst (λ e. IsSupplied machine e.after to) unmapped-is
             (supplied-parent machine parts.supply.policies [] state (Unmap first n) deals parts.supply to refl refl st.supply (no_request_has_led machine.frames parts.supply.policies) led
-            (ap (λ e. e.deals) unmapped-is) (out-then to.out new _ follows.stands even out ∙ sym (ap (λ e. held_frames e.after.leaves) unmapped-is))).supplied;
+            (ap (λ e. e.deals) unmapped-is) (out-then to.out new _ follows.stands out ∙ sym (ap (λ e. held_frames e.after.leaves)
+            unmapped-is))).supplied;
         out = out;
-        even = even;
         slots = slots;
         limit = st.limit;
       };

@@ -102,7 +102,6 @@ module _ (parts : KernelParts) (machine : Machine) (state : KernelState) (st : K
           counts = insert-same state.world.refused_copies n (ap (λ m. contains_key m n) st.counts ∙ counted-is parts.snapshot n ∙ live) ∙ st.counts;
           supply = record { frames = st.supply.frames; held = st.supply.held; asker = st.supply.asker; refused = st.supply.refused; pending = st.supply.pending };
           out = st.out;
-          even = st.even;
           slots = st.slots;
           limit = st.limit;
         };

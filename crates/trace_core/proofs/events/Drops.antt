@@ -26,7 +26,7 @@ use Rattle.trace_core.proofs.events.OneSnapshot.{live-is, none-left, no-count-le
 use Rattle.trace_core.proofs.runs.SupplyRuns.{supplied-parent}
 use Rattle.trace_core.proofs.events.WholeEvents.{progress_behind, runs-whole, all-held}
 use Rattle.trace_core.proofs.events.Writes.{ran-unchanged}
-use Rattle.page_tables.specs.TablesView.{LacksSnapshot, IsEven}
+use Rattle.page_tables.specs.TablesView.{LacksSnapshot}
 
 module _ (parts : KernelParts) (machine : Machine) (state : KernelState) (st : KernelStands parts machine state) (n : ℕ) where
   -- no such snapshot lives
@@ -48,10 +48,10 @@ module _ (parts : KernelParts) (machine : Machine) (state : KernelState) (st : K
 
     -- the snapshot is gone
     pub ran-dropped : (to : SupplyState) → LeadsAlong SupplyGoes parts.supply deals to
-        → IsEven new → to.out ≡ frames_of new → LacksSnapshot new → slot_count new ≡ machine.slots
+        → to.out ≡ frames_of new → LacksSnapshot new → slot_count new ≡ machine.slots
         → EventRan parts (record { areas = parts.areas; tables = new; supply = to; snapshot = None; last = parts.last }) machine (λ answers. drop_end state answers n) Done
-    ran-dropped to led even out gone slots =
-        let held : to.out ≡ held_frames follows.leaves = all-held to.out new _ follows.stands even out in
+    ran-dropped to led out gone slots =
+        let held : to.out ≡ held_frames follows.leaves = all-held to.out new _ follows.stands out in
         record {
           deals = deals;
           led = led;
@@ -72,7 +72,6 @@ module _ (parts : KernelParts) (machine : Machine) (state : KernelState) (st : K
                 (supplied-parent machine parts.supply.policies [] state (Drop n) deals parts.supply to refl refl st.supply (no_request_has_led machine.frames parts.supply.policies) led
                 (ap (λ e. e.deals) dropped-is) (held ∙ sym (ap (λ e. held_frames e.after.leaves) dropped-is))).supplied;
             out = out;
-            even = even;
             slots = slots;
             limit = st.limit;
           };

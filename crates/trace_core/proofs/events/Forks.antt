@@ -27,7 +27,7 @@ use Rattle.trace_core.proofs.events.OneSnapshot.{lives-len, get-inserted}
 use Rattle.trace_core.proofs.runs.SupplyRuns.{supplied-parent}
 use Rattle.trace_core.proofs.events.WholeEvents.{progress_behind, runs-whole, all-held}
 use Rattle.trace_core.proofs.events.Writes.{ran-unchanged}
-use Rattle.page_tables.specs.TablesView.{snapshot_number, LacksSnapshot, IsEven}
+use Rattle.page_tables.specs.TablesView.{snapshot_number, LacksSnapshot}
 
 module _ (parts : KernelParts) (machine : Machine) (state : KernelState) (st : KernelStands parts machine state) (n : ℕ) where
   -- as many live as may, where one does
@@ -41,7 +41,7 @@ module _ (parts : KernelParts) (machine : Machine) (state : KernelState) (st : K
 
   module _ (none : parts.snapshot ≡ None) (new : PageTables) (deals : List Deal) (refused : Option FrameRefusal)
       (follows : FollowsAt (snapshot_forked n Eager) (snapshots_with n) new deals refused (sides_of state st.pages)) (to : SupplyState) (led : LeadsAlong SupplyGoes parts.supply deals to)
-      (even : IsEven new) (out : to.out ≡ frames_of new) (slots : slot_count new ≡ machine.slots) where
+      (out : to.out ≡ frames_of new) (slots : slot_count new ≡ machine.slots) where
     abbrev end : EventEnd
     end = fork_answered state n refused (progress_behind follows.leaves follows.made deals refused)
 
@@ -55,7 +55,7 @@ module _ (parts : KernelParts) (machine : Machine) (state : KernelState) (st : K
         ∙ ap (λ p. fork_answered state n p.refused p) (follows.runs.runs [] rest)
 
     held : to.out ≡ held_frames follows.leaves
-    held = all-held to.out new _ follows.stands even out
+    held = all-held to.out new _ follows.stands out
 
     supplied : end.deals ≡ deals → held_frames end.after.leaves ≡ held_frames follows.leaves → IsSupplied machine end.after to
     supplied makes same = subst (λ e. IsSupplied machine e.after to) forked-is
@@ -65,15 +65,15 @@ module _ (parts : KernelParts) (machine : Machine) (state : KernelState) (st : K
   -- a frame was refused
   pub ran-unforked : parts.snapshot ≡ None → (new : PageTables) (deals : List Deal) (refusal : FrameRefusal)
       (follows : FollowsAt (snapshot_forked n Eager) (snapshots_with n) new deals (Some refusal) (sides_of state st.pages)) (to : SupplyState)
-      → LeadsAlong SupplyGoes parts.supply deals to → IsEven new → to.out ≡ frames_of new → slot_count new ≡ machine.slots → LacksSnapshot new
+      → LeadsAlong SupplyGoes parts.supply deals to → to.out ≡ frames_of new → slot_count new ≡ machine.slots → LacksSnapshot new
       → EventRan parts (record { areas = parts.areas; tables = new; supply = to; snapshot = parts.snapshot; last = parts.last }) machine
       (λ answers. fork_end machine state answers n Eager) (NoFrame refusal.at)
-  ran-unforked none new deals refusal follows to led even out slots kept = record {
+  ran-unforked none new deals refusal follows to led out slots kept = record {
     deals = deals;
     led = led;
-    after = (end none new deals (Some refusal) follows to led even out slots).after;
-    ends = forked-is none new deals (Some refusal) follows to led even out slots;
-    further = forked-behind none new deals (Some refusal) follows to led even out slots;
+    after = (end none new deals (Some refusal) follows to led out slots).after;
+    ends = forked-is none new deals (Some refusal) follows to led out slots;
+    further = forked-behind none new deals (Some refusal) follows to led out slots;
     stands = record {
       pages = st.pages;
       areas = st.areas;
@@ -83,9 +83,8 @@ module _ (parts : KernelParts) (machine : Machine) (state : KernelState) (st : K
       losses = refl;
       last = st.last;
       counts = st.counts;
-      supply = supplied none new deals (Some refusal) follows to led even out slots refl refl;
+      supply = supplied none new deals (Some refusal) follows to led out slots refl refl;
       out = out;
-      even = even;
       slots = slots;
       limit = st.limit;
     };
@@ -94,19 +93,19 @@ module _ (parts : KernelParts) (machine : Machine) (state : KernelState) (st : K
   -- the snapshot lives, with the parent's areas and pages
   pub ran-forked : parts.snapshot ≡ None → (new : PageTables) (deals : List Deal)
       (follows : FollowsAt (snapshot_forked n Eager) (snapshots_with n) new deals None (sides_of state st.pages)) (to : SupplyState)
-      → LeadsAlong SupplyGoes parts.supply deals to → IsEven new → to.out ≡ frames_of new → slot_count new ≡ machine.slots
+      → LeadsAlong SupplyGoes parts.supply deals to → to.out ≡ frames_of new → slot_count new ≡ machine.slots
       → snapshot_number new ≡ Some n → (areas : List Area) → areas ≡ parts.areas
       → EventRan parts (record { areas = parts.areas; tables = new; supply = to; snapshot = Some (record { number = n; areas = areas; refused = 0 }); last = n }) machine
       (λ answers. fork_end machine state answers n Eager) Done
-  ran-forked none new deals follows to led even out slots lives areas copied =
+  ran-forked none new deals follows to led out slots lives areas copied =
       let empty_before : state.world.snapshots ≡ empty = subst (λ snapshot. kept_memories snapshot st.pages state.world.snapshots) none st.memories in
       let present : PageMap = state.world.parent.present in
       record {
         deals = deals;
         led = led;
-        after = (end none new deals None follows to led even out slots).after;
-        ends = forked-is none new deals None follows to led even out slots;
-        further = forked-behind none new deals None follows to led even out slots;
+        after = (end none new deals None follows to led out slots).after;
+        ends = forked-is none new deals None follows to led out slots;
+        further = forked-behind none new deals None follows to led out slots;
         stands = record {
           pages = insert st.pages n present;
           areas = st.areas;
@@ -116,9 +115,8 @@ module _ (parts : KernelParts) (machine : Machine) (state : KernelState) (st : K
           losses = refl;
           last = refl;
           counts = ap (λ m. insert m n 0) (st.counts ∙ ap kept_counts none);
-          supply = supplied none new deals None follows to led even out slots refl refl;
+          supply = supplied none new deals None follows to led out slots refl refl;
           out = out;
-          even = even;
           slots = slots;
           limit = st.limit;
         };

@@ -25,7 +25,7 @@ use Rattle.trace_core.specs.EventMeaning.{EventEnd, begun, only_answers, touch_a
 use Rattle.trace_core.specs.KernelStanding.{KernelParts, KernelStands, EventRan}
 use Rattle.trace_core.specs.TouchAnswers.{with_stored, fault_outcome}
 use Rattle.trace_core.proofs.events.Writes.{touch_end}
-use Rattle.page_tables.specs.TablesView.{HasSameSnapshot, IsEven}
+use Rattle.page_tables.specs.TablesView.{HasSameSnapshot}
 
 -- a test for no bytes
 pub no-bytes : (bytes : List ℕ) → (length bytes == 0) ≡ true → length bytes ≡ 0
@@ -37,10 +37,10 @@ some-bytes bytes some = grind (arith, nat_tests)
 -- bytes were stored in the tables of a kernel
 pub stored-stands : (parts : KernelParts) (machine : Machine) (state : KernelState) (addr : ℕ) (bytes : List ℕ) (new : PageTables) → KernelStands parts machine state
     → ((sides : Sides) → TablesStandFor parts.tables sides → TablesStandFor new (record sides { pages = with_bytes sides.pages addr bytes }))
-    → frames_of new ≡ frames_of parts.tables → IsEven new
+    → frames_of new ≡ frames_of parts.tables
     → HasSameSnapshot parts.tables new → slot_count new ≡ slot_count parts.tables
     → KernelStands (record parts { tables = new }) machine (with_stored state addr bytes)
-stored-stands parts machine state addr bytes new st stands held even snapshot slots = record {
+stored-stands parts machine state addr bytes new st stands held snapshot slots = record {
   pages = st.pages;
   areas = st.areas;
   tables = stands _ st.tables;
@@ -51,7 +51,6 @@ stored-stands parts machine state addr bytes new st stands held even snapshot sl
   counts = st.counts;
   supply = record { frames = st.supply.frames; held = st.supply.held; asker = st.supply.asker; refused = st.supply.refused; pending = st.supply.pending };
   out = st.out ∙ sym held;
-  even = even;
   slots = slots ∙ st.slots;
   limit = st.limit;
 }

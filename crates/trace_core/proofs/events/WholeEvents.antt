@@ -12,7 +12,6 @@ use Rattle.page_tables.specs.Standing.{TablesStandFor}
 use Rattle.page_tables.proofs.view.TablesShown.{held-shown}
 use Rattle.trace_core.specs.KernelState.{KernelState}
 use Rattle.trace_core.specs.EventMeaning.{begun}
-use Rattle.page_tables.specs.TablesView.{IsEven}
 
 -- the progress behind an event that makes just its deals
 abbrev pub progress_behind : Leaves → ℕ → List Deal → Option FrameRefusal → Progress
@@ -24,7 +23,7 @@ runs-whole event state deals leaves made refused runs =
     ap (λ xs. event (progress_between state.leaves state.made xs [])) (sym (append-nil (answers_of deals))) ∙ runs.runs [] []
 
 -- page tables that hold what is out
-pub all-held : (out : ℕ) (tables : PageTables) (sides : Sides) → TablesStandFor tables sides → IsEven tables
+pub all-held : (out : ℕ) (tables : PageTables) (sides : Sides) → TablesStandFor tables sides
     → out ≡ frames_of tables → out ≡ held_frames sides.leaves
-all-held out tables sides stands even held =
-    held ∙ sym (held-shown tables sides stands even)
+all-held out tables sides stands held =
+    held ∙ sym (held-shown tables sides stands)

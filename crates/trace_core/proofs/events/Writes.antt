@@ -19,7 +19,7 @@ use Rattle.page_tables.specs.declared.tables.PageTables.{PageTables}
 use Rattle.page_tables.specs.Accesses.{IsReady}
 use Rattle.page_tables.specs.Courses.{requests_between, progress_between}
 use Rattle.page_tables.specs.Held.{frames_of, frames_in, shares_in}
-use Rattle.page_tables.proofs.view.TablesShown.{held-shown, few-cells, same-number, even-moved, opening-number, opening-even}
+use Rattle.page_tables.proofs.view.TablesShown.{held-shown, few-cells, same-number, opening-number}
 use Rattle.page_tables.specs.Sides.{Sides, opening_sides}
 use Rattle.page_tables.specs.Standing.{TablesStandFor, slot_count}
 use Rattle.page_tables.specs.Ranges.{cells_of_pages, FollowsRange, HasRoom}
@@ -37,7 +37,7 @@ use Rattle.trace_core.specs.KernelStanding.{KernelParts, KernelStands, EventRan,
 use Rattle.trace_core.specs.TouchAnswers.{fault_outcome, touch_outcome, AreReady, LeavesReady}
 use Rattle.trace_core.proofs.runs.EventCounts.{HasCounted, counted-touch}
 use Rattle.trace_core.proofs.runs.SupplyRuns.{supplied-end, supplied-opening}
-use Rattle.page_tables.specs.TablesView.{snapshot_number, HasSameSnapshot, IsEven, KeepsEven}
+use Rattle.page_tables.specs.TablesView.{snapshot_number, HasSameSnapshot}
 
 -- an event that makes no request and changes nothing
 pub ran-unchanged : (parts : KernelParts) (machine : Machine) (state : KernelState) (end : List Answer → EventEnd) (outcome : Outcome) → KernelStands parts machine state
@@ -45,8 +45,9 @@ pub ran-unchanged : (parts : KernelParts) (machine : Machine) (state : KernelSta
 ran-unchanged parts machine state end outcome st ends = record { deals = []; led = refl; after = state; ends = ends []; further = ends; stands = st }
 
 -- where as many frames are out as the page tables hold, they are those of the frame law
-pub out-then : (out : ℕ) (new : PageTables) (sides : Sides) → TablesStandFor new sides → IsEven new → out ≡ frames_of new → out ≡ held_frames sides.leaves
-out-then out new sides stands even same = same ∙ sym (held-shown new sides stands even)
+pub out-then : (out : ℕ) (new : PageTables) (sides : Sides) → TablesStandFor new sides → out ≡ frames_of new
+    → out ≡ held_frames sides.leaves
+out-then out new sides stands same = same ∙ sym (held-shown new sides stands)
 
 -- how a touch ends that the areas judge so
 abbrev pub touch_end : Machine → KernelState → ℕ → ℕ → List Answer → EventEnd
@@ -155,74 +156,73 @@ module _ (parts : KernelParts) (machine : Machine) (state : KernelState) (st : K
 
   module _ (some : 0 < n) (granted : touch ≡ Ok granted_memory) (room : lacks_slots machine.slots state.leaves (cells_of_pages first count) ≡ false)
       (mid : PageTables) (deals : List Deal) (to : SupplyState) (led : LeadsAlong SupplyGoes parts.supply deals to)
-      (even : IsEven mid) (out : to.out ≡ frames_of mid) (number : snapshot_number mid ≡ kept_number parts.snapshot) (slots : slot_count mid ≡ machine.slots) where
-    abbrev behind : KernelParts
-    behind = record { areas = parts.areas; tables = mid; supply = to; snapshot = parts.snapshot; last = parts.last }
+      (out : to.out ≡ frames_of mid) (number : snapshot_number mid ≡ kept_number parts.snapshot) (slots : slot_count mid ≡ machine.slots)
+    where
+      abbrev behind : KernelParts
+      behind = record { areas = parts.areas; tables = mid; supply = to; snapshot = parts.snapshot; last = parts.last }
 
-    -- the touch was granted
-    pub ran-done : (range : FollowsRange first count mid deals None (sides_of state st.pages)) → TouchRan parts behind machine state addr n (Ok tt)
-    ran-done range =
-        let ends = touch-is some granted room mid deals None range in
-        let held = out-then to.out mid _ range.follows.stands even out in
-        record {
-          ran = record {
-            deals = deals;
-            led = led;
-            after = (touch_answered state granted_memory None (progress some granted room mid deals None range)).after;
-            ends = ends;
-            further = touch-behind some granted room mid deals None range;
-            stands = record {
-              pages = st.pages;
-              areas = st.areas;
-              tables = range.follows.stands;
-              number = number;
-              memories = st.memories;
-              losses = refl;
-              last = st.last;
-              counts = st.counts;
-              supply = supplied-then some granted room mid deals None range to led _ ends refl held;
-              out = out;
-              even = even;
-              slots = slots;
-              limit = st.limit;
+      -- the touch was granted
+      pub ran-done : (range : FollowsRange first count mid deals None (sides_of state st.pages)) → TouchRan parts behind machine state addr n (Ok tt)
+      ran-done range =
+          let ends = touch-is some granted room mid deals None range in
+          let held = out-then to.out mid _ range.follows.stands out in
+          record {
+            ran = record {
+              deals = deals;
+              led = led;
+              after = (touch_answered state granted_memory None (progress some granted room mid deals None range)).after;
+              ends = ends;
+              further = touch-behind some granted room mid deals None range;
+              stands = record {
+                pages = st.pages;
+                areas = st.areas;
+                tables = range.follows.stands;
+                number = number;
+                memories = st.memories;
+                losses = refl;
+                last = st.last;
+                counts = st.counts;
+                supply = supplied-then some granted room mid deals None range to led _ ends refl held;
+                out = out;
+                slots = slots;
+                limit = st.limit;
+              };
             };
-          };
-          ready = λ page within. range.ready refl page within.0 within.1;
-          still = range.still;
-        }
+            ready = λ page within. range.ready refl page within.0 within.1;
+            still = range.still;
+          }
 
-    -- a page was refused, and the pages are as before
-    pub ran-no_frame : (refusal : FrameRefusal) (page : ℕ) (range : FollowsRange first count mid deals (Some refusal) (sides_of state st.pages))
-        → TouchRan parts behind machine state addr n (Err (fault.NoFrame refusal.at page))
-    ran-no_frame refusal page range =
-        let ends = touch-is some granted room mid deals (Some refusal) range in
-        let held = out-then to.out mid _ range.follows.stands even out in
-        record {
-          ran = record {
-            deals = deals;
-            led = led;
-            after = (touch_answered state granted_memory (Some refusal) (progress some granted room mid deals (Some refusal) range)).after;
-            ends = ends;
-            further = touch-behind some granted room mid deals (Some refusal) range;
-            stands = record {
-              pages = st.pages;
-              areas = st.areas;
-              tables = range.follows.stands;
-              number = number;
-              memories = st.memories;
-              losses = refl;
-              last = st.last;
-              counts = st.counts;
-              supply = supplied-then some granted room mid deals (Some refusal) range to led _ ends refl held;
-              out = out;
-              even = even;
-              slots = slots;
-              limit = st.limit;
+      -- a page was refused, and the pages are as before
+      pub ran-no_frame : (refusal : FrameRefusal) (page : ℕ) (range : FollowsRange first count mid deals (Some refusal) (sides_of state st.pages))
+          → TouchRan parts behind machine state addr n (Err (fault.NoFrame refusal.at page))
+      ran-no_frame refusal page range =
+          let ends = touch-is some granted room mid deals (Some refusal) range in
+          let held = out-then to.out mid _ range.follows.stands out in
+          record {
+            ran = record {
+              deals = deals;
+              led = led;
+              after = (touch_answered state granted_memory (Some refusal) (progress some granted room mid deals (Some refusal) range)).after;
+              ends = ends;
+              further = touch-behind some granted room mid deals (Some refusal) range;
+              stands = record {
+                pages = st.pages;
+                areas = st.areas;
+                tables = range.follows.stands;
+                number = number;
+                memories = st.memories;
+                losses = refl;
+                last = st.last;
+                counts = st.counts;
+                supply = supplied-then some granted room mid deals (Some refusal) range to led _ ends refl held;
+                out = out;
+                slots = slots;
+                limit = st.limit;
+              };
             };
-          };
-          ready = tt;
-          still = range.still;
-        }
+            ready = tt;
+            still = range.still;
+          }
 
 -- where the cells of a range do not lack slots there is room
 pub room-there : (tables : PageTables) (sides : Sides) (cells : List ℕ) → TablesStandFor tables sides
@@ -283,7 +283,6 @@ module _ (parts : KernelParts) (machine : Machine) (state : KernelState) (st : K
       -- the pages were touched
       module _ (room : lacks_slots (slot_count parts.tables) state.leaves (cells_of_pages (page_of addr) count) ≡ false)
           (mid : PageTables) (deals : List Deal) (to : SupplyState) (led : LeadsAlong SupplyGoes parts.supply deals to)
-          (even : KeepsEven parts.tables mid)
           (held : to.out + frames_of parts.tables ≡ parts.supply.out + frames_of mid) (snapshot : HasSameSnapshot parts.tables mid) (slots : slot_count mid ≡ slot_count parts.tables) where
         abbrev touched_parts : KernelParts
         touched_parts = record { areas = parts.areas; tables = mid; supply = to; snapshot = parts.snapshot; last = parts.last }
@@ -291,14 +290,14 @@ module _ (parts : KernelParts) (machine : Machine) (state : KernelState) (st : K
         pub touched-done : FollowsRange (page_of addr) count mid deals None (sides_of state st.pages) → TouchRan parts touched_parts machine state addr n (Ok tt)
         touched-done range =
             ran-done parts machine state st addr n some granted (slots-asked false room) mid deals to led
-            (even-moved parts.tables mid even st.even) (moved-alike _ _ _ _ held st.out) (same-number parts.tables mid snapshot ∙ st.number) (slots ∙ st.slots)
+            (moved-alike _ _ _ _ held st.out) (same-number parts.tables mid snapshot ∙ st.number) (slots ∙ st.slots)
             (subst (λ count. FollowsRange (page_of addr) count mid deals None (sides_of state st.pages)) whole range)
 
         pub touched-no_frame : (refusal : FrameRefusal) (page : ℕ) → FollowsRange (page_of addr) count mid deals (Some refusal) (sides_of state st.pages)
             → TouchRan parts touched_parts machine state addr n (Err (fault.NoFrame refusal.at page))
         touched-no_frame refusal page range =
             ran-no_frame parts machine state st addr n some granted (slots-asked false room) mid deals to led
-            (even-moved parts.tables mid even st.even) (moved-alike _ _ _ _ held st.out) (same-number parts.tables mid snapshot ∙ st.number) (slots ∙ st.slots)
+            (moved-alike _ _ _ _ held st.out) (same-number parts.tables mid snapshot ∙ st.number) (slots ∙ st.slots)
             refusal page (subst (λ count. FollowsRange (page_of addr) count mid deals (Some refusal) (sides_of state st.pages)) whole range)
 
 -- ---- reading, and the start
@@ -340,7 +339,6 @@ opening-stands frames cells last areas bare tables listed supply opens stands sl
       supply = subst (λ s. IsSupplied (record { frames = frames; slots = cells; limit = 1 }) (opening_state last) s) (sym opens)
           (supplied-opening (record { frames = frames; slots = cells; limit = 1 }) last listed);
       out = ap (λ s. s.out) opens ∙ sym held;
-      even = opening-even tables stands held;
       slots = slots;
       limit = refl;
     }

@@ -43,7 +43,8 @@ module _ (parts : KernelParts) (notes : KernelNotes) (machine : Machine) (state 
   -- the parent has no more pages than frames were made
   pub sound-room : parts.supply.out ≤ parts.supply.made → len state.world.parent.present ≤ machine.frames
   sound-room within =
-      let held : len state.world.parent.present ≤ frames_of parts.tables = seen-held parts.tables (sides_of state sound.stands.pages) sound.stands.tables sound.stands.even in
+      let held : len state.world.parent.present ≤ frames_of parts.tables = seen-held parts.tables (sides_of state sound.stands.pages)
+      sound.stands.tables in
       omega (arith, held, within, sound.stands.out, sound.stands.supply.frames)
 
   pub seen-parent : parent_of parts ≡ state.world.parent

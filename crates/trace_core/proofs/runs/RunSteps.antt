@@ -124,7 +124,6 @@ refuse-follows parts machine state nth some st = record {
     counts = st.counts;
     supply = supplied-refuse machine state parts.supply nth some st.supply;
     out = st.out;
-    even = st.even;
     slots = st.slots;
     limit = st.limit;
   };

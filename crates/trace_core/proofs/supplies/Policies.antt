@@ -27,7 +27,6 @@ module _ (parts : KernelParts) (listed : List PolicyView) where
     counts = st.counts;
     supply = record { frames = st.supply.frames; held = st.supply.held; asker = st.supply.asker; refused = st.supply.refused; pending = st.supply.pending };
     out = st.out;
-    even = st.even;
     slots = st.slots;
     limit = st.limit;
   }

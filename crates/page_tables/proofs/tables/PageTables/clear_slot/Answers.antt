@@ -18,7 +18,7 @@ use Rattle.page_tables.specs.Sides.{Sides}
 use Rattle.page_tables.specs.Standing.{StandFor, TablesStandFor}
 use Rattle.page_tables.specs.Held.{frames_in, snapshot_frames}
 use Rattle.page_tables.proofs.OwnedSlots.{owned-within, held-within, frames-set, read-slot}
-use Rattle.page_tables.proofs.ClearedSlot.{present-here, HoldsShare, less-held, deals-are, freed-are, event-made, stays, leaves-cell, even-here}
+use Rattle.page_tables.proofs.ClearedSlot.{present-here, HoldsShare, less-held, deals-are, freed-are, event-made, stays, leaves-cell, even-here, still-even}
 use Rattle.std.proofs.lemmas.Bool.{cond-true, cond-false, eq-eqb, ne_eqb, false≢true}
 use Rattle.table_levels.proofs.CellLemmas.{get_removed}
 use Rattle.leaf_cell.specs.Writable.{writable_at}
@@ -228,27 +228,31 @@ returns-else-not-has_pages-clause-held g c =
     let held : g.A.Allot.out (g.A.Allot.state c.clear.new.allot) + held_of slot.cell ≡ g.A.Allot.out (g.A.Allot.state c.args.allot.now) + held_of c.clear.new.self = c.clear.ensures.held in
     omega (arith, sums, held)
 
-pub returns-then-not-has_pages-clause-even : goal.returns-then-not-has_pages-clause-even
-returns-then-not-has_pages-clause-even g c =
+pub invariant_of-self-clause-even : goal.invariant_of-self-clause-even
+invariant_of-self-clause-even g c =
     let old : PageTables = c.args.self.now in
     let within : c.args.slot < length old.slots.items = slot-within c.args.self.now c.args.cell c.args.first c.args.count c.requires.stands c.args.slot c.requires.known in
     let here : slice_get old.slots.items c.args.slot ≡ Some c.index_mut-home.result.now = read-slot old.slots.items c.args.slot c.index_mut-home.result.now within c.index_mut-home.ensures.value in
     let before : HoldsShare c.index_mut-home.result.now.cell = λ account stands. c.tell_share.ensures account stands in
     let later : HoldsShare c.clear.new.self = λ account stands. c.tell_share-2.ensures account stands in
     let made = c.clear.ensures.made in
-    known-number c.requires.stands (λ it. even-here old c.args.cell c.args.slot c.args.first c.args.count c.index_mut-home.result.now c.requires.known here c.requires.range c.clear.new.self made.deals made.follows before later it.0 it.1.0 it.1.1
-    c.leave_slot.new.home (ap (λ it. it.cell) c.leave_slot.ensures))
+    still-even _ _ _ _ (known-number c.requires.stands (λ it. even-here old c.args.cell c.args.slot c.args.first c.args.count
+    c.index_mut-home.result.now c.requires.known here c.requires.range c.clear.new.self made.deals made.follows before later it.0 it.1.0
+    it.1.1
+    c.leave_slot.new.home (ap (λ it. it.cell) c.leave_slot.ensures))) c.args.self.now.even
 
-pub returns-else-not-has_pages-clause-even : goal.returns-else-not-has_pages-clause-even
-returns-else-not-has_pages-clause-even g c =
+pub invariant_of-self-else-not-has_pages-clause-even : goal.invariant_of-self-else-not-has_pages-clause-even
+invariant_of-self-else-not-has_pages-clause-even g c =
     let old : PageTables = c.args.self.now in
     let within : c.args.slot < length old.slots.items = slot-within c.args.self.now c.args.cell c.args.first c.args.count c.requires.stands c.args.slot c.requires.known in
     let here : slice_get old.slots.items c.args.slot ≡ Some c.index_mut-home.result.now = read-slot old.slots.items c.args.slot c.index_mut-home.result.now within c.index_mut-home.ensures.value in
     let before : HoldsShare c.index_mut-home.result.now.cell = λ account stands. c.tell_share.ensures account stands in
     let later : HoldsShare c.clear.new.self = λ account stands. c.tell_share-2.ensures account stands in
     let made = c.clear.ensures.made in
-    known-number c.requires.stands (λ it. even-here old c.args.cell c.args.slot c.args.first c.args.count c.index_mut-home.result.now c.requires.known here c.requires.range c.clear.new.self made.deals made.follows before later it.0 it.1.0 it.1.1
-    (record { owner = c.index_mut-home.result.now.owner; cell = c.clear.new.self }) refl)
+    still-even _ _ _ _ (known-number c.requires.stands (λ it. even-here old c.args.cell c.args.slot c.args.first c.args.count
+    c.index_mut-home.result.now c.requires.known here c.requires.range c.clear.new.self made.deals made.follows before later it.0 it.1.0
+    it.1.1
+    (record { owner = c.index_mut-home.result.now.owner; cell = c.clear.new.self }) refl)) c.args.self.now.even
 
 pub prove-unreachable-requires : goal.prove-unreachable-requires
 prove-unreachable-requires g c =
@@ -264,7 +268,11 @@ returns-then-not-has_pages-clause-writable g c = λ page.
     let none : has_pages c.clear.new.self.leaves.parent ≡ false = sym c.has_pages.ensures.pages ∙ c.if-not-has_pages.true in
     let cell : c.leave_slot.new.home.cell ≡ c.clear.new.self = ap (λ it. it.cell) c.leave_slot.ensures in
     let unwritten : (p : ℕ) → writable_at c.clear.new.self.writable p ≡ false = none-left c.clear.new.self c.covers.ensures.unshared none in
-    stops-gone old (record old { directory = c.remove.new.self; slots = with_item old.slots c.args.slot c.leave_slot.new.home }) c.args.cell c.args.slot c.args.first c.args.count home c.leave_slot.new.home c.requires.known here
+    stops-gone old (record old {
+      directory = c.remove.new.self;
+      slots = with_item old.slots c.args.slot c.leave_slot.new.home;
+      even = c.self-then-not-has_pages-2-1.given.1.0;
+    }) c.args.cell c.args.slot c.args.first c.args.count home c.leave_slot.new.home c.requires.known here
     (known-owner old (standing-here old c.args.cell c.args.first c.args.count c.requires.stands)) c.requires.range
     (ap (λ it. it.writable) cell ∙ c.clear.ensures.writable) refl
     (λ q apart. ap (λ d. get d q) c.remove.ensures.removed ∙ get_removed old.directory c.args.cell q ∙ cond-false (eqb q c.args.cell) None (get old.directory q) (ne_eqb q c.args.cell apart))
@@ -277,6 +285,9 @@ returns-else-not-has_pages-clause-writable g c = λ page.
     let within : c.args.slot < length old.slots.items = slot-within old c.args.cell c.args.first c.args.count c.requires.stands c.args.slot c.requires.known in
     let home : Slot = c.index_mut-home.result.now in
     let here : slice_get old.slots.items c.args.slot ≡ Some home = read-slot old.slots.items c.args.slot home within c.index_mut-home.ensures.value in
-    stops-here old (record old { slots = with_item old.slots c.args.slot (record { owner = home.owner; cell = c.clear.new.self }) }) c.args.cell c.args.slot c.args.first c.args.count home (record { owner = home.owner; cell = c.clear.new.self }) c.requires.known here
+    stops-here old (record old {
+      slots = with_item old.slots c.args.slot (record { owner = home.owner; cell = c.clear.new.self });
+      even = c.self-else-not-has_pages-2-1.given.1.0;
+    }) c.args.cell c.args.slot c.args.first c.args.count home (record { owner = home.owner; cell = c.clear.new.self }) c.requires.known here
     (known-owner old (standing-here old c.args.cell c.args.first c.args.count c.requires.stands)) c.requires.range c.clear.ensures.writable refl
     (λ q apart. refl) c.requires.known page

@@ -6,6 +6,7 @@ use Rattle.page_tables.proofs.StandingFacts.{alone-slots, known-slots}
 use Rattle.page_tables.proofs.ForkedTables.{fork-made, fork-refused}
 use Rattle.std.proofs.Math.Logic.{∥∥₁_map}
 use Rattle.page_tables.proofs.KeptWriting.{known-forked, none-written-then, stops-before}
+use Rattle.page_tables.proofs.ClearedSlot.{still-even}
 use Rattle.page_tables.proofs.Known.{known-kept, known-test, known-owner}
 use Rattle.page_tables.proofs.tables.PageTables.fork.Goals as goal
 
@@ -34,7 +35,11 @@ returns-in-Err-clause-held g c =
 pub returns-in-Ok-clause-writable : goal.returns-in-Ok-clause-writable
 returns-in-Ok-clause-writable g c = λ page.
     known-test c.requires.stands (λ it.
-    none-written-then c.args.self.now (record c.args.self.now { slots = c.fork_into.new.slots }) refl it.1.named (known-forked c.args.self.now it.0 it.1) c.in-Ok.ensures.bits page)
+    none-written-then c.args.self.now (record c.args.self.now {
+      slots = c.fork_into.new.slots;
+      even = still-even _ _ _ _
+          c.fork_into.ensures.even c.args.self.now.even;
+    }) refl it.1.named (known-forked c.args.self.now it.0 it.1) c.in-Ok.ensures.bits page)
 
 pub returns-in-Err-clause-writable : goal.returns-in-Err-clause-writable
 returns-in-Err-clause-writable g c =

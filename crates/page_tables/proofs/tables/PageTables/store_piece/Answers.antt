@@ -48,28 +48,64 @@ returns-clause-stored c = λ sides st.
     let known = ap (get c.args.self.now.directory) (sym c.location_of-location.ensures.cell) ∙ sym c.find.ensures ∙ c.in-Some.is in
     stands-stored c.args.self.now sides st c.args.addr c.in-Some.slot c.args.bytes.now c.index_mut.result.now known c.index_mut.ensures.value
     c.location_of-location.result.page c.location_of-location.result.at c.location_of-location.ensures.page c.location_of-location.ensures.at c.store.new.self c.requires.room c.store.ensures.stored
-    (record { directory = c.args.self.now.directory; snapshot = c.args.self.now.snapshot; spare = c.args.self.now.spare; spared = c.self-in-Some-1.given.0; slots = with_item c.args.self.now.slots c.in-Some.slot (record { owner = c.index_mut.result.now.owner; cell = c.store.new.self }) })
+    (record {
+      directory = c.args.self.now.directory;
+      snapshot = c.args.self.now.snapshot;
+      spare = c.args.self.now.spare;
+      spared =
+          c.self-in-Some-1.given.0;
+      even = c.self-in-Some-1.given.1.0;
+      slots = with_item c.args.self.now.slots c.in-Some.slot (record {
+        owner =
+            c.index_mut.result.now.owner;
+        cell = c.store.new.self;
+      });
+    })
     refl refl refl
 
 pub returns-clause-held : goal.returns-clause-held
 returns-clause-held c =
     let known = ap (get c.args.self.now.directory) (sym c.location_of-location.ensures.cell) ∙ sym c.find.ensures ∙ c.in-Some.is in
-    let here = owned-here c.args.self.now.slots.items c.in-Some.slot (cell_of (page_of c.args.addr)) c.index_mut.result.now (known-owner c.args.self.now (standing-ready c.args.self.now c.args.addr c.requires.stands) (cell_of (page_of c.args.addr)) c.in-Some.slot known) c.index_mut.ensures.value in
+    let here = owned-here c.args.self.now.slots.items c.in-Some.slot (cell_of (page_of c.args.addr)) c.index_mut.result.now (known-owner
+    c.args.self.now (standing-ready c.args.self.now c.args.addr c.requires.stands) (cell_of (page_of c.args.addr)) c.in-Some.slot known)
+    c.index_mut.ensures.value in
     let new : Slot = record { owner = c.index_mut.result.now.owner; cell = c.store.new.self } in
     let sums : frames_in (slice_set c.args.self.now.slots.items c.in-Some.slot new) + held_of c.index_mut.result.now.cell ≡ frames_in c.args.self.now.slots.items + held_of c.store.new.self =
     frames-set c.args.self.now.slots.items c.in-Some.slot c.index_mut.result.now new here in
     let same : held_of c.store.new.self ≡ held_of c.index_mut.result.now.cell = c.store.ensures.held in
     omega (arith, sums, same)
 
+pub invariant_of-self-clause-even : goal.invariant_of-self-clause-even
+invariant_of-self-clause-even c =
+    let known = ap (get c.args.self.now.directory) (sym c.location_of-location.ensures.cell) ∙ sym c.find.ensures ∙ c.in-Some.is in
+    let here = owned-here c.args.self.now.slots.items c.in-Some.slot (cell_of (page_of c.args.addr)) c.index_mut.result.now (known-owner
+    c.args.self.now (standing-ready c.args.self.now c.args.addr c.requires.stands) (cell_of (page_of c.args.addr)) c.in-Some.slot known)
+    c.index_mut.ensures.value in
+    let new : Slot = record { owner = c.index_mut.result.now.owner; cell = c.store.new.self } in
+    let frames : frames_in (slice_set c.args.self.now.slots.items c.in-Some.slot new) + held_of c.index_mut.result.now.cell ≡ frames_in
+    c.args.self.now.slots.items + held_of c.store.new.self =
+    frames-set c.args.self.now.slots.items c.in-Some.slot c.index_mut.result.now new here in
+    let same : held_of c.store.new.self ≡ held_of c.index_mut.result.now.cell = c.store.ensures.held in
+    let parts : shares_in (slice_set c.args.self.now.slots.items c.in-Some.slot new) + share c.index_mut.result.now.cell.leaves ≡
+    shares_in c.args.self.now.slots.items + share c.store.new.self.leaves =
+    shares-set c.args.self.now.slots.items c.in-Some.slot c.index_mut.result.now new here in
+    let alike : share c.store.new.self.leaves ≡ share c.index_mut.result.now.cell.leaves = ap share c.store.ensures.leaves in
+    let even = c.args.self.now.even in
+    omega (arith, frames, same, parts, alike, even)
+
 pub returns-clause-cells : goal.returns-clause-cells
 returns-clause-cells c =
     let known = ap (get c.args.self.now.directory) (sym c.location_of-location.ensures.cell) ∙ sym c.find.ensures ∙ c.in-Some.is in
-    let here = owned-here c.args.self.now.slots.items c.in-Some.slot (cell_of (page_of c.args.addr)) c.index_mut.result.now (known-owner c.args.self.now (standing-ready c.args.self.now c.args.addr c.requires.stands) (cell_of (page_of c.args.addr)) c.in-Some.slot known) c.index_mut.ensures.value in
+    let here = owned-here c.args.self.now.slots.items c.in-Some.slot (cell_of (page_of c.args.addr)) c.index_mut.result.now (known-owner
+    c.args.self.now (standing-ready c.args.self.now c.args.addr c.requires.stands) (cell_of (page_of c.args.addr)) c.in-Some.slot known)
+    c.index_mut.ensures.value in
     let new : Slot = record { owner = c.index_mut.result.now.owner; cell = c.store.new.self } in
-    let frames : frames_in (slice_set c.args.self.now.slots.items c.in-Some.slot new) + held_of c.index_mut.result.now.cell ≡ frames_in c.args.self.now.slots.items + held_of c.store.new.self =
+    let frames : frames_in (slice_set c.args.self.now.slots.items c.in-Some.slot new) + held_of c.index_mut.result.now.cell ≡ frames_in
+    c.args.self.now.slots.items + held_of c.store.new.self =
     frames-set c.args.self.now.slots.items c.in-Some.slot c.index_mut.result.now new here in
     let same : held_of c.store.new.self ≡ held_of c.index_mut.result.now.cell = c.store.ensures.held in
-    let parts : shares_in (slice_set c.args.self.now.slots.items c.in-Some.slot new) + share c.index_mut.result.now.cell.leaves ≡ shares_in c.args.self.now.slots.items + share c.store.new.self.leaves =
+    let parts : shares_in (slice_set c.args.self.now.slots.items c.in-Some.slot new) + share c.index_mut.result.now.cell.leaves ≡
+    shares_in c.args.self.now.slots.items + share c.store.new.self.leaves =
     shares-set c.args.self.now.slots.items c.in-Some.slot c.index_mut.result.now new here in
     let alike : share c.store.new.self.leaves ≡ share c.index_mut.result.now.cell.leaves = ap share c.store.ensures.leaves in
     record { frames = omega (arith, frames, same); shares = omega (arith, parts, alike) }
@@ -79,5 +115,12 @@ returns-clause-writable c =
     let stands = standing-ready c.args.self.now c.args.addr c.requires.stands in
     let known = ap (get c.args.self.now.directory) (sym c.location_of-location.ensures.cell) ∙ sym c.find.ensures ∙ c.in-Some.is in
     let here = owned-here c.args.self.now.slots.items c.in-Some.slot (cell_of (page_of c.args.addr)) c.index_mut.result.now (known-owner c.args.self.now stands (cell_of (page_of c.args.addr)) c.in-Some.slot known) c.index_mut.ensures.value in
-    keeps-writing c.args.self.now (record c.args.self.now { slots = with_item c.args.self.now.slots c.in-Some.slot (record { owner = c.index_mut.result.now.owner; cell = c.store.new.self }) }) refl (known-owner c.args.self.now stands)
+    keeps-writing c.args.self.now (record c.args.self.now {
+      slots = with_item c.args.self.now.slots c.in-Some.slot (record {
+        owner =
+            c.index_mut.result.now.owner;
+        cell = c.store.new.self;
+      });
+      even = c.self-in-Some-1.given.1.0;
+    }) refl (known-owner c.args.self.now stands)
     (bits-set c.args.self.now.slots.items c.in-Some.slot c.index_mut.result.now (record { owner = c.index_mut.result.now.owner; cell = c.store.new.self }) here c.store.ensures.writable)

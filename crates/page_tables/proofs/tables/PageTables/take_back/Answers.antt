@@ -51,7 +51,7 @@ loop-page-preserved g c =
           (subst (λ i. TablesStandFor c.clear_in_cell.new.self (sides_without c.cell_and_index-cell.result.0 i 1 sides)) c.cell_and_index-cell.ensures.index
           (c.clear_in_cell.ensures.follows sides st)))
           c.clear_in_cell.ensures.held
-          c.clear_in_cell.ensures.slots c.clear_in_cell.ensures.unrefused c.clear_in_cell.ensures.even c.clear_in_cell.ensures.snapshot);
+          c.clear_in_cell.ensures.slots c.clear_in_cell.ensures.unrefused c.clear_in_cell.ensures.snapshot);
       writable = subst (λ pages. StopsWritingAt pages c.args.self.now c.clear_in_cell.new.self) (sym (take-one-more c.args.added.now i c.loop-page-test.true))
           (one-more-stopped (take i c.args.added.now) page c.args.self.now c.loop-page.self c.clear_in_cell.new.self c.loop-page.invariant.writable
           (subst (λ cell. StopsWriting (cell * 512 + page % 512) 1 c.loop-page.self c.clear_in_cell.new.self) c.cell_and_index-cell.ensures.cell

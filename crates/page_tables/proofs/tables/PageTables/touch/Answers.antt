@@ -36,7 +36,6 @@ loop-page-init g c =
       from = omega arith;
       held = refl;
       untold = c.requires.untold;
-      even = omega arith;
       snapshot = refl;
       slots = refl;
       writable = none-written c.args.first c.args.self.now;
@@ -118,7 +117,8 @@ returns-in-Err-clause-made g c =
           (slot_count c.args.self.now) (so_far.touched sides st) c.loop-page.page here
           (record { at = c.in-Err.refused.at; page = Some c.loop-page.page }) (made.follows _ (so_far.touched sides st).stands)
           (subst (λ added. (s : Sides) → TablesStandFor mid s
-          → TablesStandFor final (sides_without_pages added s)) c.deref.ensures.value c.take_back.ensures.follows) c.take_back.ensures.snapshot c.take_back.ensures.even;
+          → TablesStandFor final (sides_without_pages added s)) c.deref.ensures.value c.take_back.ensures.follows)
+          c.take_back.ensures.snapshot;
     }
 
 -- src/range.rt:50:9
@@ -151,7 +151,6 @@ loop-page-preserved g c =
           let more : g.A.Allot.out (g.A.Allot.state c.touch_page.new.allot) + frames_of c.loop-page.self ≡ g.A.Allot.out (g.A.Allot.state c.loop-page.allot) + frames_of c.touch_page.new.self =
           c.touch_page.ensures.held in omega (arith, before, more));
       untold = c.touch_page.ensures.untold;
-      even = omega (arith, c.loop-page.invariant.even, c.touch_page.ensures.even);
       snapshot = c.touch_page.ensures.snapshot ∙ c.loop-page.invariant.snapshot;
       slots = c.touch_page.ensures.slots ∙ c.loop-page.invariant.slots;
       writable = one-more-written c.args.first c.loop-page.page c.args.self.now c.loop-page.self c.touch_page.new.self c.loop-page.invariant.from c.loop-page.invariant.writable c.in-Ok.ensures.writable;

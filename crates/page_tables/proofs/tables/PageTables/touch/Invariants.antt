@@ -1,7 +1,7 @@
 use Rattle.std.proofs.Common.{◌≡◌, ◌+◌, ◌-◌, ◌≤◌, None}
 use Rattle.std.specs.Prelude.{vec_capacity}
 use Rattle.page_tables.specs.Standing.{slot_count}
-use Rattle.page_tables.specs.Held.{frames_of, frames_in, shares_in}
+use Rattle.page_tables.specs.Held.{frames_of}
 use Rattle.page_tables.specs.Permissions.{LetsWrite}
 use Rattle.page_tables.specs.Ranges.{HasTouched}
 use Rattle.page_tables.proofs.tables.PageTables.touch.Given as goal
@@ -12,7 +12,6 @@ invariant-loop-page g l = record {
   from : l.fn.first ≤ l.page;
   held : g.A.Allot.out (g.A.Allot.state l.allot) + frames_of l.fn.self ≡ g.A.Allot.out (g.A.Allot.state l.fn.allot) + frames_of l.self;
   untold : g.A.Allot.grants l.allot ≡ None;
-  even : frames_in l.fn.self.slots.items + shares_in l.self.slots.items ≡ shares_in l.fn.self.slots.items + frames_in l.self.slots.items;
   snapshot : l.self.snapshot ≡ l.fn.self.snapshot;
   slots : slot_count l.self ≡ slot_count l.fn.self;
   writable : LetsWrite l.fn.first (l.page - l.fn.first) l.fn.self l.self;

@@ -14,7 +14,7 @@ use Rattle.leaf_cell.specs.Standing.{StandsFor, TakesAccount}
 use Rattle.kernel_meaning.specs.CellAccount.{CellAccount, Touch}
 use Rattle.page_tables.specs.Standing.{owner_at, TablesStandFor}
 use Rattle.page_tables.proofs.ParentPages.{account_at, slot-stands}
-use Rattle.page_tables.proofs.ClearedSlot.{even-slots, holds-own}
+use Rattle.page_tables.proofs.ClearedSlot.{even-slots, holds-own, still-even}
 use Rattle.page_tables.specs.Held.{frames_in, snapshot_frames}
 use Rattle.table_levels.specs.Cells.{tables_of}
 use Rattle.page_tables.proofs.KnownTouch.{known-touches}
@@ -77,9 +77,9 @@ returns-clause-held g c =
     omega (arith, sums, held)
 
 -- src/touch.rt:47:5
-pub returns-clause-even : goal.returns-clause-even
-returns-clause-even g c =
-    known-number c.requires.stands (λ it.
+pub invariant_of-self-clause-even : goal.invariant_of-self-clause-even
+invariant_of-self-clause-even g c =
+    still-even _ _ _ _ (known-number c.requires.stands (λ it.
     let old = c.args.self.now in
     let sides : Sides = it.0 in
     let st : TablesStandFor old sides = it.1 in
@@ -92,7 +92,7 @@ returns-clause-even g c =
     let takes = c.touch-answer.ensures.made.follows account stood in
     even-slots old.slots.items c.args.slot slot (record { owner = slot.owner; cell = c.touch-answer.new.self }) here
     (holds-own slot.cell account stood (λ account stands. c.tell_share.ensures account stands))
-    (holds-own c.touch-answer.new.self _ takes.stands (λ account stands. c.tell_share-2.ensures account stands)))
+    (holds-own c.touch-answer.new.self _ takes.stands (λ account stands. c.tell_share-2.ensures account stands)))) c.args.self.now.even
 
 pub returns-clause-writable : goal.returns-clause-writable
 returns-clause-writable g c =
@@ -110,4 +110,7 @@ returns-clause-writable g c =
     (λ q t apart is. other-slot old.slots.items c.args.slot t cell q owned (known-owner old c.requires.stands q t is) apart) (subst (λ i. writable_at c.touch-answer.new.self.writable i ≡ true) at allowed)
     (λ q same apart. others-set home.cell.writable c.touch-answer.new.self.writable (c.args.page % 512) (q % 512)
     (subst (λ i. c.touch-answer.new.self.writable ≡ slice_set home.cell.writable i true) at set) apart ∙ sym (bit-known old cell c.args.slot home c.requires.known here q same)))
-    (λ same. keeps-writing old (record old { slots = with_item old.slots c.args.slot it }) refl (known-owner old c.requires.stands) (bits-set old.slots.items c.args.slot home it here (ap (λ cell. cell.writable) same)))
+    (λ same. keeps-writing old (record old {
+      slots = with_item old.slots c.args.slot it;
+      even = c.self-2-1.given.1.0;
+    }) refl (known-owner old c.requires.stands) (bits-set old.slots.items c.args.slot home it here (ap (λ cell. cell.writable) same)))

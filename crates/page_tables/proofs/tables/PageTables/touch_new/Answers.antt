@@ -19,9 +19,9 @@ use Rattle.page_tables.specs.declared.slot.Slot.{Slot}
 use Rattle.page_tables.specs.declared.tables.PageTables.{PageTables}
 use Rattle.page_tables.specs.Sides.{Sides}
 use Rattle.page_tables.specs.Standing.{StandFor, HasSlotFor, IsSlotFor}
-use Rattle.page_tables.specs.Held.{frames_in, snapshot_frames}
+use Rattle.page_tables.specs.Held.{frames_in, snapshot_frames, shares_in}
 use Rattle.page_tables.specs.Making.{FollowsTouch}
-use Rattle.page_tables.proofs.ClearedSlot.{even-slots, holds-own}
+use Rattle.page_tables.proofs.ClearedSlot.{even-slots, holds-own, still-even}
 use Rattle.page_tables.proofs.Room.{room-left}
 use Rattle.page_tables.proofs.Rows.{deals_behind, deals_up_to}
 use Rattle.page_tables.proofs.NewTouch.{granted-touches, refused-touches, lacking-touches, added-removed, account, stood, none-present, none-writable}
@@ -166,19 +166,19 @@ returns-in-Err-touch-clause-made g c =
     }
 
 -- src/touch.rt:70:5
-pub returns-in-Ok-touch-clause-even : goal.returns-in-Ok-touch-clause-even
-returns-in-Ok-touch-clause-even g c =
+pub invariant_of-self-in-Ok-touch-clause-even : goal.invariant_of-self-in-Ok-touch-clause-even
+invariant_of-self-in-Ok-touch-clause-even g c =
     let old : PageTables = c.args.self.now in
     let slot : Slot = c.index_mut-home.result.now in
     let within : c.args.slot < length old.slots.items = known-home old (cell_of c.args.page) c.args.slot c.requires.stands in
     let here : slice_get old.slots.items c.args.slot ≡ Some slot = read-slot old.slots.items c.args.slot slot within c.index_mut-home.ensures.value in
-    known-number c.requires.stands (λ it.
+    still-even _ _ _ _ (known-number c.requires.stands (λ it.
     let fits : IsSlotFor it.0.leaves (cell_of c.args.page) slot.owner = known-fits old (cell_of c.args.page) c.args.slot c.requires.stands it.0 it.1.0 slot here in
     let stood_here = stood old it.0 it.1.0 c.args.page c.args.slot slot c.requires.new here fits in
     let takes = c.in-Ok-touch.ensures.made.follows (account old it.0 it.1.0 c.args.page c.args.slot slot c.requires.new here fits) stood_here in
     even-slots old.slots.items c.args.slot slot (record { owner = Some c.cell_and_index-cell.result.0; cell = c.touch.new.self }) here
     (holds-own slot.cell _ stood_here (λ account stands. c.tell_share.ensures account stands))
-    (holds-own c.touch.new.self _ takes.stands (λ account stands. c.tell_share-in-Ok-touch.ensures account stands)))
+    (holds-own c.touch.new.self _ takes.stands (λ account stands. c.tell_share-in-Ok-touch.ensures account stands)))) c.args.self.now.even
 
 pub returns-in-Ok-touch-clause-writable : goal.returns-in-Ok-touch-clause-writable
 returns-in-Ok-touch-clause-writable g c =
@@ -222,7 +222,8 @@ prove-unreachable-requires g c =
 pub returns-in-Err-clause-writable : goal.returns-in-Err-clause-writable
 returns-in-Err-clause-writable g c = λ page.
     let old : PageTables = c.args.self.now in
-    keeps-writing old (record old { directory = c.insert.new.self }) c.in-Err.ensures.kept (known-owner old (standing old (λ sides. HasSlotFor old sides.leaves (cell_of c.args.page) c.args.slot) c.requires.stands))
+    keeps-writing old (record old { directory = c.insert.new.self; even = old.even }) c.in-Err.ensures.kept (known-owner old (standing
+    old (λ sides. HasSlotFor old sides.leaves (cell_of c.args.page) c.args.slot) c.requires.stands))
     (λ s slot found. (slot, (found, refl))) page
 
 pub returns-in-Err-touch-clause-writable : goal.returns-in-Err-touch-clause-writable
@@ -234,5 +235,16 @@ returns-in-Err-touch-clause-writable g c = λ page.
     let here : slice_get old.slots.items c.args.slot ≡ Some home = read-slot old.slots.items c.args.slot home within c.index_mut-home.ensures.value in
     let added : c.insert.new.self ≡ insert old.directory cell c.args.slot = c.in-Ok.ensures.added ∙ ap (λ q. insert old.directory q c.args.slot) c.cell_and_index-cell.ensures.cell in
     let gone : c.remove.new.self ≡ old.directory = c.remove.ensures.removed ∙ ap (remove c.insert.new.self) c.cell_and_index-cell.ensures.cell ∙ ap (λ d. remove d cell) added ∙ added-removed old.directory cell c.args.slot c.requires.new in
-    keeps-writing old (record old { directory = c.remove.new.self; slots = with_item old.slots c.args.slot (record { owner = home.owner; cell = c.touch.new.self }) }) gone (known-owner old (standing old (λ sides. HasSlotFor old sides.leaves cell c.args.slot) c.requires.stands))
+    let same_slots : slice_set old.slots.items c.args.slot (record { owner = home.owner; cell = c.touch.new.self }) ≡ old.slots.items =
+    ap (λ view. slice_set old.slots.items c.args.slot (record { owner = home.owner; cell = view })) c.in-Err-touch.ensures.refused
+    ∙ set-same old.slots.items c.args.slot home here in
+    keeps-writing old (record old {
+      directory = c.remove.new.self;
+      slots = with_item old.slots c.args.slot (record {
+        owner = home.owner;
+        cell = c.touch.new.self;
+      });
+      even = subst (λ slots. frames_in slots ≡ shares_in slots) (sym same_slots) old.even;
+    }) gone (known-owner
+    old (standing old (λ sides. HasSlotFor old sides.leaves cell c.args.slot) c.requires.stands))
     (bits-set old.slots.items c.args.slot home (record { owner = home.owner; cell = c.touch.new.self }) here (ap (λ cell. cell.writable) c.in-Err-touch.ensures.refused)) page

@@ -15,13 +15,19 @@ use Rattle.page_tables.proofs.UnmapSteps.{GoesOnFrom, unmap-begins, unmap-goes-o
 use Rattle.std.proofs.Math.Logic.{∥∥₁_map}
 use Rattle.page_tables.proofs.tables.PageTables.unmap.Goals as goal
 
--- frames and shares moved alike at first, and then once more
-evener : (frames shares mid-frames mid-shares new-frames new-shares : ℕ) → frames + mid-shares ≡ shares + mid-frames → mid-frames + new-shares ≡ mid-shares + new-frames → frames + new-shares ≡ shares + new-frames
-evener frames shares mid-frames mid-shares new-frames new-shares first then = omega (arith, first, then)
-
 pub loop-cell-init : goal.loop-cell-init
-loop-cell-init g c =
-    (refl, (omega arith, omega (arith, c.requires.range)), unmap-begins g.A.Allot.goes (g.A.Allot.state c.args.allot.now) c.args.first c.args.count c.args.self.now, refl, c.requires.untold, refl, refl, omega arith, refl, none-stopped c.args.first c.args.count c.args.self.now)
+loop-cell-init g c = (
+  refl,
+  (omega arith, omega (arith, c.requires.range)),
+  unmap-begins g.A.Allot.goes (g.A.Allot.state c.args.allot.now) c.args.first
+      c.args.count c.args.self.now,
+  refl,
+  c.requires.untold,
+  refl,
+  refl,
+  refl,
+  none-stopped c.args.first c.args.count c.args.self.now,
+)
 
 pub unmap_cell-requires-clause-within : goal.unmap_cell-requires-clause-within
 unmap_cell-requires-clause-within g c =
@@ -69,10 +75,9 @@ loop-cell-preserved g c =
       c.unmap_cell.ensures.untold,
       c.unmap_cell.ensures.slots ∙ c.loop-cell.invariant.5,
       c.unmap_cell.ensures.unrefused ∙ c.loop-cell.invariant.6,
-      evener (frames_in c.args.self.now.slots.items) (shares_in c.args.self.now.slots.items) (frames_in now.slots.items) (shares_in now.slots.items) (frames_in new.slots.items) (shares_in new.slots.items)
-          c.loop-cell.invariant.7 c.unmap_cell.ensures.even,
-      c.unmap_cell.ensures.snapshot ∙ c.loop-cell.invariant.8,
-      one-stopped c.args.first c.args.count c.loop-cell.next c.args.self.now now c.loop-cell.invariant.9 c.in-Some.cell c.in-Some.slot is_first new c.loop-cell.invariant.1.0
+      c.unmap_cell.ensures.snapshot ∙ c.loop-cell.invariant.7,
+      one-stopped c.args.first c.args.count c.loop-cell.next c.args.self.now now c.loop-cell.invariant.8 c.in-Some.cell c.in-Some.slot
+          is_first new c.loop-cell.invariant.1.0
           (subst (λ n. StopsWriting (c.in-Some.cell * 512 + first_in_cell c.in-Some.cell c.args.first) (count_in_cell c.in-Some.cell c.args.first n) now new) count c.unmap_cell.ensures.writable),
     )
 
@@ -96,10 +101,11 @@ pub returns-then-from-end-clause-writable : goal.returns-then-from-end-clause-wr
 returns-then-from-end-clause-writable g c =
     let found : first_from c.loop-cell.self.directory c.loop-cell.next ≡ Some (c.in-Some.cell, c.in-Some.slot) = sym c.at_or_after.ensures ∙ c.in-Some.is in
     let is_first : IsFirstFrom c.loop-cell.self.directory c.loop-cell.next c.in-Some.cell c.in-Some.slot = first-some c.loop-cell.self.directory c.loop-cell.next c.in-Some.cell c.in-Some.slot found in
-    stopped-to-end c.args.first c.args.count c.loop-cell.next c.args.self.now c.loop-cell.self c.loop-cell.invariant.9 c.in-Some.cell c.in-Some.slot is_first
+    stopped-to-end c.args.first c.args.count c.loop-cell.next c.args.self.now c.loop-cell.self c.loop-cell.invariant.8 c.in-Some.cell
+    c.in-Some.slot is_first
     (omega (arith, c.if-from-end.true, c.from.ensures))
 
 pub returns-in_default-clause-writable : goal.returns-in_default-clause-writable
 returns-in_default-clause-writable g c =
-    stopped-all c.args.first c.args.count c.loop-cell.next c.args.self.now c.loop-cell.self c.loop-cell.invariant.9
+    stopped-all c.args.first c.args.count c.loop-cell.next c.args.self.now c.loop-cell.self c.loop-cell.invariant.8
     (first-none c.loop-cell.self.directory c.loop-cell.next (sym c.at_or_after.ensures ∙ c.in_default.is))

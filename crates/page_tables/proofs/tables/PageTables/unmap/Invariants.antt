@@ -1,6 +1,6 @@
 use Rattle.std.proofs.Common.{◌≡◌, ◌+◌, ◌-◌, ◌/◌, ◌≤◌, ◌^◌, None}
 use Rattle.page_tables.specs.Standing.{slot_count}
-use Rattle.page_tables.specs.Held.{frames_of, frames_in, shares_in}
+use Rattle.page_tables.specs.Held.{frames_of}
 use Rattle.page_tables.proofs.UnmapSteps.{IsUnmappedUpTo}
 use Rattle.page_tables.proofs.KeptWriting.{AreStopped}
 use Rattle.page_tables.proofs.tables.PageTables.unmap.Given as goal
@@ -14,7 +14,6 @@ invariant-loop-cell g l =
     × (g.A.Allot.grants l.allot ≡ None)
     × (slot_count l.self ≡ slot_count l.fn.self)
     × (g.A.Allot.refused (g.A.Allot.state l.allot) ≡ g.A.Allot.refused (g.A.Allot.state l.fn.allot))
-    × (frames_in l.fn.self.slots.items + shares_in l.self.slots.items ≡ shares_in l.fn.self.slots.items + frames_in l.self.slots.items)
     × (l.self.snapshot ≡ l.fn.self.snapshot)
     × AreStopped l.fn.first l.fn.count l.next l.fn.self l.self
 

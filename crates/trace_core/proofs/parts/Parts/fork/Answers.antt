@@ -9,7 +9,7 @@ use Rattle.trace_core.proofs.events.OneSnapshot.{nothing-there}
 use Rattle.trace_core.proofs.processes.Children.{is_too_many}
 use Rattle.trace_core.proofs.events.Writes.{moved-alike}
 use Rattle.trace_core.proofs.events.KernelFacts.{known-snapshot, known-tables, known-lent}
-use Rattle.page_tables.proofs.view.TablesShown.{number-lacks, even-moved}
+use Rattle.page_tables.proofs.view.TablesShown.{number-lacks}
 use Rattle.trace_core.proofs.parts.Parts.fork.Goals as goal
 
 pub fork-requires-clause-alone : goal.fork-requires-clause-alone
@@ -38,7 +38,6 @@ returns-in-Ok g c = record {
       let made = c.in-Ok.ensures.made in
       ran-forked _ machine state st c.args.number (nothing-there c.args.self.now.snapshot (sym c.is_some.ensures ∙ c.if-is_some.false)) c.fork.new.self made.deals
       (made.follows (sides_of state st.pages) st.tables) _ made.led
-      (even-moved c.args.self.now.tables c.fork.new.self c.fork.ensures.even st.even)
       (moved-alike _ _ _ _ c.fork.ensures.held st.out)
       (c.fork.ensures.slots ∙ st.slots)
       c.in-Ok.ensures.lives c.copy.result c.copy.ensures;
@@ -54,7 +53,6 @@ returns-in-Err g c = record {
       let refusal : FrameRefusal = record { at = c.in-Err.refused.at; page = None } in
       ran-unforked _ machine state st c.args.number (nothing-there c.args.self.now.snapshot (sym c.is_some.ensures ∙ c.if-is_some.false)) c.fork.new.self made.deals refusal
       (made.follows (sides_of state st.pages) st.tables) _ made.led
-      (even-moved c.args.self.now.tables c.fork.new.self c.fork.ensures.even st.even)
       (moved-alike _ _ _ _ c.fork.ensures.held st.out)
       (c.fork.ensures.slots ∙ st.slots)
       c.in-Err.ensures.kept;

@@ -50,14 +50,16 @@ returns-in-Ok g c = record {
       (touched-done _ machine state st c.args.addr c.args.len _ c.page_count-count.ensures.count
       (sym c.first_outside.ensures ∙ c.in_default.is) c.requires.some (sym c.first_read_only.ensures ∙ c.in_default-first_read_only.is)
       (sym (c.lacks_slots.ensures (sides_of state st.pages) st.tables) ∙ c.if-lacks_slots.false)
-      c.touch.new.self c.in-Ok.ensures.made.deals _ c.in-Ok.ensures.made.led c.touch.ensures.even c.touch.ensures.held c.touch.ensures.snapshot c.touch.ensures.slots
+      c.touch.new.self c.in-Ok.ensures.made.deals _ c.in-Ok.ensures.made.led c.touch.ensures.held c.touch.ensures.snapshot
+      c.touch.ensures.slots
       (c.in-Ok.ensures.made.follows (sides_of state st.pages) st.tables)).ran;
   ready = λ machine state st.
       touch-leaves _ _ machine state c.args.addr c.args.len _
       (touched-done _ machine state st c.args.addr c.args.len _ c.page_count-count.ensures.count
       (sym c.first_outside.ensures ∙ c.in_default.is) c.requires.some (sym c.first_read_only.ensures ∙ c.in_default-first_read_only.is)
       (sym (c.lacks_slots.ensures (sides_of state st.pages) st.tables) ∙ c.if-lacks_slots.false)
-      c.touch.new.self c.in-Ok.ensures.made.deals _ c.in-Ok.ensures.made.led c.touch.ensures.even c.touch.ensures.held c.touch.ensures.snapshot c.touch.ensures.slots
+      c.touch.new.self c.in-Ok.ensures.made.deals _ c.in-Ok.ensures.made.led c.touch.ensures.held c.touch.ensures.snapshot
+      c.touch.ensures.slots
       (c.in-Ok.ensures.made.follows (sides_of state st.pages) st.tables));
   page = tt;
   beside = ((refl, subst (λ n. LetsWrite (page_of c.args.addr) n c.args.self.now.tables c.touch.new.self) c.page_count-count.ensures.count c.in-Ok.ensures.writable), refl, refl);
@@ -70,7 +72,8 @@ returns-in-Err g c = record {
       (touched-no_frame _ machine state st c.args.addr c.args.len _ c.page_count-count.ensures.count
       (sym c.first_outside.ensures ∙ c.in_default.is) c.requires.some (sym c.first_read_only.ensures ∙ c.in_default-first_read_only.is)
       (sym (c.lacks_slots.ensures (sides_of state st.pages) st.tables) ∙ c.if-lacks_slots.false)
-      c.touch.new.self c.in-Err.ensures.made.deals _ c.in-Err.ensures.made.led c.touch.ensures.even c.touch.ensures.held c.touch.ensures.snapshot c.touch.ensures.slots
+      c.touch.new.self c.in-Err.ensures.made.deals _ c.in-Err.ensures.made.led c.touch.ensures.held c.touch.ensures.snapshot
+      c.touch.ensures.slots
       (record { at = c.in-Err.refused.at; page = Some c.in-Err.refused.page }) c.in-Err.refused.page
       (c.in-Err.ensures.made.follows (sides_of state st.pages) st.tables)).ran;
   ready = λ machine state st.
@@ -78,7 +81,8 @@ returns-in-Err g c = record {
       (touched-no_frame _ machine state st c.args.addr c.args.len _ c.page_count-count.ensures.count
       (sym c.first_outside.ensures ∙ c.in_default.is) c.requires.some (sym c.first_read_only.ensures ∙ c.in_default-first_read_only.is)
       (sym (c.lacks_slots.ensures (sides_of state st.pages) st.tables) ∙ c.if-lacks_slots.false)
-      c.touch.new.self c.in-Err.ensures.made.deals _ c.in-Err.ensures.made.led c.touch.ensures.even c.touch.ensures.held c.touch.ensures.snapshot c.touch.ensures.slots
+      c.touch.new.self c.in-Err.ensures.made.deals _ c.in-Err.ensures.made.led c.touch.ensures.held c.touch.ensures.snapshot
+      c.touch.ensures.slots
       (record { at = c.in-Err.refused.at; page = Some c.in-Err.refused.page }) c.in-Err.refused.page
       (c.in-Err.ensures.made.follows (sides_of state st.pages) st.tables));
   page = λ machine state st.

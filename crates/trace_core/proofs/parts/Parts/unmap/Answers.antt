@@ -1,7 +1,7 @@
 use Rattle.std.proofs.Common.{◌∙◌, ap, Err}
 use Rattle.std.proofs.lemmas.Result.{err_from_is_err_and}
 use Rattle.area_list.specs.Answers.{refusal_of}
-use Rattle.page_tables.proofs.view.TablesShown.{even-moved, same-number}
+use Rattle.page_tables.proofs.view.TablesShown.{same-number}
 use Rattle.trace_core.specs.KernelStanding.{sides_of}
 use Rattle.trace_core.proofs.events.Writes.{moved-alike}
 use Rattle.trace_core.specs.CallAnswers.{area_outcome}
@@ -29,7 +29,6 @@ returns-clause-ran g c = λ machine state st.
     let made = c.unmap-2.ensures.made in
     ran-unmapped _ machine state st c.args.first c.args.pages c.unmap.new.self c.in_ok-unmap.ensures.answer _ c.unmap-2.new.self made.deals made.led
     (made.follows (sides_of state st.pages) st.tables)
-    (even-moved c.args.self.now.tables c.unmap-2.new.self c.unmap-2.ensures.even st.even)
     (moved-alike _ _ _ _ c.unmap-2.ensures.held st.out)
     (same-number c.args.self.now.tables c.unmap-2.new.self c.unmap-2.ensures.snapshot ∙ st.number)
     (c.unmap-2.ensures.slots ∙ st.slots)
