@@ -1,5 +1,6 @@
-//! The folder that the program runs in. A file is written under its name with `.part` added, and
-//! renamed where it is published. The folder tells no bytes, and counts its faults.
+//! The folder that the program runs in. A file is written under its name with `.part` added, which
+//! one living run at a time has, and renamed where it is published. The folder tells no bytes, and
+//! counts its faults.
 ghost use Rattle.std.specs.Prelude.{◌≡◌, ◌↔◌, ◌<◌, ◌≤◌, length, None, Some, Ok, Err, IfOk, IfErr, IfSome, OnOk, OnErr, IsErrAnd};
 ghost use Rattle.std.specs.Result.{result_ok};
 ghost use Rattle.std.specs.Io.Buffered.{writer_contents};
@@ -12,6 +13,7 @@ ghost use Rattle.server_main.specs.Folder.{count_after_faults, part_name};
 #[cfg(test)]
 mod tests;
 
+use crate::held_file::{Hold, hold_new, remove_left};
 use crate::streams::{InputStream, OutputStream};
 use io_face::{Failed, Folder, Sink};
 use std::alloc::{AllocError, Global};
@@ -25,7 +27,7 @@ const ROOM: usize = 65536;
 /// What a file's name has behind it until the file is published.
 const PART: &str = ".part";
 
-/// A file that is written and not published yet.
+/// A file that is written and not published yet. It is held until it is renamed or removed.
 #[derive(Drop)]
 pub struct PartFile<R: Files> {
     stream: OutputStream<BufWriter<R::File>>,
@@ -57,7 +59,10 @@ pub struct CurrentFolder<R: Files + Drop> {
     faults: u64,
 }
 
-impl<R: Files + Drop> CurrentFolder<R> {
+impl<R: Files + Drop> CurrentFolder<R>
+where
+    R::File: Hold,
+{
     /// `rt` is the handle itself, and no reference to it.
     pub fn new(rt: R, alloc: Global) -> Self
         ensures faults { result.faults ≡ 0 }
@@ -113,44 +118,65 @@ impl<R: Files + Drop> CurrentFolder<R> {
         ensures path { IfOk result (λ out. string_bytes out.path ≡ part_name name.now) }
     {
         let path = part_path(self.alloc, name)?;
-        let file = fs::create(&self.rt, path.as_str())?;
+        let file = hold_new(&self.rt, path.as_str())?;
         match BufWriter::with_capacity(self.alloc, ROOM, file) {
             Ok(writer) => Ok(PartFile {
                 stream: OutputStream::new(writer),
                 path,
             }),
             Err(error) => {
-                // The file is empty, and nobody else knows of it.
-                let _ = fs::remove_file(&self.rt, path.as_str());
+                // The file is empty, and no longer held.
+                let _ = remove_left(&self.rt, path.as_str());
                 Err(error)
             }
         }
     }
 
-    // The bytes are on the disk before the name stands for them.
+    // A file that gets no name is removed while it is still held.
     fn settle(&self, writer: BufWriter<R::File>, path: &str, name: &str) -> io::Result<()> {
-        let file = whole_file(writer)?;
+        let (_held, settled) = match whole_file(writer) {
+            Ok(file) => {
+                let renamed = self.rename_file(&file, path, name);
+                (file, renamed)
+            }
+            Err(Unwritten { error, file }) => (file, Err(error)),
+        };
+        if settled.is_err() {
+            let _ = fs::remove_file(&self.rt, path);
+        }
+        settled
+    }
+
+    // The bytes are on the disk before the name stands for them.
+    fn rename_file(&self, file: &R::File, path: &str, name: &str) -> io::Result<()> {
         file.sync_all()?;
         fs::rename(&self.rt, path, name)
     }
 }
 
+/// A file to which not all was written.
+#[derive(Drop)]
+struct Unwritten<W: Drop> {
+    error: io::Error,
+    file: W,
+}
+
 // The file, with all that was written to the writer. After an error nothing more is written.
-fn whole_file<W: Write + Drop>(writer: BufWriter<W>) -> io::Result<W>
+fn whole_file<W: Write + Drop>(writer: BufWriter<W>) -> Result<W, Unwritten<W>>
     ensures { IfOk result (λ file. Keeps (writer_contents W.contents writer) (W.contents file)) }
 {
     match writer.into_inner() {
         Ok(file) => Ok(file),
         Err(failed) => {
             let (error, writer) = failed.into_parts();
-            let _parts = writer.into_parts();
-            Err(error)
+            let (file, _bytes) = writer.into_parts();
+            Err(Unwritten { error, file })
         }
     }
 }
 
 // What was opened, or `None` exactly where std says that there is no such file.
-fn if_there<T: Drop>(opened: io::Result<T>) -> io::Result<Option<T>>
+pub fn if_there<T: Drop>(opened: io::Result<T>) -> io::Result<Option<T>>
     ensures there { IfOk opened (λ file. result ≡ Ok (Some file)) }
     ensures missing { IsErrAnd opened (λ e. error_kind e ≡ ErrorKind.NotFound) ↔ (result ≡ Ok None) }
     ensures other { IfErr result (λ e. opened ≡ Err e) }
@@ -175,7 +201,10 @@ fn part_path(alloc: Global, name: &str) -> Result<String, AllocError>
     Ok(path)
 }
 
-impl<R: Files + Drop> Folder for CurrentFolder<R> {
+impl<R: Files + Drop> Folder for CurrentFolder<R>
+where
+    R::File: Hold,
+{
     type In = InputStream<BufReader<R::File>>;
 
     type Out = PartFile<R>;
@@ -223,9 +252,6 @@ impl<R: Files + Drop> Folder for CurrentFolder<R> {
         let PartFile { stream, path } = out;
         let faults = stream.faults();
         let settled = self.settle(stream.into_writer(), &path, name);
-        if settled.is_err() {
-            let _ = fs::remove_file(&self.rt, path.as_str());
-        }
         self.count(faults);
         self.told(settled)
     }
@@ -249,7 +275,7 @@ impl<R: Files + Drop> Folder for CurrentFolder<R> {
     {
         let PartFile { stream, path } = out;
         self.count(stream.faults());
-        // What is buffered is not to be written out.
+        // What is buffered is not to be written out. The file is held until it is removed.
         let _parts = stream.into_writer().into_parts();
         let removed = fs::remove_file(&self.rt, path.as_str());
         let _ = self.told(removed);

@@ -4,6 +4,7 @@
 
 mod ending;
 mod folder;
+mod held_file;
 mod streams;
 mod words;
 

@@ -1,10 +1,11 @@
 -- The parts of a text before and behind the first byte of a kind.
-use Rattle.std.proofs.Common.{◌≡◌, ℕ, zero, suc, ◌+◌, ◌-◌, ◌<◌, ◌≤◌, Bool, true, false, cond, eqb, ltb, List, [], ◌∷◌, ◌++◌, length, get_or, take, drop, Option, Some, None, refl, sym, ap, arith}
+use Rattle.std.proofs.Common.{◌≡◌, ℕ, zero, suc, ◌+◌, ◌-◌, ◌<◌, ◌≤◌, Bool, true, false, cond, eqb, ltb, List, [], ◌∷◌, ◌++◌, length, get_or, take, drop, Option, Some, None, refl, sym, ap, ◌∙◌, arith, IfSome, inl, inr}
 use Rattle.std.specs.Prelude.{position, ◌==◌}
 use Rattle.std.specs.List.{position_or_len}
-use Rattle.std.proofs.lemmas.Bool.{eq-eqb, ne_eqb, eqb-true, eqb-false, ltb-true, ltb-false}
+use Rattle.std.proofs.lemmas.Bool.{cases_lt, eq-eqb, ne_eqb, eqb-true, eqb-false, le-ltb, lt-ltb, ltb-true, ltb-false}
 use Rattle.std.proofs.lemmas.List.{take_rest}
 use Rattle.std.proofs.lemmas.List.Sums.{fails_before_first, passes_at_first}
+use Rattle.memchr.specs.Find.{IsFirstByte}
 use Rattle.trace_text.specs.ScriptReading.{◌>>=◌, parts_at}
 
 -- ---- what the place of the byte says
@@ -50,6 +51,43 @@ pub parts_at-none : (byte : ℕ) (xs : List ℕ) → position (λ x. x == byte) 
 parts_at-none byte xs missing =
     let past : length xs ≤ position_or_len (is_byte byte) xs = ltb-false _ _ (place_none (ltb (position_or_len (is_byte byte) xs) (length xs)) (position_or_len (is_byte byte) xs) missing) in
     parts_missing byte xs (λ k below. not_before byte xs k (omega arith))
+
+-- ---- a search for the byte
+
+at_place : (n len : ℕ) → n < len → cond (ltb n len) (Some n) None ≡ Some n
+at_place n len within = rw (lt-ltb n len within) refl
+
+past_end : (n len : ℕ) → len ≤ n → cond (ltb n len) (Some n) None ≡ None
+past_end n len past = rw (le-ltb n len past) refl
+
+-- the first place of the byte is the one that was found
+pub first_is_position : (byte : ℕ) (xs : List ℕ) (r : Option ℕ) → IsFirstByte (is_byte byte) xs r → r ≡ position (λ x. x == byte) xs
+first_is_position byte xs None nowhere =
+    let n = position_or_len (is_byte byte) xs in
+    elim (cases_lt n (length xs)) [
+      | inl within ↦ absurd (nowhere n (omega arith) within (passes_at_first (is_byte byte) xs 0 within))
+      | inr past ↦ sym (past_end n (length xs) past)
+    ]
+first_is_position byte xs (Some at) found =
+    let n = position_or_len (is_byte byte) xs in
+    let within = found.0.high in
+    elim (cases_lt n at) [
+      | inl less ↦
+          let inside : n < length xs = omega arith in
+          absurd (found.0.before n (omega arith) less (passes_at_first (is_byte byte) xs 0 inside))
+      | inr others ↦ elim (cases_lt at n) [
+        | inl more ↦ absurd (not_before byte xs at more (eqb-true (get_or xs at 0) byte found.1))
+        | inr same ↦
+            let is : at ≡ n = omega arith in
+            let inside : n < length xs = omega arith in
+            ap (λ (k : ℕ). Some k) is ∙ sym (at_place n (length xs) inside)
+      ]
+    ]
+
+-- it lies within the text
+pub first_is_within : (byte : ℕ) (xs : List ℕ) (r : Option ℕ) → IsFirstByte (is_byte byte) xs r → IfSome r (λ at. at < length xs)
+first_is_within byte xs None nowhere = tt
+first_is_within byte xs (Some at) found = found.0.high
 
 -- the parts as slices
 pub parts_at-slices : (byte : ℕ) (xs : List ℕ) (at : ℕ) → Some at ≡ position (λ x. x == byte) xs → Some (take at xs, take (length xs - (at + 1)) (drop (at + 1) xs)) ≡ parts_at byte xs

@@ -3,6 +3,7 @@ ghost use Rattle.std.specs.Prelude.{◌≡◌, ◌<◌, ◌^◌, IfOk, IfSome, o
 ghost use Rattle.trace_text.specs.ScriptReading.{bytes_of, mode_of, page_at, parts_at, perm_of, range_of};
 
 use crate::number::{count, number, pair};
+use memchr::memchr;
 use std::alloc::Global;
 use vm_base::{Bytes, Mode, NoMemory, Perm};
 
@@ -18,7 +19,7 @@ fn first_place(text: &[u8], byte: u8) -> Option<usize>
     ensures place { result ≡ position (λ other. other == byte) text.now }
     ensures within { IfSome result (λ at. at < length text.now) }
 {
-    text.iter().position(|other| *other == byte)
+    memchr(byte, text)
 }
 
 /// The bytes that pairs of digits spell. Their room is made once.

@@ -15,18 +15,25 @@ struct Calls {
     // How many calls go well before one fails.
     well: u64,
     lines: String,
+    // Whether there is a file of the path that is asked for.
+    is_there: bool,
 }
 
-// A file or a file system that holds nothing, and writes its calls down.
+// A file or a file system that keeps no bytes, and writes its calls down.
 #[derive(Drop)]
 struct Recorder {
     calls: Rc<RefCell<Calls>>,
 }
 
 impl Recorder {
-    fn new(alloc: Global, well: u64) -> Result<Self, AllocError> {
+    fn new(alloc: Global, well: u64, is_there: bool) -> Result<Self, AllocError> {
         let lines = String::new(alloc);
-        match Rc::new(alloc, RefCell::new(Calls { well, lines })) {
+        let calls = Calls {
+            well,
+            lines,
+            is_there,
+        };
+        match Rc::new(alloc, RefCell::new(calls)) {
             Ok(calls) => Ok(Recorder { calls }),
             Err(_) => Err(AllocError),
         }
@@ -62,6 +69,16 @@ impl Recorder {
         Ok(())
     }
 
+    fn set_there(&self, is_there: bool) -> io::Result<()> {
+        match self.calls.try_borrow_mut() {
+            Ok(mut calls) => {
+                calls.is_there = is_there;
+                Ok(())
+            }
+            Err(_) => Err(io::Error::from(ErrorKind::Other)),
+        }
+    }
+
     // Whether these calls were made, and no others.
     fn made(&self, lines: &str) -> bool {
         match self.calls.try_borrow() {
@@ -95,9 +112,15 @@ impl Seek for Recorder {
     }
 }
 
+impl Hold for Recorder {
+    fn hold(&self) -> io::Result<()> {
+        self.note("hold", "")
+    }
+}
+
 impl OpenFile for Recorder {
     fn metadata(&self) -> io::Result<Metadata> {
-        Err(io::Error::from(ErrorKind::Unsupported))
+        Ok(Metadata::of_file(0))
     }
 
     fn set_len(&self, _size: u64) -> io::Result<()> {
@@ -119,9 +142,14 @@ impl Files for Recorder {
     type Dir = Recorder;
 
     fn open_file(&self, how: &OpenOptions, path: &str) -> io::Result<Recorder> {
-        let creates = how.asks_create() || how.asks_create_new();
-        if how.asks_write() || how.asks_append() || how.asks_truncate() || creates {
+        let changes = how.asks_append() || how.asks_truncate() || how.asks_create();
+        if changes {
+            self.note("change ", path)?;
+        } else if how.asks_create_new() {
             self.note("create ", path)?;
+            self.set_there(true)?;
+        } else if how.asks_write() {
+            self.note("reopen ", path)?;
         } else {
             self.note("open ", path)?;
         }
@@ -137,8 +165,13 @@ impl Files for Recorder {
         Err(io::Error::from(ErrorKind::Unsupported))
     }
 
-    fn symlink_metadata(&self, _path: &str) -> io::Result<Metadata> {
-        Err(io::Error::from(ErrorKind::Unsupported))
+    fn symlink_metadata(&self, path: &str) -> io::Result<Metadata> {
+        self.note("look ", path)?;
+        match self.calls.try_borrow() {
+            Ok(calls) if calls.is_there => Ok(Metadata::of_file(0)),
+            Ok(_) => Err(io::Error::from(ErrorKind::NotFound)),
+            Err(_) => Err(io::Error::from(ErrorKind::Other)),
+        }
     }
 
     fn copy(&self, _from: &str, to: &str) -> io::Result<u64> {
@@ -152,7 +185,8 @@ impl Files for Recorder {
     }
 
     fn remove_file(&self, path: &str) -> io::Result<()> {
-        self.note("remove ", path)
+        self.note("remove ", path)?;
+        self.set_there(false)
     }
 
     fn create_dir(&self, path: &str) -> io::Result<()> {
@@ -207,41 +241,61 @@ fn lacks<F: Folder>(folder: &mut F, name: &str) -> bool {
     }
 }
 
-// The calls of a save, up to the one that fails, and what is done then.
+// The calls of a save: those of a part that was left, and those of a new one.
+const LEFT_CALLS: &str = "look a.img.part
+reopen a.img.part
+hold
+look a.img.part
+remove a.img.part
+create a.img.part
+hold
+look a.img.part
+write saved
+sync
+rename a.img.part a.img
+";
+
+const NEW_CALLS: &str = "look a.img.part
+create a.img.part
+hold
+look a.img.part
+write saved
+sync
+rename a.img.part a.img
+";
+
+// They are made up to the one that fails. Until a new part is held, a failure removes nothing; from
+// then on it removes that part.
 #[test]
 fn a_save_makes_these_calls_in_this_order(rt: HostRuntime) -> Result<(), Fail> {
-    let begun = "create a.img.part\nwrite saved\n";
-    let cases: [(u64, &str, bool); 5] = [
-        (4, "sync\nrename a.img.part a.img\n", true),
-        (0, "", false),
-        (1, "remove a.img.part\n", false),
-        (2, "sync\nremove a.img.part\n", false),
-        (
-            3,
-            "sync\nrename a.img.part a.img\nremove a.img.part\n",
-            false,
-        ),
-    ];
-    for (well, last, is_saved) in cases {
-        let files = Recorder::new(rt.alloc(), well)?;
-        let mut folder = CurrentFolder::new(files.again()?, rt.alloc());
-        assert_eq!(rt; save(&mut folder, "a.img", b"saved").is_ok(), is_saved);
-        let first = if well == 0 {
-            "create a.img.part\n"
-        } else {
-            begun
-        };
-        let mut lines = String::from_str(rt.alloc(), first)?;
-        lines.push_str(last)?;
-        assert!(rt; files.made(&lines), "call {well}");
-        assert_eq!(rt; folder.faults == 0, is_saved);
+    for (calls, all, is_left) in [(NEW_CALLS, 7, false), (LEFT_CALLS, 11, true)] {
+        for well in 0..all + 1 {
+            let files = Recorder::new(rt.alloc(), well, is_left)?;
+            let mut folder = CurrentFolder::new(files.again()?, rt.alloc());
+            assert_eq!(rt; save(&mut folder, "a.img", b"saved").is_ok(), well == all);
+            assert_eq!(rt; folder.faults == 0, well == all);
+            let mut lines = String::new(rt.alloc());
+            let mut count: u64 = 0;
+            for line in calls.lines() {
+                if count <= well {
+                    lines.push_str(line)?;
+                    lines.push_str("\n")?;
+                }
+                count = count.saturating_add(1);
+            }
+            assert_eq!(rt; count, all);
+            if well + 3 >= all && well < all {
+                lines.push_str("remove a.img.part\n")?;
+            }
+            assert!(rt; files.made(&lines), "call {well}");
+        }
     }
     Ok(())
 }
 
 #[test]
 fn an_abandoned_file_is_removed_and_never_renamed(rt: HostRuntime) -> Result<(), Fail> {
-    let files = Recorder::new(rt.alloc(), 9)?;
+    let files = Recorder::new(rt.alloc(), 9, false)?;
     let mut folder = CurrentFolder::new(files.again()?, rt.alloc());
     let begun = folder.create("a.img");
     assert!(rt; begun.is_ok());
@@ -249,13 +303,16 @@ fn an_abandoned_file_is_removed_and_never_renamed(rt: HostRuntime) -> Result<(),
         assert!(rt; write_all(&mut out, b"half").is_ok());
         folder.abandon(out);
     }
-    assert!(rt; files.made("create a.img.part\nremove a.img.part\n"));
+    let begun = "look a.img.part\ncreate a.img.part\nhold\nlook a.img.part\n";
+    let mut lines = String::from_str(rt.alloc(), begun)?;
+    lines.push_str("remove a.img.part\n")?;
+    assert!(rt; files.made(&lines));
     Ok(())
 }
 
 #[test]
 fn a_file_is_opened_to_be_read_and_none_is_created(rt: HostRuntime) -> Result<(), Fail> {
-    let files = Recorder::new(rt.alloc(), 9)?;
+    let files = Recorder::new(rt.alloc(), 9, true)?;
     let mut folder = CurrentFolder::new(files.again()?, rt.alloc());
     assert!(rt; has(rt.alloc(), &mut folder, "a.img", b""));
     assert!(rt; files.made("open a.img\nread\n"));
@@ -286,6 +343,58 @@ fn a_left_part_is_no_file_and_stops_no_save(rt: HostRuntime) -> Result<(), Fail>
     assert!(rt; has(rt.alloc(), &mut folder, "left/save-1.img", b"saved"));
     assert!(rt; lacks(&mut folder, "left/save-1.img.part"));
     fs::remove_dir_all(&rt, "left")?;
+    Ok(())
+}
+
+// Two runs in one folder: while one writes, the other's save is a fault and changes nothing.
+#[test]
+fn a_part_that_a_living_run_holds_stops_a_save(rt: HostRuntime) -> Result<(), Fail> {
+    begin_in(&rt, "held")?;
+    let mut first = CurrentFolder::new(rt, rt.alloc());
+    let mut second = CurrentFolder::new(rt, rt.alloc());
+    let begun = first.create("held/save-1.img");
+    assert!(rt; begun.is_ok());
+    if let Ok(mut out) = begun {
+        assert!(rt; write_all(&mut out, b"the ").is_ok());
+        assert!(rt; save(&mut second, "held/save-1.img", b"of the second").is_err());
+        assert_eq!(rt; second.faults, 1);
+        assert!(rt; write_all(&mut out, b"first").is_ok());
+        assert!(rt; first.publish(out, "held/save-1.img").is_ok());
+    }
+    assert!(rt; has(rt.alloc(), &mut second, "held/save-1.img", b"the first"));
+    // Once it is published, nobody holds the part.
+    assert!(rt; save(&mut second, "held/save-1.img", b"of the second").is_ok());
+    assert!(rt; has(rt.alloc(), &mut first, "held/save-1.img", b"of the second"));
+    assert!(rt; lacks(&mut first, "held/save-1.img.part"));
+    assert_eq!(rt; first.faults, 0);
+    fs::remove_dir_all(&rt, "held")?;
+    Ok(())
+}
+
+#[test]
+fn no_link_is_followed_to_a_file(rt: HostRuntime) -> Result<(), Fail> {
+    begin_in(&rt, "linked")?;
+    let mut folder = CurrentFolder::new(rt, rt.alloc());
+    assert!(rt; save(&mut folder, "linked/kept", b"kept").is_ok());
+    symlink(&rt, "kept", "linked/there.part")?;
+    symlink(&rt, "missing", "linked/nowhere.part")?;
+    symlink(&rt, "/dev/full", "linked/full.part")?;
+    let names = ["linked/there", "linked/nowhere", "linked/full"];
+    for name in names {
+        assert!(rt; save(&mut folder, name, b"saved").is_err());
+        assert!(rt; lacks(&mut folder, name));
+    }
+    assert_eq!(rt; folder.faults, 3);
+    assert!(rt; has(rt.alloc(), &mut folder, "linked/kept", b"kept"));
+    assert!(rt; lacks(&mut folder, "linked/missing"));
+    for link in [
+        "linked/there.part",
+        "linked/nowhere.part",
+        "linked/full.part",
+    ] {
+        assert!(rt; fs::symlink_metadata(&rt, link)?.is_symlink());
+    }
+    fs::remove_dir_all(&rt, "linked")?;
     Ok(())
 }
 
@@ -332,21 +441,19 @@ fn an_abandoned_file_leaves_no_name(rt: HostRuntime) -> Result<(), Fail> {
 fn a_file_that_cannot_be_saved_is_a_counted_fault(rt: HostRuntime) -> Result<(), Fail> {
     begin_in(&rt, "refused")?;
     fs::create_dir(&rt, "refused/taken")?;
-    let long = vec![in rt.alloc(); b'x'; 2 * ROOM]?;
-    let cases: [(&str, &[u8]); 5] = [
+    fs::create_dir(&rt, "refused/begun.part")?;
+    let cases: [(&str, &[u8]); 4] = [
         ("missing/save-1.img", b"saved"),
         ("refused/save-\0.img", b"saved"),
         ("refused/taken", b"saved"),
-        ("refused/full", b"saved"),
-        ("refused/full", &long),
+        ("refused/begun", b"saved"),
     ];
     for (name, text) in cases {
-        // A device without room, under the name that is written to.
-        let _ = symlink(&rt, "/dev/full", "refused/full.part");
         let mut folder = CurrentFolder::new(rt, rt.alloc());
         assert!(rt; save(&mut folder, name, text).is_err());
         assert_eq!(rt; folder.faults, 1);
     }
+    fs::remove_dir(&rt, "refused/begun.part")?;
     fs::remove_dir(&rt, "refused/taken")?;
     fs::remove_dir(&rt, "refused")?;
     Ok(())
