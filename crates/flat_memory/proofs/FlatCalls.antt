@@ -1,21 +1,21 @@
 -- What each call makes of a process by flat copies.
-use Rattle.std.proofs.Common.{◌≡◌, ℕ, ◌+◌, ◌-◌, ◌/◌, ◌^◌, ◌<◌, ◌≤◌, max, Bool, true, false, not, cond, eqb, leb, ltb, List, [], ◌∷◌, length, Option, Some, None, refl, sym, ◌∙◌, ap, subst, arith, inl, inr}
+use Rattle.std.proofs.Common.{◌≡◌, ℕ, ◌+◌, ◌-◌, ◌^◌, ◌<◌, ◌≤◌, Bool, true, false, not, cond, leb, ltb, List, [], ◌∷◌, length, Option, Some, None, refl, sym, ◌∙◌, ap, subst, arith, inl, inr}
 use Rattle.std.specs.Prelude.{IsSome, is_some, is_ok, ◌⊎◌, Result, Ok, Err, OnOk, IfErr, unwrap_or}
 use Rattle.std.specs.FinMap.{get, len, empty, get-empty, len-empty}
 use Rattle.std.specs.Ordering.{nat_cmp}
 use Rattle.std.specs.Option.{option_map, option_or}
 use Rattle.std.specs.List.{All}
-use Rattle.std.proofs.lemmas.Bool.{cases_eq, cases_lt, cases_Bool, cond-true, cond-false, leb-true, ltb-true, and_parts, false≢true}
+use Rattle.std.proofs.lemmas.Bool.{cases_lt, cases_Bool, cond-false, leb-true, ltb-true, and_parts, false≢true}
 use Rattle.vm_base.specs.declared.permission.Perm.{Perm}
 use Rattle.vm_base.specs.declared.faults.Fault.{Fault}
 use Rattle.vm_base.specs.declared.faults.Fault.TheVariants.{NoArea, NoWrite, NoFrame, Overlap, AreasFull, CellsFull}
 use Rattle.vm_base.specs.declared.faults.ForkFault.{ForkFault}
 use Rattle.vm_base.specs.declared.faults.ForkFault.TheVariants.{NoFrame as NoFrameLeft, TooMany, NumbersSpent}
-use Rattle.vm_base.specs.Places.{page_of, cell_of, page_count, cells_of_range}
-use Rattle.vm_base.specs.FlatMemory.{Area, PageMap, FlatMemory, IsFlat, empty_memory, area_of, cells_of, bytes_at}
-use Rattle.vm_base.specs.FlatStep.{Refusal, OutsideAreas, ReadOnly, or_refused, Taken, outside, unwritable, taken, is_writable, is_read_only, is_beyond, with_pages, with_bytes, touch_of, map_of, unmap_of, protect_of}
-use Rattle.vm_base.specs.MemoryState.{MemoryState, IsIn, IsListed, IsMemory, IsKept, KeepsReady, own_of}
-use Rattle.vm_base.specs.MemoryCalls.{IsInRange, IsReady, Touches, TouchFails, Maps, Changes, touched, touch_answer, map_answer, after_store, faulted}
+use Rattle.vm_base.specs.Places.{page_of, page_count, cells_of_range}
+use Rattle.vm_base.specs.FlatMemory.{Area, FlatMemory, IsFlat, empty_memory, area_of, cells_of, bytes_at}
+use Rattle.vm_base.specs.FlatStep.{Refusal, OutsideAreas, ReadOnly, or_refused, Taken, outside, unwritable, taken, is_writable, is_read_only, is_beyond, with_bytes, touch_of, map_of, unmap_of, protect_of}
+use Rattle.vm_base.specs.MemoryState.{IsIn, IsListed, IsKept, KeepsReady, own_of}
+use Rattle.vm_base.specs.MemoryCalls.{IsInRange, IsReady, Touches, TouchFails, Maps, touched, map_answer, after_store, faulted}
 use Rattle.vm_base.specs.FlatLaws.{unmapped}
 use Rattle.vm_base.specs.SnapshotState.{KeepsSnapshot, first_found, snapshot_answer, unless_fault}
 use Rattle.vm_base.specs.ProcessState.{LeavesMemory, LeavesAtReap}
@@ -32,11 +32,11 @@ use Rattle.flat_memory.specs.declared.sides.Sides.{Sides}
 use Rattle.flat_memory.specs.Pages.{PageTable, no_pages}
 use Rattle.flat_memory.specs.SideSeen.{mem_of}
 use Rattle.flat_memory.specs.Answers.{SideChanges}
-use Rattle.flat_memory.specs.FlatSeen.{memory_of, FlatHolds, KeepsChild, TouchesRange, LacksPage, TouchEnds, Forks, ForkEnds, IsRefusedByRoom, fault_answer, nest_of, ready_pages, kept_cells, used_cells}
+use Rattle.flat_memory.specs.FlatSeen.{memory_of, FlatHolds, KeepsChild, TouchesRange, LacksPage, TouchEnds, Forks, ForkEnds, IsRefusedByRoom, fault_answer, nest_of, ready_pages, used_cells}
 use Rattle.flat_memory.specs.FlatLaws.{in_used, used_by_memory, used_by_child, none_found}
 use Rattle.flat_memory.proofs.RangeLemmas.{len-absent, len-part, with_pages-more}
-use Rattle.flat_memory.proofs.UsedSlots.{cell-there, page-there, cells-more, used-more, used-same, ready-there, ready-writable, ready-from, ready-same}
-use Rattle.flat_memory.proofs.FlatStands.{holds-memory, kept-from, judged-answer}
+use Rattle.flat_memory.proofs.UsedSlots.{cell-there, page-there, used-more, used-same, ready-there, ready-writable, ready-from, ready-same}
+use Rattle.flat_memory.proofs.FlatStands.{kept-from, judged-answer}
 
 -- what holds then, where nothing but the memory and its counts has changed
 pub holds-from : (old new : Sides) → FlatHolds old → KeepsChild old new → IsFlat (mem_of new.memory)

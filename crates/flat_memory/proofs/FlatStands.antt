@@ -1,14 +1,11 @@
 -- A process by flat copies is a memory, and what its calls keep.
-use Rattle.std.proofs.Common.{◌≡◌, ℕ, ◌+◌, ◌-◌, ◌/◌, ◌^◌, ◌<◌, ◌≤◌, Bool, true, false, not, cond, eqb, List, [], ◌∷◌, length, Option, Some, None, refl, sym, ◌∙◌, ap, subst, arith, inl, inr}
-use Rattle.std.specs.Prelude.{IsSome, is_some, ◌⊎◌, Result, Ok, Err}
-use Rattle.std.specs.FinMap.{get, len}
-use Rattle.std.specs.FinSet as set
-use Rattle.std.proofs.lemmas.Bool.{cases_eq, cond-true, cond-false, eq-eqb, ne_eqb, false≢true}
+use Rattle.std.proofs.Common.{◌≡◌, ℕ, ◌+◌, ◌-◌, ◌^◌, ◌<◌, ◌≤◌, false, eqb, List, refl, arith, inl, inr}
+use Rattle.std.specs.Prelude.{◌⊎◌}
+use Rattle.std.proofs.lemmas.Bool.{cases_eq, cond-true, cond-false, eq-eqb, ne_eqb}
 use Rattle.vm_base.specs.Places.{page_of, cell_of, page_count, cells_of_range}
-use Rattle.vm_base.specs.FlatMemory.{FlatMemory, IsFlat, area_of, cells_of}
 use Rattle.vm_base.specs.FlatStep.{touch_of}
-use Rattle.vm_base.specs.MemoryState.{MemoryState, IsIn, IsListed, IsMemory, IsKept, own_of}
-use Rattle.vm_base.specs.MemoryCalls.{IsInRange, touch_answer, faulted, is_out_of_slots}
+use Rattle.vm_base.specs.MemoryState.{IsIn, IsListed, IsMemory, IsKept}
+use Rattle.vm_base.specs.MemoryCalls.{touch_answer, faulted, is_out_of_slots}
 use Rattle.vm_base.proofs.FlatAreas.{cells-of_pages}
 use Rattle.vm_base.proofs.FlatSlots.{slots-below, touch_answer-areas}
 use Rattle.flat_memory.specs.declared.sides.Sides.{Sides}

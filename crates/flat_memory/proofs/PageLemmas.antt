@@ -1,16 +1,16 @@
 -- Tables of pages: what their entries give.
-use Rattle.std.proofs.Common.{◌≡◌, ◌≢◌, ℕ, zero, suc, ◌+◌, ◌-◌, ◌<◌, ◌≤◌, Bool, true, false, cond, eqb, List, [], ◌∷◌, ◌++◌, length, take, drop, set, get_or, Some, None, refl, sym, ◌∙◌, ap, subst, arith, inl, inr}
-use Rattle.std.specs.Prelude.{T, is_some, unwrap_or, IsSome, Option}
-use Rattle.std.specs.Ordering.{nat_cmp, eq_by_cmp}
+use Rattle.std.proofs.Common.{◌≡◌, ◌≢◌, ℕ, zero, ◌<◌, ◌≤◌, Bool, cond, List, [], ◌∷◌, ◌++◌, length, take, drop, set, get_or, Some, None, sym, ◌∙◌, ap, arith, inl, inr}
+use Rattle.std.specs.Prelude.{is_some, unwrap_or, IsSome, Option}
+use Rattle.std.specs.Ordering.{nat_cmp}
 use Rattle.std.specs.Cmp.{nat_cmp_total}
 use Rattle.std.specs.declared.cmp.Ordering.TheVariants.{Equal}
-use Rattle.std.specs.FinMap.{FinMap, from_sorted, entries, entries-from_sorted, entries-insert, get-from_sorted, len-entries, same_entries_map, get, insert, retain_keys, get-retain_keys, len, nat_cmp-IsAntisymmetric, empty, get-empty, find, put, is_sorted}
+use Rattle.std.specs.FinMap.{from_sorted, entries-from_sorted, entries-insert, get-from_sorted, len-entries, same_entries_map, get, insert, retain_keys, get-retain_keys, len, nat_cmp-IsAntisymmetric, empty, get-empty, find, put}
 use Rattle.std.specs.FinMap.Entries.{where_key, is_sorted-put, is_sorted-where_key, find-where_key}
 use Rattle.std.proofs.lemmas.Bool.{cases_eq, cases_lt, false≢true}
 use Rattle.std.proofs.lemmas.List.{get_or_default}
 use Rattle.vm_base.specs.FlatMemory.{PageMap, spliced}
 use Rattle.vm_base.proofs.NumberedMaps.{same_numbered}
-use Rattle.flat_memory.specs.Pages.{PageTable, page_at, with_written}
+use Rattle.flat_memory.specs.Pages.{PageTable, page_at}
 use Rattle.flat_memory.specs.Entries.{Numbered, AreSorted, IsPlace, FoundAt}
 use Rattle.flat_memory.proofs.EntryLemmas.{true_from, put-between, put-here, find-here, apart_from_none, found_none}
 

@@ -1,13 +1,13 @@
 -- Ranges over pages, piece by piece and page by page.
-use Rattle.std.proofs.Common.{◌≡◌, ℕ, zero, suc, ◌+◌, ◌-◌, ◌<◌, ◌≤◌, Bool, true, false, cond, eqb, List, [], ◌∷◌, ◌++◌, length, take, drop, Some, None, refl, sym, ◌∙◌, ap, subst, arith, inl, inr}
+use Rattle.std.proofs.Common.{◌≡◌, ℕ, zero, suc, ◌+◌, ◌-◌, ◌<◌, ◌≤◌, true, false, eqb, List, [], ◌++◌, length, take, drop, Some, None, refl, sym, ◌∙◌, ap, arith, inl, inr}
 use Rattle.std.specs.Prelude.{is_some, unwrap_or, IsSome, Option}
 use Rattle.std.specs.Cmp.{nat_cmp_total}
-use Rattle.std.specs.FinMap.{get, insert, len, len-insert}
-use Rattle.std.proofs.lemmas.Bool.{cases_eq, cases_Bool, cond-true, cond-false, eq-eqb, ne_eqb, false≢true}
+use Rattle.std.specs.FinMap.{get, len, len-insert}
+use Rattle.std.proofs.lemmas.Bool.{cases_eq, cond-true, cond-false, eq-eqb, ne_eqb, false≢true}
 use Rattle.std.proofs.lemmas.List.{length-take-le, length-drop, take-take, drop-take, take-append-drop}
 use Rattle.std.proofs.lemmas.Slice.{take-put_mid}
 use Rattle.vm_base.specs.Places.{page_of, offset_of, page_count}
-use Rattle.vm_base.specs.FlatMemory.{PageMap, bytes_at, zero_page, spliced}
+use Rattle.vm_base.specs.FlatMemory.{PageMap, bytes_at, zero_page}
 use Rattle.vm_base.specs.FlatStep.{with_page, with_pages, with_bytes}
 use Rattle.vm_base.specs.MemoryCalls.{IsInRange}
 use Rattle.vm_base.specs.FlatLaws.{AreFullPages}

@@ -1,19 +1,17 @@
 -- Which cells use a slot, and which pages may be stored to.
-use Rattle.std.proofs.Common.{◌≡◌, ℕ, zero, suc, ◌+◌, ◌-◌, ◌/◌, ◌^◌, ◌<◌, ◌≤◌, Bool, true, false, not, cond, eqb, List, [], ◌∷◌, ◌++◌, map, length, filter, Option, Some, None, refl, sym, ◌∙◌, ap, subst, arith, inl, inr}
-use Rattle.std.specs.Prelude.{IsSome, IsTrue, IsFalse, is_some, ◌||◌, ◌&&◌, ◌==◌, ◌⊎◌}
-use Rattle.std.specs.Ordering.{nat_cmp}
+use Rattle.std.proofs.Common.{◌≡◌, ℕ, ◌^◌, ◌<◌, ◌≤◌, Bool, true, false, not, eqb, List, [], ◌∷◌, map, filter, Option, Some, None, refl, sym, ◌∙◌, ap, subst, arith, inl, inr}
+use Rattle.std.specs.Prelude.{IsSome, is_some, ◌||◌, ◌&&◌, ◌==◌}
 use Rattle.std.specs.Cmp.{nat_cmp_total}
 use Rattle.std.specs.FinMap.{get, keys, nat_cmp-IsAntisymmetric}
 use Rattle.std.specs.FinSet as set
 use Rattle.std.specs.List.{list_any, range_with_len}
-use Rattle.std.proofs.lemmas.Bool.{cases_Bool, cases_eq, cond-true, cond-false, eqb-true, eq-eqb, ne_eqb, and_parts, and_from, false≢true}
+use Rattle.std.proofs.lemmas.Bool.{cases_Bool, cond-true, cond-false, eqb-true, eq-eqb, and_parts, and_from, false≢true}
 use Rattle.std.proofs.lemmas.Bool.Decides.{nat_tests}
 use Rattle.std.proofs.lemmas.List.FromFn.{length-range_with_len}
-use Rattle.vm_base.specs.Places.{page_of, cell_of, page_count, cells_of_range}
-use Rattle.vm_base.specs.FlatMemory.{Area, PageMap, FlatMemory, IsFlat, area_of, cells_of}
+use Rattle.vm_base.specs.Places.{cell_of}
+use Rattle.vm_base.specs.FlatMemory.{FlatMemory, IsFlat, area_of, cells_of}
 use Rattle.vm_base.specs.FlatStep.{is_read_only}
 use Rattle.vm_base.specs.MemoryState.{Numbers, IsIn, IsListed}
-use Rattle.vm_base.specs.MemoryCalls.{IsInRange}
 use Rattle.vm_base.proofs.OwnFrames.{member, member-keys, member-map}
 use Rattle.vm_base.proofs.FlatAreas.{listed-range}
 use Rattle.vm_base.proofs.FlatSlots.{len-among}

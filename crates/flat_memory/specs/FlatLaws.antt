@@ -1,18 +1,15 @@
 -- What the process and its child have to do with each other.
-use Rattle.std.proofs.Common.{◌≡◌, ℕ, List, [], ◌∷◌, ◌++◌, Bool, true, false, Option, Some, None, inl, inr, refl, sym, ◌∙◌, ap, eqb, arith}
+use Rattle.std.proofs.Common.{◌≡◌, ℕ, List, [], ◌∷◌, ◌++◌, Bool, true, false, Option, Some, None, inl, inr, refl, sym, ◌∙◌, ap, arith}
 use Rattle.std.specs.Prelude.{◌<◌, ◌≤◌, ◌⊎◌, IsTrue, ◌==◌, ◌||◌, ◌↔◌, is_some, unwrap_or}
 use Rattle.std.specs.Option.{ForSome}
 use Rattle.std.specs.Ordering.{nat_cmp}
 use Rattle.std.specs.FinMap.{get, empty, get-empty}
 use Rattle.std.specs.FinSet as set
 use Rattle.std.specs.List.{list_any}
-use Rattle.std.proofs.lemmas.Bool.{false≢true, cases_Bool, eqb-true, eq-eqb}
-use Rattle.std.proofs.lemmas.Bool.Decides.{nat_tests}
+use Rattle.std.proofs.lemmas.Bool.{false≢true, eqb-true, eq-eqb}
 use Rattle.vm_base.specs.FlatMemory.{FlatMemory, cells_of}
-use Rattle.vm_base.specs.MemoryState.{Numbers, IsIn, IsListed}
-use Rattle.vm_base.specs.ProcessState.{Found}
+use Rattle.vm_base.specs.MemoryState.{IsIn, IsListed}
 use Rattle.vm_base.specs.SnapshotState.{GoesOn}
-use Rattle.flat_memory.specs.declared.side.Side.{Side}
 use Rattle.flat_memory.specs.declared.sides.Sides.{Sides}
 use Rattle.flat_memory.specs.declared.process.FlatChild.{FlatChild}
 use Rattle.flat_memory.specs.SideSeen.{mem_of}

@@ -1,5 +1,5 @@
 -- What holds of a process has one proof at most.
-use Rattle.std.proofs.Common.{◌≡◌, ℕ, ◌≤◌, ◌<◌, Bool, true, List, [], ◌∷◌, length, refl}
+use Rattle.std.proofs.Common.{true, List, [], ◌∷◌, length}
 use Rattle.std.specs.Prelude.{is_some}
 use Rattle.std.specs.Coded.{Coded-set, coded_ℕ, coded_bool, Unit-prop, le_prop}
 use mathlib.Core.HLevel.{⊥_prop}

@@ -8,10 +8,10 @@ use Rattle.vm_base.specs.declared.faults.Fault.TheVariants.{NoArea, NoWrite, NoF
 use Rattle.vm_base.specs.declared.faults.ForkFault.{ForkFault}
 use Rattle.vm_base.specs.declared.faults.ForkFault.TheVariants.{NoFrame as NoFrameLeft, TooMany, NumbersSpent}
 use Rattle.vm_base.specs.Counts.{next_count}
-use Rattle.vm_base.specs.Places.{page_of, page_count}
-use Rattle.vm_base.specs.FlatMemory.{Area, PageMap, FlatMemory, IsFlat, empty_memory, area_of, cells_of}
+use Rattle.vm_base.specs.Places.{page_of}
+use Rattle.vm_base.specs.FlatMemory.{Area, FlatMemory, IsFlat, empty_memory, area_of, cells_of}
 use Rattle.vm_base.specs.FlatStep.{OutsideAreas, ReadOnly, is_read_only, with_pages, touch_of}
-use Rattle.vm_base.specs.MemoryState.{MemoryState, Numbers, IsListed, own_of}
+use Rattle.vm_base.specs.MemoryState.{MemoryState, Numbers, own_of}
 use Rattle.vm_base.specs.MemoryCalls.{IsInRange, touched, fault_of}
 use Rattle.vm_base.specs.ProcessState.{Children, Remains}
 use Rattle.vm_base.specs.SnapshotState.{SnapshotState}

@@ -1,5 +1,5 @@
 -- Pages that are present, in a table with room for more.
-use Rattle.std.specs.Prelude.{◌≡◌, ℕ, zero, suc, ◌+◌, List, [], cond, is_some, unwrap_or, Option, vec_len, vec_capacity, ◌≤◌}
+use Rattle.std.specs.Prelude.{ℕ, zero, suc, ◌+◌, List, [], cond, is_some, unwrap_or}
 use Rattle.std.specs.Coded.{Coded, code_by, coded×, coded_ℕ}
 use Rattle.std.specs.FinMap.{get, empty, insert}
 use Rattle.std.proofs.Common.{refl}

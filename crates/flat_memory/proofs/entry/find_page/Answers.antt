@@ -1,7 +1,6 @@
 -- The entry at the place of the page is the only one that may be its own.
-use Rattle.std.proofs.Common.{◌≡◌, get_or, sym, ◌∙◌, ap, arith, eqb}
+use Rattle.std.proofs.Common.{sym, ◌∙◌, ap, arith}
 use Rattle.std.proofs.lemmas.List.{get_or_read}
-use Rattle.flat_memory.specs.Entries.{Numbered, IsPlace}
 use Rattle.flat_memory.proofs.EntryLemmas.{found_here, found_none}
 use Rattle.flat_memory.proofs.entry.find_page.Goals as goal
 use Rattle.flat_memory.proofs.entry.find_page.Goals.{else-place-entries-via-then-place-entries+else-number-page, else-place-entries-via-else-place-entries}

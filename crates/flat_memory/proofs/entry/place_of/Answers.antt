@@ -1,5 +1,5 @@
 -- The entries below the page stand before the others.
-use Rattle.std.proofs.Common.{rules, of_calls, ltb, get_or, ◌<◌, arith}
+use Rattle.std.proofs.Common.{rules, of_calls, ltb, get_or, arith}
 use Rattle.std.proofs.lemmas.Fn.{always_returns_same}
 use Rattle.std.proofs.lemmas.Bool.{ltb-true, ltb-false}
 use Rattle.flat_memory.specs.Entries.{Numbered}

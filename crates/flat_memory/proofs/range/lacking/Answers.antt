@@ -1,5 +1,5 @@
 -- An absent page takes one of the free places, and one that is there none.
-use Rattle.std.proofs.Common.{◌≡◌, ◌+◌, ◌≤◌, false, true, sym, ◌∙◌, arith}
+use Rattle.std.proofs.Common.{sym, ◌∙◌, arith}
 use Rattle.flat_memory.proofs.RangeLemmas.{len-there, len-absent}
 use Rattle.flat_memory.proofs.range.lacking.Goals as goal
 use Rattle.flat_memory.proofs.range.lacking.Goals.{then-not-contains+else-free-eq0, else-not-contains}

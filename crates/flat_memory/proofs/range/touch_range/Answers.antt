@@ -1,8 +1,8 @@
 -- Each page of the range finds room.
-use Rattle.std.proofs.Common.{◌≡◌, ◌+◌, ◌-◌, ◌≤◌, sym, ◌∙◌, ap, arith}
+use Rattle.std.proofs.Common.{sym, ◌∙◌, ap, arith}
 use Rattle.std.specs.FinMap.{len}
 use Rattle.vm_base.specs.FlatMemory.{PageMap}
-use Rattle.vm_base.specs.FlatStep.{with_page, with_pages}
+use Rattle.vm_base.specs.FlatStep.{with_page}
 use Rattle.flat_memory.specs.Pages.{PageTable}
 use Rattle.flat_memory.proofs.RangeLemmas.{len-part, with_pages-more}
 use Rattle.flat_memory.proofs.range.touch_range.Goals as goal

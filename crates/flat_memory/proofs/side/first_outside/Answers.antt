@@ -1,5 +1,5 @@
 -- A page in an area is passed over.
-use Rattle.std.proofs.Common.{◌≡◌, ◌+◌, sym, ◌∙◌, ap, not, false, Option, None, Some}
+use Rattle.std.proofs.Common.{◌+◌, sym, ◌∙◌, ap, not}
 use Rattle.std.specs.Prelude.{is_some}
 use Rattle.vm_base.specs.FlatMemory.{area_of}
 use Rattle.vm_base.proofs.Ranges.{lowest_above}

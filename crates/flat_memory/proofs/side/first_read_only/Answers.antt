@@ -1,5 +1,5 @@
 -- A page that may be written is passed over, and one that lies in no area.
-use Rattle.std.proofs.Common.{◌≡◌, ◌+◌, sym, ◌∙◌, ap}
+use Rattle.std.proofs.Common.{◌+◌, sym, ◌∙◌, ap}
 use Rattle.vm_base.specs.FlatMemory.{area_of}
 use Rattle.vm_base.specs.FlatStep.{is_read_only}
 use Rattle.vm_base.proofs.Ranges.{lowest_above}

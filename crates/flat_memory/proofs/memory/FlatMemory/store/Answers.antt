@@ -1,5 +1,5 @@
 -- A store changes bytes of present pages alone.
-use Rattle.std.proofs.Common.{length, arith, ◌<◌}
+use Rattle.std.proofs.Common.{length, ◌<◌}
 use Rattle.std.proofs.lemmas.List.Elements.{All-from_get_or}
 use Rattle.vm_base.proofs.FlatLaws.{full_from_ready}
 use Rattle.flat_memory.specs.FlatSeen.{memory_of}

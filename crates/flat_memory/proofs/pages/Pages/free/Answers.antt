@@ -1,5 +1,5 @@
 -- The entries are the pages that are present.
-use Rattle.std.proofs.Common.{◌≡◌, ◌+◌, ℕ, sym, ◌∙◌, ap, arith, length, vec_len}
+use Rattle.std.proofs.Common.{◌≡◌, ◌+◌, sym, ◌∙◌, ap, arith, length, vec_len}
 use Rattle.std.specs.FinMap.{len as count}
 use Rattle.flat_memory.proofs.PageLemmas.{len-map}
 use Rattle.flat_memory.proofs.pages.Pages.free.Goals as goal
