@@ -69,4 +69,5 @@ commit_store state plan =
 -- what giving a block back stores: the first free block of its class in it, and then the block as the first one
 abbrev pub free_store : MemoryState → ℕ → ℕ → MemoryState
 free_store state at class =
-    after_store (after_store state at (big_bytes 8 (word_at state.mem (list_field class)))) (list_field class) (big_bytes 8 at)
+    after_store (after_store state at (big_bytes 8 (word_at state.mem (list_field class))))
+    (list_field class) (big_bytes 8 at)
