@@ -9,4 +9,5 @@ _afkv() {
   esac
   mapfile -t COMPREPLY < <(compgen -W "$next" -- "$2")
 }
-complete -F _afkv afkv
+# Where no word may stand, as behind `<`, names of files are completed.
+complete -o default -F _afkv afkv

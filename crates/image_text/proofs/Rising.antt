@@ -1,13 +1,13 @@
 -- Pairs in rising order, and one more.
 use Rattle.std.proofs.Common.{ℕ, ◌<◌, ◌≤◌, zero, suc, get_or, List, [], ◌∷◌, ◌++◌, length, arith, length-append}
 use Rattle.std.specs.List.{AllByRecursion}
-use Rattle.image_text.specs.Image.{AreRising, IsBehind, FitsImage, HasImage}
+use Rattle.image_text.specs.Image.{AreKeysRising, IsBehind, FitsImage, HasImage}
 
-AreRising-push : (pairs : List (List ℕ × List ℕ)) (pair : List ℕ × List ℕ) → AreRising pairs →
-    IsBehind pairs pair.0 → AreRising (pairs ++ pair ∷ [])
-AreRising-push [] pair h behind = tt
-AreRising-push (p ∷ []) pair h behind = (behind, tt)
-AreRising-push (p ∷ q ∷ pairs) pair h behind = (h.0, AreRising-push (q ∷ pairs) pair h.1 behind)
+AreKeysRising-push : (pairs : List (List ℕ × List ℕ)) (pair : List ℕ × List ℕ) → AreKeysRising pairs →
+    IsBehind pairs pair.0 → AreKeysRising (pairs ++ pair ∷ [])
+AreKeysRising-push [] pair h behind = tt
+AreKeysRising-push (p ∷ []) pair h behind = (behind, tt)
+AreKeysRising-push (p ∷ q ∷ pairs) pair h behind = (h.0, AreKeysRising-push (q ∷ pairs) pair h.1 behind)
 
 each-push : (pairs : List (List ℕ × List ℕ)) (pair : List ℕ × List ℕ) →
     AllByRecursion FitsImage pairs → FitsImage pair → AllByRecursion FitsImage (pairs ++ pair ∷ [])
@@ -19,7 +19,7 @@ pub HasImage-push : (pairs : List (List ℕ × List ℕ)) (key value : List ℕ)
     HasImage (pairs ++ (key, value) ∷ [])
 HasImage-push pairs key value h fewer behind key_fits value_fits = record {
   few = omega (arith, fewer, length-append pairs ((key, value) ∷ []));
-  rising = AreRising-push pairs (key, value) h.rising behind;
+  rising = AreKeysRising-push pairs (key, value) h.rising behind;
   each = each-push pairs (key, value) h.each (key_fits, value_fits);
 }
 

@@ -34,10 +34,11 @@ abbrev pub image_text : FinMap bytes_cmp (List ℕ) → List ℕ
 image_text map = pairs_text (entries map)
 
 -- each key is greater than the one before it
-abbrev pub AreRising : List (List ℕ × List ℕ) → Type 0
-AreRising [] = Unit {0}
-AreRising (pair ∷ []) = Unit {0}
-AreRising (pair ∷ next ∷ pairs) = (bytes_cmp pair.0 next.0 ≡ Less) × AreRising (next ∷ pairs)
+abbrev pub AreKeysRising : List (List ℕ × List ℕ) → Type 0
+AreKeysRising [] = Unit {0}
+AreKeysRising (pair ∷ []) = Unit {0}
+AreKeysRising (pair ∷ next ∷ pairs) =
+    (bytes_cmp pair.0 next.0 ≡ Less) × AreKeysRising (next ∷ pairs)
 
 -- the key is greater than the last one, if there is one
 abbrev pub IsBehind : List (List ℕ × List ℕ) → List ℕ → Type 0
@@ -52,5 +53,5 @@ FitsImage pair = (length pair.0 ≤ 65536) × (length pair.1 ≤ 1048576)
 -- pairs of which there may be an image
 pub record HasImage (pairs : List (List ℕ × List ℕ)) : Type 0 where
   pub few : length pairs ≤ 268435456
-  pub rising : AreRising pairs
+  pub rising : AreKeysRising pairs
   pub each : AllByRecursion FitsImage pairs

@@ -1,7 +1,7 @@
 -- Small cases of the definitions, worked out.
-use Rattle.std.proofs.Common.{◌≡◌, ℕ, List, [], ◌∷◌, ◌++◌, map, replicate, take, inl, inr, lit<, refl, sym, arith}
+use Rattle.std.proofs.Common.{◌≡◌, ℕ, List, [], ◌∷◌, ◌++◌, map, replicate, take, inl, inr, lit<, lit≤, refl, sym, arith}
 use mathlib.Core.Bool.{true≢false}
-use Rattle.std.specs.Prelude.{Some, None, true, false}
+use Rattle.std.specs.Prelude.{Option, Some, None, true, false}
 use Rattle.vm_base.specs.declared.fork_mode.Mode.{Mode}
 use Rattle.vm_base.specs.declared.fork_mode.Mode.TheVariants.{Eager, OnDemand, Async}
 use Rattle.vm_base.specs.declared.frame_request.Want.TheVariants as want
@@ -14,7 +14,8 @@ use Rattle.kernel_meaning.specs.CellActs.{Course, opening_course, touched, clear
 use Rattle.kernel_meaning.specs.FrameLaw.{Leaves, held_frames, losses_of, lacks_slots}
 use Rattle.kernel_meaning.specs.EventRequests.{Progress, opening_progress, pages_touched, snapshot_forked, snapshot_copied, snapshot_dropped, pages_unmapped, pages_protected}
 use Rattle.kernel_meaning.specs.RefusedRequests.{answers_from, refused_numbers, requests_of, out_after, is_forced}
-use Rattle.kernel_meaning.specs.CellAccount.{CellAct, CellEntry, Touch, Store, Fork, Copy, Unmark, Drop, account_of, account_share, entry_course, seat_of, AllowsAct, MayStandBehind, AreEntries}
+use Rattle.kernel_meaning.specs.CellAccount.{CellAct, CellEntry, Touch, Store, Clear, Protect, Fork, Copy, Unmark, Drop, account_of, account_share, entry_course, seat_of, AllowsAct, HasOwnSeat, MayStandBehind, AreEntries}
+use Rattle.vm_base.specs.declared.permission.Perm.TheVariants.{Read}
 use Rattle.kernel_meaning.specs.PoolAccount.{PoolAct, PoolEntry, Take, Give, Allow, Parted, Reaped, Lent, NoneFree, DeniedBy, pool_account_of, frames_out, load, ArePoolEntries}
 
 -- ---- one cell, act after act
@@ -186,25 +187,69 @@ log = entry (Touch 0) 0 (Yes ∷ Yes ∷ []) ∷ entry (Fork 1 Async 3) 0 [] ∷
 the_account_of_a_cell : (account_share (account_of log) ≡ 2) × ((account_of log).made ≡ 4) × (account_share (account_of (take 4 log)) ≡ 4)
 the_account_of_a_cell = (refl, refl, refl)
 
--- an entry whose act the cell allows however it is
-abbrev plainly : {before : List CellEntry} {it : CellEntry} → seat_of before it.act ≡ Some it.seat → AllowsAct (account_of before).state.leaves it.act → answers_of (entry_course (account_of before) it).requests.deals ≡ it.answers → MayStandBehind before it
-plainly seat allowed answers = record { seat = seat; allowed = allowed; answers = answers }
+-- an entry that may stand there
+abbrev plainly : {before : List CellEntry} {it : CellEntry} → seat_of before it.act ≡ Some it.seat
+    → AllowsAct (account_of before).state.leaves it.act → HasOwnSeat before it.act
+    → answers_of (entry_course (account_of before) it).requests.deals ≡ it.answers → MayStandBehind before it
+plainly seat allowed own answers = record { seat = seat; allowed = allowed; own = own; answers = answers }
+
+-- seat 3 is not seat 4
+seats_apart : ◌≡◌ {A = Option ℕ} (Some 3) (Some 4) → ⊥
+seats_apart same = grind (arith, same)
 
 -- each of these entries may stand where it stands, and the number may be forked again behind its drop
 the_log_is_one : AreEntries (log ++ entry (Fork 1 Eager 5) 0 (Yes ∷ []) ∷ [])
-the_log_is_one = (plainly refl tt refl, (plainly refl refl refl, (plainly refl refl refl, (plainly refl tt refl, (plainly refl refl refl, (plainly refl refl refl, tt))))))
+the_log_is_one = (
+  plainly refl (lit< tt) tt refl,
+  (
+    plainly refl (refl, lit< tt, refl) tt refl,
+    (
+      plainly refl refl tt refl,
+      (
+        plainly refl (lit< tt) tt refl,
+        (
+          plainly refl refl tt refl,
+          (
+            plainly refl (refl, lit< tt, refl) tt refl,
+            tt,
+          ),
+        ),
+      ),
+    ),
+  ),
+)
 
 -- behind a page and an async fork of number 1 for seat 3
 abbrev forked_once : List CellEntry
 forked_once = take 2 log
 
 -- a number that is kept is not forked again
-a_second_fork : MayStandBehind forked_once (entry (Fork 1 Async 3) 0 []) → ⊥
-a_second_fork may = true≢false may.allowed
+a_second_fork : MayStandBehind forked_once (entry (Fork 1 Async 4) 0 []) → ⊥
+a_second_fork may = true≢false may.allowed.2
 
--- another number may be
-a_fork_of_another_number : MayStandBehind forked_once (entry (Fork 2 Async 4) 0 [])
-a_fork_of_another_number = plainly refl refl refl
+-- another number may be, for a seat of its own: not for that of the snapshot that is kept, nor for the parent's
+a_fork_of_another_number : (MayStandBehind forked_once (entry (Fork 2 Async 4) 0 []))
+    × (MayStandBehind forked_once (entry (Fork 2 Async 3) 0 []) → ⊥) × (MayStandBehind forked_once (entry (Fork 2 Async 0) 0 []) → ⊥)
+a_fork_of_another_number = (
+  plainly refl (refl, lit< tt, refl) ((λ same. absurd (seats_apart same)), tt) refl,
+  λ may. may.own.0 refl,
+  λ may. absurd (omega (arith, may.allowed.1)),
+)
+
+-- a cell without a page of the parent is not forked
+a_fork_of_no_page : MayStandBehind [] (entry (Fork 1 Async 3) 0 []) → ⊥
+a_fork_of_no_page may = true≢false (sym may.allowed.0)
+
+-- a cell has 512 pages, and a store stays within its page
+beyond_the_cell : (MayStandBehind [] (entry (Touch 512) 0 (Yes ∷ Yes ∷ [])) → ⊥)
+    × (MayStandBehind [] (entry (Clear 1 512) 0 []) → ⊥) × (MayStandBehind [] (entry (Protect 512 1 Read) 0 []) → ⊥)
+    × (MayStandBehind (take 1 log) (entry (Store 0 4096 (1 ∷ [])) 0 []) → ⊥)
+beyond_the_cell = (
+  λ may. absurd (omega (arith, may.allowed)),
+  λ may. absurd (omega (arith, may.allowed)),
+  λ may. absurd (omega (arith, may.allowed)),
+  λ may. absurd (omega (arith, may.allowed.2)),
+)
 
 -- what was dropped is not dropped again, nor copied
 a_second_drop : (MayStandBehind log (entry (Drop 1) 3 []) → ⊥) × (MayStandBehind log (entry (Copy 1) 3 []) → ⊥)
@@ -212,7 +257,7 @@ a_second_drop = (λ may. true≢false (sym may.allowed), λ may. true≢false (s
 
 -- a mark goes where the leaf is joined, and not where it was copied
 a_mark_goes : (MayStandBehind forked_once (entry (Unmark 1) 3 [])) × (MayStandBehind (take 3 log) (entry (Unmark 1) 3 []) → ⊥)
-a_mark_goes = (plainly refl refl refl, λ may. true≢false (sym may.allowed))
+a_mark_goes = (plainly refl refl tt refl, λ may. true≢false (sym may.allowed))
 
 abbrev stored : CellEntry
 stored = entry (Store 0 7 (1 ∷ [])) 0 []
@@ -220,10 +265,10 @@ stored = entry (Store 0 7 (1 ∷ [])) 0 []
 -- bytes are stored to a page that is there and the parent's alone: not to one that is absent, not behind a fork, and again behind the touch that copies it
 a_store : (MayStandBehind [] stored → ⊥) × (MayStandBehind (take 1 log) stored) × (MayStandBehind forked_once stored → ⊥) × (MayStandBehind (take 4 log) stored)
 a_store = (
-  λ may. true≢false (sym may.allowed.present),
-  plainly refl (record { present = refl; unnamed = λ version is named. named }) refl,
-  λ may. may.allowed.unnamed 2 refl (inl (refl, refl)),
-  plainly refl (record { present = refl; unnamed = λ version is named. elim named as (λ _. ⊥) [ inl old ↦ absurd (grind (arith, is, old.1)) | inr none ↦ none ] }) refl,
+  λ may. true≢false (sym may.allowed.0.present),
+  plainly refl (record { present = refl; unnamed = λ version is named. named }, lit< tt, lit≤ tt) tt refl,
+  λ may. may.allowed.0.unnamed 2 refl (inl (refl, refl)),
+  plainly refl (record { present = refl; unnamed = λ version is named. elim named as (λ _. ⊥) [ inl old ↦ absurd (grind (arith, is, old.1)) | inr none ↦ none ] }, lit< tt, lit≤ tt) tt refl,
 )
 
 abbrev dealt : PoolAct → ℕ → PoolEntry
@@ -241,7 +286,7 @@ the_load_of_a_pool : (out_and_load 8 ≡ (8, 8)) × (out_and_load 9 ≡ (8, 9)) 
 the_load_of_a_pool = (refl, refl, refl, refl, refl)
 
 -- of nine frames all are out as none is free; a snapshot takes within its allowance and parts, and is reaped then
-the_pool_log_is_one : ArePoolEntries 9 pool_log
+the_pool_log_is_one : ArePoolEntries 9 1 pool_log
 the_pool_log_is_one = (
   (lit< tt, inl refl),
   (
@@ -296,31 +341,32 @@ the_pool_log_is_one = (
 )
 
 -- nothing is given back while nothing is out
-a_give_with_nothing_out : ArePoolEntries 9 (dealt Give 0 ∷ []) → ⊥
+a_give_with_nothing_out : ArePoolEntries 9 1 (dealt Give 0 ∷ []) → ⊥
 a_give_with_nothing_out are = absurd (omega (arith, are.0.0))
 
 -- no frame is lent that was not made
-a_frame_too_many : ArePoolEntries 1 (dealt (Take want.Page Lent) 0 ∷ dealt (Take want.Page Lent) 0 ∷ []) → ⊥
+a_frame_too_many : ArePoolEntries 1 1 (dealt (Take want.Page Lent) 0 ∷ dealt (Take want.Page Lent) 0 ∷ []) → ⊥
 a_frame_too_many are = absurd (omega (arith, are.1.0.0))
 
 -- while a frame is free the pool does not tell that none is, and once none is it asks no policy
-answers_at_the_wrong_time : (ArePoolEntries 1 (dealt (Take want.Page NoneFree) 0 ∷ []) → ⊥) × (ArePoolEntries 0 (dealt (Take want.Page (DeniedBy 0)) 0 ∷ []) → ⊥)
-answers_at_the_wrong_time = (λ are. absurd (omega (arith, are.0.0)), λ are. absurd (omega (arith, are.0.0)))
+answers_at_the_wrong_time : (ArePoolEntries 1 1 (dealt (Take want.Page NoneFree) 0 ∷ []) → ⊥) × (ArePoolEntries 0 1 (dealt (Take want.Page (DeniedBy 0)) 0 ∷ []) → ⊥)
+answers_at_the_wrong_time = (λ are. absurd (omega (arith, are.0.0)), λ are. absurd (omega (arith, are.0.0.0)))
 
--- a policy denies while a frame is free
-a_denial : ArePoolEntries 1 (dealt (Take want.Page (DeniedBy 0)) 0 ∷ [])
-a_denial = ((lit< tt, inl refl), tt)
+-- a policy that was handed in denies while a frame is free, and no other
+a_denial : (ArePoolEntries 1 1 (dealt (Take want.Page (DeniedBy 0)) 0 ∷ []))
+    × (ArePoolEntries 1 0 (dealt (Take want.Page (DeniedBy 0)) 0 ∷ []) → ⊥)
+a_denial = (((((lit< tt, lit< tt), inl refl), tt)), λ are. absurd (omega (arith, are.0.0.1)))
 
 -- a number is in one stretch at a time, and so is a seat
-two_stretches : (ArePoolEntries 9 (dealt (Allow 1 2 1) 0 ∷ dealt (Allow 1 3 1) 0 ∷ []) → ⊥) × (ArePoolEntries 9 (dealt (Allow 1 2 1) 0 ∷ dealt (Allow 2 2 1) 0 ∷ []) → ⊥)
+two_stretches : (ArePoolEntries 9 1 (dealt (Allow 1 2 1) 0 ∷ dealt (Allow 1 3 1) 0 ∷ []) → ⊥) × (ArePoolEntries 9 1 (dealt (Allow 1 2 1) 0 ∷ dealt (Allow 2 2 1) 0 ∷ []) → ⊥)
 two_stretches = (λ are. true≢false are.1.0.3, λ are. true≢false are.1.0.2)
 
 -- behind its reaping a number may be allowed anew, by the same seat
-a_stretch_anew : ArePoolEntries 9 (dealt (Allow 1 2 1) 0 ∷ dealt (Parted 1) 2 ∷ dealt (Reaped 1) 0 ∷ dealt (Allow 1 2 1) 0 ∷ [])
+a_stretch_anew : ArePoolEntries 9 1 (dealt (Allow 1 2 1) 0 ∷ dealt (Parted 1) 2 ∷ dealt (Reaped 1) 0 ∷ dealt (Allow 1 2 1) 0 ∷ [])
 a_stretch_anew = ((refl, lit< tt, refl, refl), (((refl, refl), refl), ((refl, refl, refl), ((refl, lit< tt, refl, refl), tt))))
 
 -- no snapshot takes above its amount, behind its parting or outside a stretch
-a_take_outside : (ArePoolEntries 9 (dealt (Allow 1 2 0) 0 ∷ dealt (Take want.Leaf Lent) 2 ∷ []) → ⊥) × (ArePoolEntries 9 (dealt (Take want.Leaf Lent) 2 ∷ []) → ⊥)
+a_take_outside : (ArePoolEntries 9 1 (dealt (Allow 1 2 0) 0 ∷ dealt (Take want.Leaf Lent) 2 ∷ []) → ⊥) × (ArePoolEntries 9 1 (dealt (Take want.Leaf Lent) 2 ∷ []) → ⊥)
 a_take_outside = (
   λ are. elim are.1.0.1 as (λ _. ⊥) [ inl parents ↦ absurd (omega (arith, parents)) | inr here ↦ absurd (omega (arith, here.0.1)) ],
   λ are. elim are.0.1 as (λ _. ⊥) [ inl parents ↦ absurd (omega (arith, parents)) | inr here ↦ true≢false (sym here.1) ],

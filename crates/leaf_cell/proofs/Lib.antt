@@ -12,6 +12,7 @@ pub mod PutPage
 pub mod TouchActs
 pub mod TouchMade
 pub mod PresentPage
+pub mod OpenedPlaces
 pub mod OwnNames
 pub mod CopyMade
 pub mod ForkMade

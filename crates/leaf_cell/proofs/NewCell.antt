@@ -27,7 +27,7 @@ abbrev no_frames : List (Option FrameView)
 no_frames = replicate 1024 None
 
 -- there is no frame
-no_frame : (place : ℕ) → slice_index_or no_frames place None ≡ None
+pub no_frame : (place : ℕ) → slice_index_or no_frames place None ≡ None
 no_frame place = elim (cases_lt place 1024) [
   | inl small ↦ get_or-replicate 1024 place None None small
   | inr large ↦ get_or_past no_frames place None (rw (length-replicate {A = Option FrameView} 1024 None) large)

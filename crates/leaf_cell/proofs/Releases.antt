@@ -112,6 +112,17 @@ not-released goes state named other frames place is is_too = record {
   gone = λ q own_q unnamed. absurd (unnamed (is_too ∙ sym is ∙ own_q));
 }
 
+pub not-named : {State : Type 0} (goes : State → Deal → State → Type 0) (state : State) (named other : Option ℕ)
+    (frames : List (Option FrameView)) → named ≡ None → IsReleased goes state state named other frames frames
+not-named goes state named other frames none = record {
+  place = 0;
+  number = 0;
+  led = refl;
+  taken = omega arith;
+  frames = inl refl;
+  gone = λ q own_q unnamed. none_is_not_some named q none own_q;
+}
+
 -- the pages of a table, and then the table itself
 pub leaf-released : {State : Type 0} (goes : State → Deal → State → Type 0) (from middle to : State) (own other : Versions) (old new : List (Option FrameView)) → AreHome own
     → Releasing goes from middle own other old new 0 512 → goes middle Returned to

@@ -1,6 +1,7 @@
 pub mod Writable
 pub mod Places
 pub mod CellView
+pub mod FramePlaces
 pub mod Inside
 pub mod Renaming
 pub mod Standing

@@ -10,19 +10,15 @@ ghost use Rattle.leaf_cell.specs.Touching.{IsAlone};
 ghost use Rattle.leaf_cell.specs.Standing.{StandsFor, IsSnapRead};
 ghost use Rattle.leaf_cell.specs.States.{state_of, nth_number, snapshot_part};
 
+use crate::frame_places::FramePlaces;
 use crate::leaf_table::{CELL_PAGES, LeafTable};
 use crate::lookups::{
-    count_frames, count_own, count_table, covers_in, leaf_state, place_in, read_place,
-    snapshot_place,
+    count_own, count_table, covers_in, leaf_state, place_in, read_place, snapshot_place,
 };
 use crate::snapshot::{LeafState, Snapshot};
 use std::alloc::Global;
 use std::marker::Model;
-use vm_base::{Frame, Lost, NoMemory};
-
-/// Places for frames: two for each page, so that a page and the copy that a snapshot keeps of it
-/// have one each.
-pub(crate) const PLACES: usize = 1024;
+use vm_base::{Lost, NoMemory};
 
 /// The leaf tables and pages of 512 pages of addresses, on the parent's side and on that of its
 /// snapshots. It is made once, with all its room, and no other call takes memory.
@@ -30,7 +26,7 @@ pub(crate) const PLACES: usize = 1024;
 pub struct Cell {
     pub(crate) parent: Option<LeafTable>,
     pub(crate) snapshot: Option<Snapshot>,
-    pub(crate) frames: Vec<Option<Frame>>,
+    pub(crate) frames: FramePlaces,
 }
 
 impl Model for Cell {
@@ -42,9 +38,9 @@ impl Model for Cell {
 
     ghost coded = { cell_view_code };
 
-    ghost view = { λ cell. cell_value cell.parent cell.snapshot cell.frames.items };
+    ghost view = { λ cell. cell_value cell.parent cell.snapshot cell.frames };
 
-    ghost invariant = { λ cell. AreInside cell.parent cell.snapshot cell.frames.items };
+    ghost invariant = { λ cell. AreInside cell.parent cell.snapshot cell.frames };
 }
 
 impl Cell {
@@ -53,7 +49,7 @@ impl Cell {
         ensures empty { IfOk result (λ cell. cell ≡ new_view) }
         ensures stands { IfOk result (λ cell. StandsFor cell empty_account) }
     {
-        let frames = no_frames(alloc)?;
+        let frames = FramePlaces::new(alloc)?;
         Ok(Cell {
             parent: None,
             snapshot: None,
@@ -138,7 +134,7 @@ impl Cell {
         ensures share { (account : CellAccount) → StandsFor self.now account → result ≡ account_share account }
     {
         let tables = count_table(&self.parent) + count_own(&self.snapshot);
-        tables + count_frames(&self.frames)
+        tables + self.frames.count()
     }
 
     /// Tells a proof that the frames of the cell are the share of each account that it stands for,
@@ -180,15 +176,4 @@ impl Cell {
             None => None,
         }
     }
-}
-
-/// Room for the frames of a cell, with none there.
-fn no_frames(alloc: Global) -> Result<Vec<Option<Frame>>, NoMemory>
-    ensures { IfOk result (λ frames. frames.items ≡ replicate 1024 None) }
-{
-    let mut frames = Vec::with_capacity(alloc, PLACES)?;
-    for _ in 0..PLACES {
-        frames.push(None)?;
-    }
-    Ok(frames)
 }

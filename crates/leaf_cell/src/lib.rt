@@ -9,6 +9,7 @@
 mod cell;
 mod changes;
 mod clear;
+mod frame_places;
 mod joined;
 mod laws;
 mod leaf_table;

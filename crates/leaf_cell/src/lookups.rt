@@ -7,6 +7,7 @@ ghost use Rattle.leaf_cell.specs.Writable.{writable_at};
 ghost use Rattle.leaf_cell.specs.Inside.{table_places, table_writable, snapshot_places, own_places, leaf_value, kept_values};
 ghost use Rattle.leaf_cell.specs.States.{unless_lost, leaf_state as leaf_state_of};
 
+use crate::frame_places::FramePlaces;
 use crate::leaf_table::{CELL_PAGES, LeafTable};
 use crate::snapshot::{LeafState, Snapshot, SnapshotLeaf};
 use vm_base::{Frame, Lost, Mode};
@@ -96,7 +97,7 @@ pub(crate) fn names_place(snapshot: &Option<Snapshot>, page: u16, place: u32) ->
 }
 
 /// Reads bytes of the page at a place, which are zeros where there is none.
-pub(crate) fn read_place(frames: &[Option<Frame>], place: Option<u32>, at: usize, buf: &mut [u8])
+pub(crate) fn read_place(frames: &FramePlaces, place: Option<u32>, at: usize, buf: &mut [u8])
     requires { at + length buf.old ≤ 4096 }
     ensures { buf.new ≡ part_of (bytes_in frames.now place) at (length buf.old) }
 {
@@ -107,13 +108,10 @@ pub(crate) fn read_place(frames: &[Option<Frame>], place: Option<u32>, at: usize
 }
 
 /// The frame at a place.
-pub(crate) fn frame_at(frames: &[Option<Frame>], place: Option<u32>) -> Option<&Frame>
+pub(crate) fn frame_at(frames: &FramePlaces, place: Option<u32>) -> Option<&Frame>
     ensures { option_map (λ frame. frame.now.bytes) result ≡ bytes_in frames.now place }
 {
-    match frames.get(place? as usize) {
-        Some(slot) => slot.as_ref(),
-        None => None,
-    }
+    frames.get(place?)
 }
 
 /// Reads bytes of a frame.
@@ -169,18 +167,4 @@ pub(crate) fn count_own(snapshot: &Option<Snapshot>) -> u32
         },
         None => 0,
     }
-}
-
-/// How many frames are there.
-pub(crate) fn count_frames(frames: &[Option<Frame>]) -> u32
-    requires { length frames.now ≤ 1024 }
-    ensures { result ≡ count_by is_some frames.now }
-{
-    let mut count = 0;
-    for slot in frames {
-        if slot.is_some() {
-            count += 1;
-        }
-    }
-    count
 }

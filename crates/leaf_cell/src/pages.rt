@@ -6,6 +6,7 @@ ghost use Rattle.leaf_cell.specs.Places.{with_entry};
 ghost use Rattle.leaf_cell.specs.Inside.{IsPlaceOf, table_places, table_writable};
 ghost use Rattle.leaf_cell.specs.Adding.{IsPut, LedByAdding, LedByTwo};
 
+use crate::frame_places::FramePlaces;
 use crate::leaf_table::{CELL_PAGES, LeafTable};
 use vm_base::{Allot, Frame, Refused, Want};
 
@@ -13,18 +14,18 @@ use vm_base::{Allot, Frame, Refused, Want};
 /// has changed.
 pub(crate) fn add_page<A: Allot>(
     parent: &mut Option<LeafTable>,
-    frames: &mut Vec<Option<Frame>>,
+    frames: &mut FramePlaces,
     page: u16,
     allot: &mut A,
 ) -> Result<(), Refused>
     requires page { page < CELL_PAGES }
-    requires size { length frames.old.items ≡ 1024 }
-    requires free { (slice_index_or frames.old.items page None ≡ None) ⊎ (slice_index_or frames.old.items (page + 512) None ≡ None) }
+    requires size { length frames.old ≡ 1024 }
+    requires free { (slice_index_or frames.old page None ≡ None) ⊎ (slice_index_or frames.old (page + 512) None ≡ None) }
     requires untold { A.grants allot.old ≡ None }
     ensures led { LedByAdding A.goes (A.state allot.old) (A.state allot.new) (is_some parent.old) result }
-    ensures put { OnOk result (IsPut zero_page page (table_places parent.old) frames.old.items (table_places parent.new) frames.new.items × (is_some parent.new ≡ true)) }
+    ensures put { OnOk result (IsPut zero_page page (table_places parent.old) frames.old (table_places parent.new) frames.new × (is_some parent.new ≡ true)) }
     ensures writable { OnOk result (table_writable parent.new ≡ slice_set (table_writable parent.old) page true) }
-    ensures kept { OnErr result ((parent.new ≡ parent.old) × (frames.new.items ≡ frames.old.items)) }
+    ensures kept { OnErr result ((parent.new ≡ parent.old) × (frames.new ≡ frames.old)) }
     ensures untold { A.grants allot.new ≡ None }
     ensures taken { OnOk result (A.out (A.state allot.new) ≡ A.out (A.state allot.old) + cond (is_some parent.old) 1 2) }
     ensures returned { OnErr result (A.out (A.state allot.new) ≡ A.out (A.state allot.old)) }
@@ -76,14 +77,14 @@ fn take_both<A: Allot>(allot: &mut A) -> Result<(Frame, Frame), Refused>
 }
 
 /// The one of a page's two places that is free.
-pub(crate) fn free_place(frames: &[Option<Frame>], page: u16) -> u32
+pub(crate) fn free_place(frames: &FramePlaces, page: u16) -> u32
     requires page { page < CELL_PAGES }
     requires size { length frames.now ≡ 1024 }
     requires free { (slice_index_or frames.now page None ≡ None) ⊎ (slice_index_or frames.now (page + 512) None ≡ None) }
     ensures home { IsPlaceOf page result }
     ensures free { slice_index_or frames.now result None ≡ None }
 {
-    if frames[page as usize].is_none() {
+    if frames.is_free(u32::from(page)) {
         u32::from(page)
     } else {
         u32::from(page) + u32::from(CELL_PAGES)
@@ -93,7 +94,7 @@ pub(crate) fn free_place(frames: &[Option<Frame>], page: u16) -> u32
 /// The page lies at this place from now on, and may be written to.
 pub(crate) fn put_page(
     table: &mut LeafTable,
-    frames: &mut [Option<Frame>],
+    frames: &mut FramePlaces,
     page: u16,
     place: u32,
     frame: Frame,
@@ -104,5 +105,5 @@ pub(crate) fn put_page(
     ensures frames { frames.new ≡ slice_set frames.old place (Some frame) }
 {
     table.set(page, place, true);
-    frames[place as usize] = Some(frame);
+    frames.put(place, frame);
 }

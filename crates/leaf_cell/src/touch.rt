@@ -101,13 +101,13 @@ impl Cell {
         ensures held { held_of self.new ≡ held_of self.old }
     {
         if let Some(place) = place_in(&self.parent, page) {
-            store_place(&mut self.frames, place, at as usize, bytes);
+            self.frames.store(place, at as usize, bytes);
         }
     }
 }
 
 /// Stores bytes in the frame at a place.
-fn store_place(frames: &mut Vec<Option<Frame>>, place: u32, at: usize, bytes: &[u8])
+pub(crate) fn store_place(frames: &mut Vec<Option<Frame>>, place: u32, at: usize, bytes: &[u8])
     requires place { place < length frames.old.items }
     requires room { at + length bytes.now ≤ 4096 }
     ensures stored { frames.new.items ≡ slice_set frames.old.items place (stored_in (slice_index_or frames.old.items place None) at bytes.now) }

@@ -11,6 +11,7 @@ ghost use Rattle.leaf_cell.specs.Standing.{MadeAct};
 ghost use Rattle.leaf_cell.specs.Touching.{IsTouched};
 
 use crate::cell::Cell;
+use crate::frame_places::FramePlaces;
 use crate::leaf_table::{CELL_PAGES, LeafTable, copy_bytes};
 use crate::lookups::frame_at;
 use crate::pages::{free_place, put_page};
@@ -69,17 +70,17 @@ impl Cell {
 /// the frame that it names.
 fn put_copy(
     parent: &mut Option<LeafTable>,
-    frames: &mut Vec<Option<Frame>>,
+    frames: &mut FramePlaces,
     page: u16,
     place: u32,
     frame: Frame,
 )
     requires page { page < CELL_PAGES }
-    requires size { length frames.old.items ≡ 1024 }
+    requires size { length frames.old ≡ 1024 }
     requires there { version_at (table_places parent.old) page ≡ Some place }
-    requires free { (slice_index_or frames.old.items page None ≡ None) ⊎ (slice_index_or frames.old.items (page + 512) None ≡ None) }
+    requires free { (slice_index_or frames.old page None ≡ None) ⊎ (slice_index_or frames.old (page + 512) None ≡ None) }
     requires zeros { frame.bytes ≡ zero_page }
-    ensures put { IsPut (page_or_zeros (frame_bytes frames.old.items place)) page (table_places parent.old) frames.old.items (table_places parent.new) frames.new.items }
+    ensures put { IsPut (page_or_zeros (frame_bytes frames.old place)) page (table_places parent.old) frames.old (table_places parent.new) frames.new }
     ensures writable { table_writable parent.new ≡ slice_set (table_writable parent.old) page true }
     ensures table { is_some parent.new ≡ true }
 {
@@ -91,7 +92,7 @@ fn put_copy(
 }
 
 /// The frame, with the bytes of the one at a place.
-fn copied_place(frames: &[Option<Frame>], place: u32, frame: Frame) -> Frame
+fn copied_place(frames: &FramePlaces, place: u32, frame: Frame) -> Frame
     requires zeros { frame.bytes ≡ zero_page }
     ensures { result.bytes ≡ page_or_zeros (frame_bytes frames.now place) }
 {
@@ -107,16 +108,16 @@ fn copied_place(frames: &[Option<Frame>], place: u32, frame: Frame) -> Frame
 pub(crate) fn lose_leaf<A: Allot>(
     snapshot: &mut Option<Snapshot>,
     parent: &Option<LeafTable>,
-    frames: &mut Vec<Option<Frame>>,
+    frames: &mut FramePlaces,
     at: u64,
     allot: &mut A,
 )
-    requires inside { AreInside parent.now snapshot.old frames.old.items }
+    requires inside { AreInside parent.now snapshot.old frames.old }
     requires there { IsSome snapshot.old }
-    requires out { count_by is_some frames.old.items + count_by (λ kept. is_own kept.leaf) (kept_values no_versions snapshot.old) ≤ A.out (A.state allot.old) }
+    requires out { count_by is_some frames.old + count_by (λ kept. is_own kept.leaf) (kept_values no_versions snapshot.old) ≤ A.out (A.state allot.old) }
     requires untold { A.grants allot.old ≡ None }
-    ensures lost { IsLoss A.goes (A.state allot.old) (A.state allot.new) at (table_places parent.now) snapshot.old frames.old.items snapshot.new frames.new.items }
-    ensures out { A.out (A.state allot.new) + count_by is_some frames.old.items + count_by (λ kept. is_own kept.leaf) (kept_values no_versions snapshot.old) ≡ A.out (A.state allot.old) + count_by is_some frames.new.items }
+    ensures lost { IsLoss A.goes (A.state allot.old) (A.state allot.new) at (table_places parent.now) snapshot.old frames.old snapshot.new frames.new }
+    ensures out { A.out (A.state allot.new) + count_by is_some frames.old + count_by (λ kept. is_own kept.leaf) (kept_values no_versions snapshot.old) ≡ A.out (A.state allot.old) + count_by is_some frames.new }
     ensures untold { A.grants allot.new ≡ None }
     ensures unrefused { A.refused (A.state allot.new) ≡ A.refused (A.state allot.old) }
 {

@@ -7,7 +7,7 @@ use Rattle.std.proofs.lemmas.Bool.Decides.{nat_tests}
 use Rattle.vm_base.specs.declared.permission.Perm.{Perm}
 use Rattle.vm_base.specs.FlatMemory.{Area, holds, area_of}
 use Rattle.vm_base.specs.FlatStep.{lowest, taken, area_between, area_without}
-use Rattle.memory_uses.specs.Steps.{area_at}
+use Rattle.memory_uses.specs.Steps.{area_from_page}
 
 -- none of n pages lies in an area
 abbrev pub AreFree : ℕ → ℕ → List Area → Type 0
@@ -83,5 +83,5 @@ without_met first n a beyond before =
 pub between_none : (first end : ℕ) (perm : Perm) → end ≤ first → area_between first end perm ≡ []
 between_none first end perm le = cond-false (nat_lt first end) _ _ (lt_false first end le)
 
-pub between_some : (first end : ℕ) (perm : Perm) → first < end → area_between first end perm ≡ area_at first (end - first) perm ∷ []
+pub between_some : (first end : ℕ) (perm : Perm) → first < end → area_between first end perm ≡ area_from_page first (end - first) perm ∷ []
 between_some first end perm less = cond-true (nat_lt first end) _ _ (lt_true first end less)

@@ -7,3 +7,4 @@ pub mod Answered
 pub mod Living
 pub mod Pieces
 pub mod Growing
+pub mod Writing

@@ -13,7 +13,7 @@ use Rattle.vm_base.specs.declared.permission.Perm.TheVariants.{Read, ReadWrite}
 use Rattle.vm_base.specs.FlatMemory.{Area, FlatMemory, AreInOrder, IsFlat}
 use Rattle.vm_base.specs.FlatStep.{joined, joined_front, with_area, is_same_perm, area_between, area_without, areas_without, is_beyond, unmap_of, at_most_128, taken, or_refused, Taken}
 use Rattle.vm_base.proofs.NumberedMaps.{same_numbered}
-use Rattle.memory_uses.specs.Steps.{area_at, IsMappedInto}
+use Rattle.memory_uses.specs.Steps.{area_from_page, IsMappedInto}
 use Rattle.memory_uses.proofs.FreePages.{AreFree, AreFree-taken, free_others, free_apart, without_apart, without_met, between_none, between_some}
 
 -- an area may be made one with the next
@@ -43,7 +43,8 @@ front_apart a b areas two = cond-false (joins a b) _ _ two
 
 same_area : (x y : Area) → x.first ≡ y.first → x.pages ≡ y.pages → x.perm ≡ y.perm → x ≡ y
 same_area x y first pages perm =
-    ap (λ f. area_at f x.pages x.perm) first ∙ ap (λ n. area_at y.first n x.perm) pages ∙ ap (λ p. area_at y.first y.pages p) perm
+    ap (λ f. area_from_page f x.pages x.perm) first ∙ ap (λ n. area_from_page y.first n x.perm) pages
+    ∙ ap (λ p. area_from_page y.first y.pages p) perm
 
 some_pages : (a : Area) (areas : List Area) → AreInOrder (a ∷ areas) → 0 < a.pages
 some_pages a [] order = order
@@ -70,21 +71,21 @@ without-free first n (a ∷ areas) some order free =
     ∙ ap (λ l. a ∷ l) (without-free first n areas some (order_rest a areas order) (free_others first n a areas free))
 
 -- nothing of the area itself is left
-without_self : (first n : ℕ) (perm : Perm) → 0 < n → area_without first n (area_at first n perm) ≡ []
+without_self : (first n : ℕ) (perm : Perm) → 0 < n → area_without first n (area_from_page first n perm) ≡ []
 without_self first n perm some =
-    without_met first n (area_at first n perm) (omega arith) (omega arith)
+    without_met first n (area_from_page first n perm) (omega arith) (omega arith)
     ∙ ap (λ l. l ++ area_between (first + n) (first + n) perm) (between_none first first perm (omega arith)) ∙ between_none (first + n) (first + n) perm (omega arith)
 
 -- of the area and the next as one, the next is left
-without_next : (first n : ℕ) (perm : Perm) (next : Area) → 0 < n → 0 < next.pages → joins (area_at first n perm) next ≡ true
-    → area_without first n (both (area_at first n perm) next) ≡ next ∷ []
+without_next : (first n : ℕ) (perm : Perm) (next : Area) → 0 < n → 0 < next.pages → joins (area_from_page first n perm) next ≡ true
+    → area_without first n (both (area_from_page first n perm) next) ≡ next ∷ []
 without_next first n perm next some pages one =
-    let meets : first + n ≡ next.first = touches (area_at first n perm) next one in
+    let meets : first + n ≡ next.first = touches (area_from_page first n perm) next one in
     let size : first + (n + next.pages) - (first + n) ≡ next.pages = omega arith in
-    without_met first n (both (area_at first n perm) next) (omega arith) (omega arith)
+    without_met first n (both (area_from_page first n perm) next) (omega arith) (omega arith)
     ∙ ap (λ l. l ++ area_between (first + n) (first + (n + next.pages)) perm) (between_none first first perm (omega arith))
     ∙ between_some (first + n) (first + (n + next.pages)) perm (omega arith)
-    ∙ ap (λ a. a ∷ []) (same_area (area_at (first + n) (first + (n + next.pages) - (first + n)) perm) next meets size (alike (area_at first n perm) next one))
+    ∙ ap (λ a. a ∷ []) (same_area (area_from_page (first + n) (first + (n + next.pages) - (first + n)) perm) next meets size (alike (area_from_page first n perm) next one))
 
 -- of an area below and the one behind it as one, the area is left, and what was left of the other
 without_both : (first n : ℕ) (a next : Area) (rest : List Area) → 0 < n → 0 < a.pages → a.first + a.pages ≤ first → joins a next ≡ true
@@ -106,7 +107,7 @@ without_both first n a next rest some pages below one order =
             let size : first - a.first ≡ a.pages = omega arith in
             without_met first n (both a next) (omega arith) (omega arith)
             ∙ ap (λ l. l ++ area_between (first + n) (a.first + (a.pages + next.pages)) a.perm) (between_some a.first first a.perm (omega arith))
-            ∙ ap (λ m. area_at a.first m a.perm ∷ area_between (first + n) (a.first + (a.pages + next.pages)) a.perm) size
+            ∙ ap (λ m. area_from_page a.first m a.perm ∷ area_between (first + n) (a.first + (a.pages + next.pages)) a.perm) size
             ∙ ap (λ e. a ∷ area_between (first + n) e a.perm) ends
             ∙ ap (λ p. a ∷ area_between (first + n) (next.first + next.pages) p) (alike a next one)
             ∙ ap (λ l. a ∷ l) (sym (without_met first n next beyond (omega arith)
@@ -130,24 +131,24 @@ front_again first n a (next ∷ made) areas some below order again = elim (cases
 
 -- the areas without the area that was put among them
 pub areas_again : (first n : ℕ) (perm : Perm) (areas : List Area) → 0 < n → AreInOrder areas → AreFree first n areas
-    → areas_without first n (joined (with_area (area_at first n perm) areas)) ≡ areas
+    → areas_without first n (joined (with_area (area_from_page first n perm) areas)) ≡ areas
 areas_again first n perm [] some order free = ap (λ l. l ++ []) (without_self first n perm some)
 areas_again first n perm (a ∷ areas) some order free = elim (cases_Bool (nat_le first a.first)) [
-  | inl here ↦ ap (λ l. areas_without first n (joined l)) (cond-true (nat_le first a.first) (area_at first n perm ∷ a ∷ areas) (a ∷ with_area (area_at first n perm) areas) here)
-      ∙ ap (λ l. areas_without first n (joined_front (area_at first n perm) l)) (joined-in_order (a ∷ areas) order)
-      ∙ elim (cases_Bool (joins (area_at first n perm) a)) [
-        | inl one ↦ ap (areas_without first n) (front_joins (area_at first n perm) a areas one)
+  | inl here ↦ ap (λ l. areas_without first n (joined l)) (cond-true (nat_le first a.first) (area_from_page first n perm ∷ a ∷ areas) (a ∷ with_area (area_from_page first n perm) areas) here)
+      ∙ ap (λ l. areas_without first n (joined_front (area_from_page first n perm) l)) (joined-in_order (a ∷ areas) order)
+      ∙ elim (cases_Bool (joins (area_from_page first n perm) a)) [
+        | inl one ↦ ap (areas_without first n) (front_joins (area_from_page first n perm) a areas one)
             ∙ ap (λ l. l ++ areas_without first n areas) (without_next first n perm a some (some_pages a areas order) one)
             ∙ ap (λ l. a ∷ l) (without-free first n areas some (order_rest a areas order) (free_others first n a areas free))
-        | inr two ↦ ap (areas_without first n) (front_apart (area_at first n perm) a areas two)
+        | inr two ↦ ap (areas_without first n) (front_apart (area_from_page first n perm) a areas two)
             ∙ ap (λ l. l ++ areas_without first n (a ∷ areas)) (without_self first n perm some)
             ∙ without-free first n (a ∷ areas) some order free
       ]
   | inr later ↦
       let early : a.first < first = grind (arith, nat_tests) in
       let below : a.first + a.pages ≤ first = elim (free_apart first n a areas some (some_pages a areas order) free) [ inl low ↦ low | inr high ↦ absurd (omega arith) ] in
-      ap (λ l. areas_without first n (joined l)) (cond-false (nat_le first a.first) (area_at first n perm ∷ a ∷ areas) (a ∷ with_area (area_at first n perm) areas) later)
-      ∙ front_again first n a (joined (with_area (area_at first n perm) areas)) areas some below order
+      ap (λ l. areas_without first n (joined l)) (cond-false (nat_le first a.first) (area_from_page first n perm ∷ a ∷ areas) (a ∷ with_area (area_from_page first n perm) areas) later)
+      ∙ front_again first n a (joined (with_area (area_from_page first n perm) areas)) areas some below order
       (areas_again first n perm areas some (order_rest a areas order) (free_others first n a areas free))
 ]
 
@@ -210,12 +211,12 @@ pub mapped_into : (old : MemoryState) (first n : ℕ) (perm : Perm) (now : FlatM
 mapped_into old first n perm now flat answer = elim (cases_taken (taken old.mem.areas first n)) [
   | inr some ↦
       absurd (one_answer (map_answer old first n perm) now (Overlap some.0) answer
-      (ap (λ t. faulted (or_refused Taken t (at_most_128 (record old.mem { areas = joined (with_area (area_at first n perm) old.mem.areas) })))) some.1))
+      (ap (λ t. faulted (or_refused Taken t (at_most_128 (record old.mem { areas = joined (with_area (area_from_page first n perm) old.mem.areas) })))) some.1))
   | inl none ↦
-      let plain = ap (λ t. faulted (or_refused Taken t (at_most_128 (record old.mem { areas = joined (with_area (area_at first n perm) old.mem.areas) })))) none in
-      elim (cases_Bool (nat_le (length (joined (with_area (area_at first n perm) old.mem.areas))) 128)) [
+      let plain = ap (λ t. faulted (or_refused Taken t (at_most_128 (record old.mem { areas = joined (with_area (area_from_page first n perm) old.mem.areas) })))) none in
+      elim (cases_Bool (nat_le (length (joined (with_area (area_from_page first n perm) old.mem.areas))) 128)) [
         | inl few ↦
-            let is : record old.mem { areas = joined (with_area (area_at first n perm) old.mem.areas) } ≡ now =
+            let is : record old.mem { areas = joined (with_area (area_from_page first n perm) old.mem.areas) } ≡ now =
             same_memory (map_answer old first n perm) _ now (plain ∙ ap faulted (cond-true _ _ _ few)) answer in
             record {
               flat = flat;

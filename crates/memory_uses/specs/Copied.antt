@@ -28,6 +28,14 @@ pub record IsAllCopied (old new : SnapshotState) (copies : ℕ) : Type 0 where
   pub due : copies + new.todo ≤ old.todo
   pub cells : copies ≤ length (distinct (cells_of old.mem))
 
+-- a call on the process, which may have lost cells of its child, and behind it the child was copied
+-- through, or copying ended at a refused frame or a lost cell
+pub record CopiesAllBehind (old new : SnapshotState) (answer : Result ℕ CopyFault) : Type 0 where
+  pub behind : SnapshotState
+  pub goes_on : GoesOn old behind
+  pub copied : IfOk answer (λ copies. IsAllCopied behind new copies)
+  pub fault : IfErr answer (λ fault. FailsNest behind new fault)
+
 -- a cell that is told as lost was lost since the fork
 abbrev pub IsLostSince : ℕ → ℕ → CopyFault → Type 0
 IsLostSince born refused (Refused at) = Unit {0}

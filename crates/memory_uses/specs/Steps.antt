@@ -10,15 +10,15 @@ use Rattle.vm_base.specs.MemoryState.{MemoryState, IsListed, KeepsReady, own_of}
 use Rattle.vm_base.specs.MemoryCalls.{TouchFails, IsReady, touched, fault_of, faulted}
 
 -- an area
-abbrev pub area_at : ℕ → ℕ → Perm → Area
-area_at first n perm = record { first = first; pages = n; perm = perm }
+abbrev pub area_from_page : ℕ → ℕ → Perm → Area
+area_from_page first n perm = record { first = first; pages = n; perm = perm }
 
 -- n free pages were mapped, and since then only pages among them have changed
 pub record IsMappedInto (before now : FlatMemory) (first n : ℕ) : Type 0 where
   pub flat : IsFlat before
   pub perm : Perm
   pub free : taken before.areas first n ≡ None
-  pub areas : now.areas ≡ joined (with_area (area_at first n perm) before.areas)
+  pub areas : now.areas ≡ joined (with_area (area_from_page first n perm) before.areas)
   pub beyond : (page : ℕ) → IsTrue (is_beyond first n page) → get now.present page ≡ get before.present page
 
 -- ranges, each with its address and the bytes that are meant for it

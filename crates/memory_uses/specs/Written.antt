@@ -24,8 +24,21 @@ pub record Writes (old new : MemoryState) (address : ℕ) (bytes : List ℕ) : T
 abbrev pub WritesOrFails : MemoryState → MemoryState → ℕ → List ℕ → Type 0
 WritesOrFails old new address bytes = Writes old new address bytes ⊎ ((fault : Fault) × TouchFails old new address (length bytes) fault)
 
+-- the bytes were written at two addresses, one after the other
+pub record WritesTwice (old new : MemoryState) (address second : ℕ) (bytes : List ℕ) : Type 0 where
+  pub between : MemoryState
+  pub first : Writes old between address bytes
+  pub again : Writes between new second bytes
+
+-- the first write was refused, or it was made and the second one refused
+abbrev pub FailsTwice : MemoryState → MemoryState → ℕ → ℕ → List ℕ → Fault → Type 0
+FailsTwice old new address second bytes fault =
+    TouchFails old new address (length bytes) fault
+    ⊎ ((between : MemoryState)
+    × (Writes old between address bytes × TouchFails between new second (length bytes) fault))
+
 -- behind a fork, which refused no request, the bytes were written, or the touch of their range was refused
-pub record WritesAfterFork (old new : MemoryState) (address : ℕ) (bytes : List ℕ) : Type 0 where
+pub record ForksAndWrites (old new : MemoryState) (address : ℕ) (bytes : List ℕ) : Type 0 where
   pub forked : MemoryState
   pub fork : LeavesMemory old forked
   pub kept : IsKept old forked []

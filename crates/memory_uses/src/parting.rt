@@ -3,7 +3,8 @@ ghost use Rattle.std.specs.Prelude.{◌≡◌, ◌+◌, ◌≤◌, ◌^◌, leng
 ghost use Rattle.vm_base.specs.FlatMemory.{bytes_at};
 ghost use Rattle.vm_base.specs.ProcessState.{ForkFails};
 ghost use Rattle.vm_base.specs.SnapshotState.{snapshot_answer};
-ghost use Rattle.memory_uses.specs.Written.{WritesAfterFork};
+ghost use Rattle.memory_uses.specs.Written.{WritesOrFails, ForksAndWrites};
+ghost use Rattle.memory_uses.specs.Steps.{IsWithin};
 
 use crate::memory::write_at;
 use crate::process::fork_and_write;
@@ -18,9 +19,9 @@ pub fn write_and_read_own<P: Parting>(
     bytes: &[u8],
     buf: &mut [u8],
 ) -> Result<(), SnapFault>
-    requires within { addr + length bytes.now ≤ 2 ^ 48 }
-    requires few { length bytes.now ≤ 4194304 }
+    requires within { IsWithin addr bytes.now }
     requires within_child { addr + length buf.old ≤ 2 ^ 48 }
+    ensures written { WritesOrFails (P.state process.old) (P.state process.new) addr bytes.now }
     ensures bytes { OnOk result (bytes_at (P.kept (P.beside process.old) child.old).present addr (length buf.old) ≡ buf.new) }
     ensures fault { IfErr result
         (λ fault. snapshot_answer (P.Own.snapshot child.new) addr (length buf.old) ≡ Err fault) }
@@ -47,7 +48,7 @@ pub fn fork_write_and_read<P: Parting>(
     ensures bytes { IfOk result (λ pair. OnOk pair.1 (bytes_at (P.state process.old).mem.present addr (length buf.old) ≡ buf.new)) }
     ensures unread { IfOk result (λ pair. IfErr pair.1
         (λ fault. snapshot_answer (P.Own.snapshot pair.0) addr (length buf.old) ≡ Err fault)) }
-    ensures written { OnOk result (WritesAfterFork (P.state process.old) (P.state process.new) addr bytes.now) }
+    ensures written { OnOk result (ForksAndWrites (P.state process.old) (P.state process.new) addr bytes.now) }
 
     // No child is there, and nothing was written.
     ensures fault { IfErr result

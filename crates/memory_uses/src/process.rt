@@ -3,7 +3,7 @@ ghost use Rattle.std.specs.Prelude.{◌≡◌, ◌+◌, ◌≤◌, ◌^◌, [], 
 ghost use Rattle.vm_base.specs.Places.{cells_of_range};
 ghost use Rattle.vm_base.specs.MemoryState.{IsKept, IsListed};
 ghost use Rattle.vm_base.specs.ProcessState.{MayFork, ForkFails, LeavesMemory, LeavesAtReap, Reaps, HadRefusal, after_fork};
-ghost use Rattle.memory_uses.specs.Written.{WritesAfterFork, RefusesFork};
+ghost use Rattle.memory_uses.specs.Written.{ForksAndWrites, RefusesFork};
 ghost use Rattle.memory_uses.specs.Copied.{IsTooMany};
 
 use crate::memory::write_at;
@@ -25,7 +25,7 @@ pub fn fork_and_write<P: Process>(
         IfSome (P.born (P.beside process.new) child) (λ count. count ≡ (P.state process.old).refused)) }
     ensures forked { OnOk result (MayFork (P.children (P.beside process.old))
         × (P.children (P.beside process.new) ≡ after_fork (P.children (P.beside process.old)))) }
-    ensures written { OnOk result (WritesAfterFork (P.state process.old) (P.state process.new) addr bytes.now) }
+    ensures written { OnOk result (ForksAndWrites (P.state process.old) (P.state process.new) addr bytes.now) }
 
     // No child is there, and nothing was written.
     ensures fault { IfErr result

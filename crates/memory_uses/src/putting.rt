@@ -1,5 +1,5 @@
 //! A caller that makes all its touches before its first store, as the put of a new key does.
-ghost use Rattle.std.specs.Prelude.{List, ◌≡◌, ℕ, ◌+◌, ◌≤◌, ◌^◌, ◌⊎◌, [], ◌∷◌, length, OnOk, IfErr, Err};
+ghost use Rattle.std.specs.Prelude.{List, ◌≡◌, ℕ, ◌+◌, ◌≤◌, ◌^◌, ◌⊎◌, [], ◌∷◌, length, OnOk, IfErr, IsOk, Err};
 ghost use Rattle.vm_base.specs.Places.{cells_of_range};
 ghost use Rattle.vm_base.specs.MemoryState.{IsKept};
 ghost use Rattle.vm_base.specs.MemoryCalls.{read_answer};
@@ -22,7 +22,8 @@ pub fn put_three<M: Memory>(
     requires block { IsWithin block pair.now }
     requires link { IsWithin link word.now }
     requires header { IsWithin header fields.now × (header + 24 ≤ 2 ^ 48) }
-    ensures stored { OnOk result (StoresAll (M.state memory.old) (M.state memory.new) ((block, pair.now) ∷ (link, word.now) ∷ (header, fields.now) ∷ [])) }
+    ensures stored { OnOk result (IsOk (read_answer (M.state memory.old).mem header 24)
+        × StoresAll (M.state memory.old) (M.state memory.new) ((block, pair.now) ∷ (link, word.now) ∷ (header, fields.now) ∷ [])) }
     ensures failed { IfErr result (λ fault. ((read_answer (M.state memory.old).mem header 24 ≡ Err fault) × (M.state memory.new ≡ M.state memory.old))
         ⊎ TouchesFront (M.state memory.old) (M.state memory.new) ((block, pair.now) ∷ (link, word.now) ∷ (header, fields.now) ∷ []) fault) }
     ensures keeps { (cells : List ℕ) → AreListed (cells_of_range block (length pair.now)) cells → AreListed (cells_of_range link (length word.now)) cells

@@ -1,58 +1,60 @@
-pub mod TouchRuns
+mod TouchRuns
 pub mod LeafMap
-pub mod SlotLemmas
-pub mod Acting
-pub mod TouchShapes
-pub mod PageMaps
-pub mod Missing
-pub mod KnownTouch
-pub mod OwnedSlots
-pub mod FlatParts
-pub mod ParentPages
-pub mod PieceByPiece
-pub mod ParentStore
-pub mod Room
-pub mod Again
-pub mod Rows
-pub mod NewTouch
-pub mod SlotChoice
-pub mod Opening
-pub mod RangeLosses
-pub mod LossAt
+mod SlotLemmas
+mod Acting
+mod TouchShapes
+mod PageMaps
+mod Missing
+mod KnownTouch
+mod OwnedSlots
+mod FlatParts
+mod ParentPages
+mod PieceByPiece
+mod ParentStore
+mod Room
+mod Again
+mod Rows
+mod NewTouch
+mod SlotChoice
+mod Opening
+mod RangeLosses
+mod LossAt
 pub mod SnapshotPages
-pub mod SnapshotPieces
-pub mod LowestLoss
-pub mod Readiness
-pub mod Presence
-pub mod TakenBack
-pub mod WithoutPages
-pub mod RangeRoom
-pub mod RangeSteps
-pub mod HeldFrames
-pub mod RangeEnds
+mod SnapshotPieces
+mod LowestLoss
+mod Readiness
+mod Presence
+mod TakenBack
+mod WithoutPages
+mod RangeRoom
+mod RangeSteps
+mod HeldFrames
+mod RangeEnds
 pub mod GoneCell
-pub mod FreedSlots
-pub mod LessShare
-pub mod ClearedCell
-pub mod ClearedTables
-pub mod ClearedSlot
+mod FreedSlots
+mod LessShare
+mod ClearedCell
+mod ClearedTables
+mod ClearedSlot
 pub mod FirstCell
-pub mod ChangedCells
-pub mod OutOfCell
-pub mod PresentPages
-pub mod UnmapSteps
+mod ChangedCells
+mod OutOfCell
+mod PresentPages
+mod UnmapSteps
 pub mod ProtectedPages
-pub mod Permissions
-pub mod WrittenPages
-pub mod KeptWriting
-pub mod Vacancies
-pub mod SnapshotShares
-pub mod ForkSlots
-pub mod Changing
-pub mod ForkWants
-pub mod StandingFacts
+mod Permissions
+mod WrittenPages
+mod KeptWriting
+mod Vacancies
+mod SnapshotShares
+mod ForkSlots
+mod Changing
+mod ForkWants
+mod StandingFacts
 pub mod ForkedLeaves
-pub mod ForkedTables
+mod ForkedTables
 pub mod DroppedLeaves
-pub mod DroppedTables
+mod DroppedTables
 pub mod Known
+pub mod view
+pub mod enough

@@ -1,7 +1,9 @@
 pub mod Courses
 pub mod Sides
+pub mod SlotViews
 pub mod Standing
 pub mod Held
+pub mod TablesView
 pub mod Accesses
 pub mod Losses
 pub mod Permissions

@@ -20,5 +20,6 @@ mod touch;
 mod vacancy;
 
 pub use loss::LostCell;
+pub use pieces::PAGE_BYTES;
 pub use range::FrameRefused;
 pub use tables::PageTables;

@@ -3,7 +3,7 @@ ghost use Rattle.std.specs.Prelude.{◌≡◌, ◌+◌, ◌%◌, ◌^◌, ◌<�
 ghost use Rattle.vm_base.specs.Places.{page_of, offset_of, cell_of};
 
 /// Bytes in a page.
-const PAGE_BYTES: u64 = 4096;
+pub const PAGE_BYTES: u64 = 4096;
 
 /// Pages in a cell.
 pub(crate) const CELL_PAGES: u64 = 512;

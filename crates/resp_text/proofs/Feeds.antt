@@ -2,8 +2,8 @@
 use Rattle.std.proofs.Common.{◌≡◌, ℕ, ◌+◌, ◌≤◌, List, [], ◌∷◌, ◌++◌, length, take, drop, get_or, sym, ap, subst, ◌∙◌, arith, length-append, Some, None}
 use Rattle.std.proofs.lemmas.List.{append_assoc, take_all, length-take-le, take-append-drop, take-take, take_more, drop-append-le}
 use Rattle.std.proofs.Math.Seq.{take-append-add}
-use Rattle.resp_text.specs.Grammar.{IsStream, IsBegun, IsWhole, IsUnfinished}
-use Rattle.resp_text.specs.Reading.{Reading, StandsFor, BreaksAt}
+use Rattle.resp_text.specs.Grammar.{IsStream, IsBegun, IsWholeItem, IsUnfinished}
+use Rattle.resp_text.specs.Reading.{Reading, StandsForBytes, BreaksAt}
 use Rattle.resp_text.specs.Breaks.{IsPartBehind}
 use Rattle.resp_text.specs.Pieces.{EndsFor, Reads}
 use Rattle.resp_text.specs.declared.requests.Reached.{Reached}
@@ -28,14 +28,14 @@ split whole all n from to len order within =
 
 -- the fed bytes, in two parts
 regrouped : (old : Reading) (taken piece : List ℕ) (given : List (List (List ℕ)))
-    (s : StandsFor old taken given) → taken ++ piece ≡ s.whole ++ (old.rest ++ piece)
+    (s : StandsForBytes old taken given) → taken ++ piece ≡ s.whole ++ (old.rest ++ piece)
 regrouped old taken piece given s = ap (λ (t : List ℕ). t ++ piece) s.is
     ∙ append_assoc s.whole old.rest piece
 
 -- the reader stands for the bytes that it read
 pub stands_for : (old new : Reading) (taken piece : List ℕ) (given : List (List (List ℕ)))
-    (r : Reached) → Follows old new piece r → StandsFor old taken given →
-    StandsFor new (take (old.before + r.end) (taken ++ piece)) given
+    (r : Reached) → Follows old new piece r → StandsForBytes old taken given →
+    StandsForBytes new (take (old.before + r.end) (taken ++ piece)) given
 stands_for old new taken piece given r f s =
     let all : List ℕ = old.rest ++ piece in
     record {
@@ -63,8 +63,8 @@ stands_for old new taken piece given r f s =
 
 -- all that was fed was read
 pub stands_for_all : (old new : Reading) (taken piece : List ℕ) (given : List (List (List ℕ)))
-    (r : Reached) → r.kind ≡ None → Follows old new piece r → StandsFor old taken given →
-    StandsFor new (taken ++ piece) given
+    (r : Reached) → r.kind ≡ None → Follows old new piece r → StandsForBytes old taken given →
+    StandsForBytes new (taken ++ piece) given
 stands_for_all old new taken piece given r none f s =
     let ends : r.end ≡ length (old.rest ++ piece) = subst (EndsFor
     (old.rest ++ piece) r.whole r.end) none f.reads.ends in
@@ -76,13 +76,13 @@ stands_for_all old new taken piece given r none f s =
       length-append s.whole (old.rest ++ piece),
       s.before,
     ) in
-    subst (λ (t : List ℕ). StandsFor new t given) (take_all (old.before + r.end)
+    subst (λ (t : List ℕ). StandsForBytes new t given) (take_all (old.before + r.end)
     (taken ++ piece) all) (stands_for old new taken piece given r f s)
 
 -- the byte behind those that were read breaks the stream
 pub breaks_at : (old new : Reading) (taken piece : List ℕ) (given : List (List (List ℕ)))
     (r : Reached) (kind : ProtocolKind) → r.kind ≡ Some kind → Follows old new piece r →
-    StandsFor old taken given → BreaksAt (taken ++ piece) (old.before + r.end) kind
+    StandsForBytes old taken given → BreaksAt (taken ++ piece) (old.before + r.end) kind
 breaks_at old new taken piece given r kind some f s =
     let all : List ℕ = old.rest ++ piece in
     let ends : EndsFor all r.whole r.end (Some kind) = subst
@@ -118,7 +118,7 @@ breaks_at old new taken piece given r kind some f s =
           (given ++ new.waiting) after.stream after.unfinished);
       broken = λ h. not_begun stream.0 (s.whole ++ take r.whole all) new.rest byte stream.1
           after.unfinished
-          (λ tail whole. ends.1 tail (subst IsWhole (sym (append_assoc new.rest
+          (λ tail whole. ends.1 tail (subst IsWholeItem (sym (append_assoc new.rest
           (byte ∷ []) tail) ∙ ap (λ (t : List ℕ). t ++ tail) (sym longer)) whole))
           (subst IsBegun text h);
       part = record {

@@ -1,13 +1,13 @@
 -- Laws of the request grammar: no item begins another, so each text has one reading.
 use Rattle.std.proofs.Common.{◌≡◌, ℕ, ◌+◌, ◌-◌, ◌*◌, ◌<◌, ◌≤◌, ◌≢◌, ◌⊎◌, inl, inr, List, [], ◌∷◌, ◌++◌, length, take, drop, refl, sym, ap, subst, ◌∙◌, arith, length-append, Option, Some, None, option_to_list}
 use Rattle.std.proofs.lemmas.List.{append_assoc, append-nil, append_cancel_left, append_cancel_right, take_at, drop_at}
-use Rattle.resp_text.specs.Grammar.{line_end, GoesOn, IsNumber, AreWords, IsRequest, IsSkipped, IsItem, AreItems, requests_of, IsStream, IsBegun, IsWhole, IsUnfinished}
+use Rattle.resp_text.specs.Grammar.{line_end, DigitsGoOn, IsNumber, AreWords, IsRequest, IsSkipped, IsItem, AreItems, item_requests, IsStream, IsBegun, IsWholeItem, IsUnfinished}
 use Rattle.resp_text.specs.Lines.{HasLine}
 use Rattle.resp_text.proofs.Residuals.{head_is, tail_is}
-use Rattle.resp_text.proofs.Texts.{GoesOn-number, word_first, line_behind, request_line}
+use Rattle.resp_text.proofs.Texts.{DigitsGoOn-number, word_first, line_behind, request_line}
 
 -- digits end at the first byte that is none
-one_end : (h k m n : ℕ) (ds es x y : List ℕ) → GoesOn h ds m → GoesOn k es n →
+one_end : (h k m n : ℕ) (ds es x y : List ℕ) → DigitsGoOn h ds m → DigitsGoOn k es n →
     ds ++ 13 ∷ x ≡ es ++ 13 ∷ y → (ds ≡ es) × (x ≡ y)
 one_end h k m n [] [] x y a b e = (refl, tail_is 13 13 x y e)
 one_end h k m n [] (d ∷ es) x y a b e = absurd (omega (arith, b.0, head_is 13 d _ _ e))
@@ -20,9 +20,9 @@ one_end h k m n (d ∷ ds) (c ∷ es) x y a b e =
     (cc, rest.1)
 
 -- the same digits make one number
-GoesOn-one : (h m n : ℕ) (ds : List ℕ) → GoesOn h ds m → GoesOn h ds n → m ≡ n
-GoesOn-one h m n [] a b = a ∙ sym b
-GoesOn-one h m n (d ∷ ds) a b = GoesOn-one (h * 10 + (d - 48)) m n ds a.2 b.2
+DigitsGoOn-one : (h m n : ℕ) (ds : List ℕ) → DigitsGoOn h ds m → DigitsGoOn h ds n → m ≡ n
+DigitsGoOn-one h m n [] a b = a ∙ sym b
+DigitsGoOn-one h m n (d ∷ ds) a b = DigitsGoOn-one (h * 10 + (d - 48)) m n ds a.2 b.2
 
 -- one line stands at the front of a text
 pub record OneLine (m n : ℕ) (ds es x y : List ℕ) : Type 0 where
@@ -35,11 +35,11 @@ pub one_line : (s t : List ℕ) (m n : ℕ) (ds es x y : List ℕ) → s ≡ t �
 one_line s t m n ds es x y e a b =
     let same : a.first ∷ (ds ++ 13 ∷ 10 ∷ x) ≡ b.first ∷ (es ++ 13 ∷ 10 ∷ y) = sym a.is ∙ e
     ∙ b.is in
-    let ends = one_end 0 0 m n ds es (10 ∷ x) (10 ∷ y) (GoesOn-number ds m a.number)
-    (GoesOn-number es n b.number) (tail_is _ _ _ _ same) in
+    let ends = one_end 0 0 m n ds es (10 ∷ x) (10 ∷ y) (DigitsGoOn-number ds m a.number)
+    (DigitsGoOn-number es n b.number) (tail_is _ _ _ _ same) in
     record {
-      number = GoesOn-one 0 m n es (subst (λ (ds : List ℕ). GoesOn 0 ds m) ends.0
-          (GoesOn-number ds m a.number)) (GoesOn-number es n b.number);
+      number = DigitsGoOn-one 0 m n es (subst (λ (ds : List ℕ). DigitsGoOn 0 ds m) ends.0
+          (DigitsGoOn-number ds m a.number)) (DigitsGoOn-number es n b.number);
       digits = ends.0;
       more = tail_is 10 10 x y ends.1;
     }
@@ -94,7 +94,7 @@ number_first : (digits : List ℕ) (n c : ℕ) (x y : List ℕ) → IsNumber dig
     digits ++ x ≡ c ∷ y → 49 ≤ c
 number_first [] n c x y h some e = absurd h
 number_first (d ∷ ds) n c x y h some e =
-    let other : d ≢ 48 = λ z. (let none : n ≡ d - 48 = subst (λ (ds : List ℕ). GoesOn
+    let other : d ≢ 48 = λ z. (let none : n ≡ d - 48 = subst (λ (ds : List ℕ). DigitsGoOn
     (d - 48) ds n) (h.2 z) h.3 in omega (arith, none, z, some)) in
     omega (arith, other, h.0, head_is d c _ _ e)
 
@@ -289,7 +289,7 @@ one_reading is js whole whole' rest rest' p q u v e = elim (fronts whole whole' 
 
 -- a byte with which an unfinished item is none breaks the stream
 pub not_begun : (is : List (Option (List (List ℕ)))) (whole t : List ℕ) (b : ℕ) →
-    AreItems whole is → IsUnfinished t → ((tail : List ℕ) → IsWhole (t ++ b ∷ tail) → ⊥) →
+    AreItems whole is → IsUnfinished t → ((tail : List ℕ) → IsWholeItem (t ++ b ∷ tail) → ⊥) →
     IsBegun (whole ++ (t ++ b ∷ [])) → ⊥
 not_begun is whole t b p u broken (more, requests, (items, q, from_items)) =
     let regrouped : (whole ++ (t ++ b ∷ [])) ++ more ≡ whole ++
@@ -318,12 +318,12 @@ not_begun is whole t b p u broken (more, requests, (items, q, from_items)) =
           (b ∷ more) rest e)
 
 -- the requests of items behind items
-pub requests_of-append : (is js : List (Option (List (List ℕ)))) →
-    requests_of (is ++ js) ≡ requests_of is ++ requests_of js
-requests_of-append [] js = refl
-requests_of-append (i ∷ is) js = ap (λ (rs : List (List (List ℕ))). option_to_list i ++ rs)
-    (requests_of-append is js) ∙ sym (append_assoc (option_to_list i) (requests_of is)
-    (requests_of js))
+pub item_requests-append : (is js : List (Option (List (List ℕ)))) →
+    item_requests (is ++ js) ≡ item_requests is ++ item_requests js
+item_requests-append [] js = refl
+item_requests-append (i ∷ is) js = ap (λ (rs : List (List (List ℕ))). option_to_list i ++ rs)
+    (item_requests-append is js) ∙ sym (append_assoc (option_to_list i) (item_requests is)
+    (item_requests js))
 
 -- a stream behind a stream
 pub IsStream-append : (a b : List ℕ) (rs qs : List (List (List ℕ))) → IsStream a rs →
@@ -333,7 +333,7 @@ IsStream-append a b rs qs (is, p, rs_are) (js, q, qs_are) = (
   AreItems-append a b is js p q,
   ap (λ (rs : List (List
       (List ℕ))). rs ++ qs) rs_are ∙ ap (λ (qs : List (List
-      (List ℕ))). requests_of is ++ qs) qs_are ∙ sym (requests_of-append is js),
+      (List ℕ))). item_requests is ++ qs) qs_are ∙ sym (item_requests-append is js),
 )
 
 -- one item is a stream

@@ -2,9 +2,9 @@
 use Rattle.std.proofs.Common.{◌≡◌, ℕ, ◌+◌, ◌-◌, ◌*◌, ◌<◌, ◌≤◌, ◌≢◌, ◌==◌, inl, inr, min, List, [], ◌∷◌, ◌++◌, length, refl, sym, ap, subst, ◌∙◌, arith, length-append, Option}
 use Rattle.std.proofs.lemmas.Bool.{eqb-true, eqb-false}
 use Rattle.std.proofs.lemmas.List.{append_assoc, append-nil}
-use Rattle.resp_text.specs.Grammar.{line_end, GoesOn, IsNumber, IsLine, IsWord, AreWords}
+use Rattle.resp_text.specs.Grammar.{line_end, DigitsGoOn, IsNumber, IsLine, IsWord, AreWords}
 use Rattle.resp_text.specs.Breaks.{HasNoLineFeed, HasWords}
-use Rattle.resp_text.specs.Residual.{HasReadPart, Tells, StepReads, IsSoundPart, IsSound, IsAtByte, number_step, step_if, step_of}
+use Rattle.resp_text.specs.Residual.{HasReadPart, Tells, StepReads, IsSoundPart, IsSoundScan, IsAtByte, number_step, step_if, step_of}
 use Rattle.resp_text.specs.declared.scan.Scan.{Scan}
 use Rattle.resp_text.specs.declared.scan.Part.{Part}
 use Rattle.resp_text.specs.declared.scan.Part.TheVariants.{Start, Star, Zero, Minus, MinusOne, SkipEnd, Count, CountEnd, Dollar, Sign, Length, LengthEnd, Body, Ending}
@@ -12,7 +12,7 @@ use Rattle.resp_text.specs.declared.scan.Step.{Step}
 use Rattle.resp_text.specs.declared.scan.Step.TheVariants.{Go, Whole, Break}
 use Rattle.resp_text.specs.declared.fault.ProtocolKind.{ProtocolKind}
 use Rattle.resp_text.specs.declared.fault.ProtocolKind.TheVariants as kind
-use Rattle.resp_text.proofs.Texts.{GoesOn-number}
+use Rattle.resp_text.proofs.Texts.{DigitsGoOn-number}
 use Rattle.resp_text.proofs.Steps.{at, on_test, on_digit}
 
 -- bytes of a line
@@ -20,7 +20,7 @@ no_feed_append : (a b : List ℕ) → HasNoLineFeed a → HasNoLineFeed b → Ha
 no_feed_append [] b h k = k
 no_feed_append (x ∷ a) b h k = (h.0, no_feed_append a b h.1 k)
 
-no_feed_digits : (high n : ℕ) (ds : List ℕ) → GoesOn high ds n → HasNoLineFeed ds
+no_feed_digits : (high n : ℕ) (ds : List ℕ) → DigitsGoOn high ds n → HasNoLineFeed ds
 no_feed_digits high n [] h = tt
 no_feed_digits high n (d ∷ ds) h = (
   λ e. omega (arith, e, h.0),
@@ -28,7 +28,7 @@ no_feed_digits high n (d ∷ ds) h = (
 )
 
 no_feed_number : (digits : List ℕ) (n : ℕ) → IsNumber digits n → HasNoLineFeed digits
-no_feed_number digits n h = no_feed_digits 0 n digits (GoesOn-number digits n h)
+no_feed_number digits n h = no_feed_digits 0 n digits (DigitsGoOn-number digits n h)
 
 no_feed_line : (digits : List ℕ) (n : ℕ) → IsNumber digits n → HasNoLineFeed (digits ++ 13 ∷ [])
 no_feed_line digits n h = no_feed_append digits (13 ∷ []) (no_feed_number digits n h) (
@@ -37,13 +37,13 @@ no_feed_line digits n h = no_feed_append digits (13 ∷ []) (no_feed_number digi
 )
 
 -- one more digit
-GoesOn-more : (high n d : ℕ) (ds : List ℕ) → GoesOn high ds n → 48 ≤ d → d ≤ 57 →
-    GoesOn high (ds ++ d ∷ []) (n * 10 + (d - 48))
-GoesOn-more high n d [] h low top = (low, top, ap (λ (n : ℕ). n * 10 + (d - 48)) h)
-GoesOn-more high n d (e ∷ ds) h low top = (
+DigitsGoOn-more : (high n d : ℕ) (ds : List ℕ) → DigitsGoOn high ds n → 48 ≤ d → d ≤ 57 →
+    DigitsGoOn high (ds ++ d ∷ []) (n * 10 + (d - 48))
+DigitsGoOn-more high n d [] h low top = (low, top, ap (λ (n : ℕ). n * 10 + (d - 48)) h)
+DigitsGoOn-more high n d (e ∷ ds) h low top = (
   h.0,
   h.1,
-  GoesOn-more (high * 10 + (e - 48)) n d ds h.2 low top,
+  DigitsGoOn-more (high * 10 + (e - 48)) n d ds h.2 low top,
 )
 
 number_more : (digits : List ℕ) (n d : ℕ) → IsNumber digits n → 0 < n → 48 ≤ d → d ≤ 57 →
@@ -52,9 +52,9 @@ number_more [] n d h some low top = absurd h
 number_more (e ∷ ds) n d h some low top = (
   h.0,
   h.1,
-  λ z. (let none : n ≡ e - 48 = subst (λ (ds : List ℕ). GoesOn (e - 48) ds n) (h.2 z) h.3 in
+  λ z. (let none : n ≡ e - 48 = subst (λ (ds : List ℕ). DigitsGoOn (e - 48) ds n) (h.2 z) h.3 in
       absurd (omega (arith, none, z, some))),
-  GoesOn-more (e - 48) n d ds h.3 low top,
+  DigitsGoOn-more (e - 48) n d ds h.3 low top,
 )
 
 number_one : (d : ℕ) → 48 ≤ d → d ≤ 57 → IsNumber (d ∷ []) (0 * 10 + (d - 48))
@@ -372,7 +372,7 @@ step_reads_at (Body left) words room byte sound due tells = on_due
 step_reads_at Ending words room byte sound due tells = ending_reads words room byte tells
 
 -- each step lengthens what was read, or breaks in the part of its kind
-pub step_reads : (scan : Scan) (byte : ℕ) → IsSound scan → IsAtByte scan.part →
+pub step_reads : (scan : Scan) (byte : ℕ) → IsSoundScan scan → IsAtByte scan.part →
     StepReads scan byte (step_of scan scan.part byte)
 step_reads scan byte sound due = step_reads_at scan.part scan.words scan.room byte sound due
     (tells_at scan.part scan.words scan.room sound due)

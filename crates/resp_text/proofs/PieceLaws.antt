@@ -2,9 +2,9 @@
 use Rattle.std.proofs.Common.{◌≡◌, ℕ, ◌+◌, ◌<◌, ◌≤◌, List, [], ◌++◌, length, take, drop, refl, sym, ap, subst, ◌∙◌, arith, length-append, Option, Some, None, option_to_list}
 use Rattle.std.proofs.lemmas.List.{append_assoc, append-nil, take_all, drop-take, length-drop, length-take-le, take-append-drop}
 use Rattle.std.proofs.Math.Seq.{take-add, take-append-add, drop-append-add}
-use Rattle.resp_text.specs.Grammar.{IsItem, IsStream, IsWhole}
+use Rattle.resp_text.specs.Grammar.{IsItem, IsStream, IsWholeItem}
 use Rattle.resp_text.specs.Breaks.{IsPartBehind}
-use Rattle.resp_text.specs.Residual.{IsSound, Finishes, Leads, ReadsOn}
+use Rattle.resp_text.specs.Residual.{IsSoundScan, Finishes, LeadsOn, ReadsOn}
 use Rattle.resp_text.specs.Pieces.{StandsBehind, EndsFor, Reads}
 use Rattle.resp_text.specs.declared.scan.Scan.{Scan}
 use Rattle.resp_text.specs.declared.requests.Reached.{Reached}
@@ -61,7 +61,7 @@ pub reads_broken : (old new : List (List (List ℕ))) (bytes behind : List ℕ) 
     (kind : ProtocolKind) (whole at : ℕ) → whole ≤ length bytes → behind ≡ drop whole bytes →
     Came old new (take whole bytes) →
     at < length behind → StandsBehind scan (take at behind) → ((tail : List ℕ) →
-    IsWhole (take (at + 1) behind ++ tail) → ⊥) → IsPartBehind (take at behind) kind →
+    IsWholeItem (take (at + 1) behind ++ tail) → ⊥) → IsPartBehind (take at behind) kind →
     Reads old new bytes (record { scan = scan; whole = whole; end = whole + at; kind = Some kind })
 reads_broken old new bytes behind scan kind whole at fits e
     (came, stream, is) within stands broken part =
@@ -81,20 +81,20 @@ reads_broken old new bytes behind scan kind whole at fits e
       stands = subst (StandsBehind scan) before stands;
       ends = (
         inside,
-        λ tail h. broken tail (subst IsWhole (ap (λ
+        λ tail h. broken tail (subst IsWholeItem (ap (λ
             (t : List ℕ). t ++ tail) byte) h),
         subst (λ (t : List ℕ). IsPartBehind t kind) before part,
       );
     }
 
 -- a reader that stood behind some bytes stands behind those that follow
-pub stands_on : (scan next : Scan) (rest x : List ℕ) → StandsBehind scan rest → IsSound next →
-    Leads scan x next → ReadsOn scan x next → StandsBehind next (rest ++ x)
+pub stands_on : (scan next : Scan) (rest x : List ℕ) → StandsBehind scan rest → IsSoundScan next →
+    LeadsOn scan x next → ReadsOn scan x next → StandsBehind next (rest ++ x)
 stands_on scan next rest x stands sound leads reads = record {
   sound = sound;
   leads = λ tail. (
-    λ h. (leads tail).0 ((stands.leads (x ++ tail)).0 (subst IsWhole (append_assoc rest x tail) h)),
-    λ h. subst IsWhole (sym (append_assoc rest x tail)) ((stands.leads (x ++ tail)).1
+    λ h. (leads tail).0 ((stands.leads (x ++ tail)).0 (subst IsWholeItem (append_assoc rest x tail) h)),
+    λ h. subst IsWholeItem (sym (append_assoc rest x tail)) ((stands.leads (x ++ tail)).1
         ((leads tail).1 h)),
   );
   read = reads rest stands.read;
@@ -102,13 +102,13 @@ stands_on scan next rest x stands sound leads reads = record {
 
 -- what finishes the item
 pub ends_on : (scan : Scan) (rest x : List ℕ) → StandsBehind scan rest → Finishes scan x →
-    IsWhole (rest ++ x)
+    IsWholeItem (rest ++ x)
 ends_on scan rest x stands finishes = (stands.leads x).1 finishes
 
 pub breaks_on : (scan : Scan) (rest x : List ℕ) → StandsBehind scan rest → ((tail : List ℕ) →
-    Finishes scan (x ++ tail) → ⊥) → (tail : List ℕ) → IsWhole ((rest ++ x) ++ tail) → ⊥
+    Finishes scan (x ++ tail) → ⊥) → (tail : List ℕ) → IsWholeItem ((rest ++ x) ++ tail) → ⊥
 breaks_on scan rest x stands broken tail h = broken tail ((stands.leads (x ++ tail)).0
-    (subst IsWhole (append_assoc rest x tail) h))
+    (subst IsWholeItem (append_assoc rest x tail) h))
 
 -- what is read behind a whole item
 between : (text more : List ℕ) (n from to : ℕ) → n ≡ length text →
@@ -125,7 +125,7 @@ ends_after : (kind : Option ProtocolKind) (text more : List ℕ) (n whole end : 
 ends_after None text more n whole end len e = omega (arith, e, len, length-append text more)
 ends_after (Some kind) text more n whole end len (within, broken, part) = (
   omega (arith, within, len, length-append text more),
-  λ tail h. broken tail (subst IsWhole (ap (λ (t : List ℕ). t ++ tail) (ap (λ (k : ℕ). drop
+  λ tail h. broken tail (subst IsWholeItem (ap (λ (t : List ℕ). t ++ tail) (ap (λ (k : ℕ). drop
       (n + whole) (take k (text ++ more))) (omega arith)
       ∙ between text more n whole (end + 1) len)) h),
   subst (λ (t : List ℕ). IsPartBehind t kind) (sym (between text more n whole end len)) part,
@@ -173,7 +173,7 @@ reads_open_first old new rest piece scan end same len stands =
 pub reads_broken_first : (old new : List (List (List ℕ))) (rest piece : List ℕ) (scan : Scan)
     (kind : ProtocolKind) (at end : ℕ) → new ≡ old → end ≡ length rest + at → at < length piece →
     StandsBehind scan (rest ++ take at piece) →
-    ((tail : List ℕ) → IsWhole ((rest ++ take (at + 1) piece) ++ tail) → ⊥) →
+    ((tail : List ℕ) → IsWholeItem ((rest ++ take (at + 1) piece) ++ tail) → ⊥) →
     IsPartBehind (rest ++ take at piece) kind →
     Reads old new (rest ++ piece) (record { scan = scan; whole = 0; end = end; kind = Some kind })
 reads_broken_first old new rest piece scan kind at end same len within stands broken part =
@@ -184,7 +184,7 @@ reads_broken_first old new rest piece scan kind at end same len within stands br
     (came_none old))
     (omega (arith, within, length-append rest piece))
     (subst (StandsBehind scan) (sym (take-append-add rest piece at)) stands)
-    (λ tail h. broken tail (subst IsWhole (ap (λ (t : List ℕ). t ++ tail) (ap (λ (k : ℕ). take k
+    (λ tail h. broken tail (subst IsWholeItem (ap (λ (t : List ℕ). t ++ tail) (ap (λ (k : ℕ). take k
     (rest ++ piece)) (omega arith) ∙ take-append-add rest piece (at + 1))) h))
     (subst (λ (t : List ℕ). IsPartBehind t kind) (sym (take-append-add rest piece at)) part))
 

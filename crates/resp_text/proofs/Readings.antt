@@ -1,9 +1,9 @@
 -- Bytes have one reading, and a break is final.
 use Rattle.std.proofs.Common.{◌≡◌, ℕ, ◌+◌, ◌<◌, ◌≤◌, ◌↔◌, List, [], ◌∷◌, ◌++◌, length, take, drop, refl, sym, ap, subst, ◌∙◌, arith, inl, None}
 use Rattle.std.proofs.lemmas.List.{append_assoc, append-nil, take-append-drop, take-take, nil_from_length}
-use Rattle.resp_text.specs.Grammar.{IsStream, IsBegun, IsUnfinished, requests_of}
+use Rattle.resp_text.specs.Grammar.{IsStream, IsBegun, IsUnfinished, item_requests}
 use Rattle.resp_text.specs.Breaks.{EndsIn, IsPartBehind}
-use Rattle.resp_text.specs.Reading.{Reading, StandsFor, BreaksAt}
+use Rattle.resp_text.specs.Reading.{Reading, StandsForBytes, BreaksAt}
 use Rattle.resp_text.specs.declared.fault.ProtocolKind.{ProtocolKind}
 use Rattle.resp_text.proofs.Grammars.{one_reading}
 use Rattle.resp_text.proofs.Breaks.{one_part}
@@ -18,11 +18,11 @@ pub one_stream : (whole other rest behind : List ℕ) (requests others : List (L
     (requests ≡ others) × (whole ≡ other) × (rest ≡ behind)
 one_stream whole other rest behind requests others (is, p, r) (js, q, o) u v e =
     let one = one_reading is js whole other rest behind p q u v e in
-    (r ∙ ap requests_of one.items ∙ sym o, one.whole_text, one.rest_text)
+    (r ∙ ap item_requests one.items ∙ sym o, one.whole_text, one.rest_text)
 
 -- the bytes taken are whole items exactly where none are left
 pub all_whole : (reader : Reading) (taken : List ℕ) (given : List (List (List ℕ))) →
-    StandsFor reader taken given → (length reader.rest ≡ 0) ↔ ((requests : List (List (List ℕ)))
+    StandsForBytes reader taken given → (length reader.rest ≡ 0) ↔ ((requests : List (List (List ℕ)))
     × IsStream taken requests)
 all_whole reader taken given s = (
   λ none. (

@@ -1,13 +1,13 @@
 -- What may follow each part of an item, in another form.
 use Rattle.std.proofs.Common.{◌≡◌, ℕ, ◌+◌, ◌-◌, ◌*◌, ◌<◌, ◌≤◌, ◌≢◌, ◌⊎◌, inl, inr, suc, List, [], ◌∷◌, ◌++◌, length, refl, sym, ap, subst, ◌∙◌, arith, Some, None}
 use Rattle.std.proofs.lemmas.List.{append_assoc}
-use Rattle.resp_text.specs.Grammar.{line_end, GoesOn, IsNumber, AreWords, total_bytes, IsWhole}
+use Rattle.resp_text.specs.Grammar.{line_end, DigitsGoOn, IsNumber, AreWords, total_bytes, IsWholeItem}
 use Rattle.resp_text.specs.Residual.{AreWordsWithin, FinishesCount, FinishesLength}
 
 -- digits behind a number never make it less
-pub GoesOn-le : (high : ℕ) (digits : List ℕ) (n : ℕ) → GoesOn high digits n → high ≤ n
-GoesOn-le high [] n h = omega (arith, h)
-GoesOn-le high (d ∷ ds) n h = let more = GoesOn-le (high * 10 + (d - 48)) ds n h.2 in omega
+pub DigitsGoOn-le : (high : ℕ) (digits : List ℕ) (n : ℕ) → DigitsGoOn high digits n → high ≤ n
+DigitsGoOn-le high [] n h = omega (arith, h)
+DigitsGoOn-le high (d ∷ ds) n h = let more = DigitsGoOn-le (high * 10 + (d - 48)) ds n h.2 in omega
     (arith, more)
 
 -- heads and tails of equal lists
@@ -18,7 +18,7 @@ pub tail_is : (a b : ℕ) (x y : List ℕ) → a ∷ x ≡ b ∷ y → x ≡ y
 tail_is a b x y e = cc
 
 -- an item begins with `*`
-pub whole_begins : (b : ℕ) (tail : List ℕ) → IsWhole (b ∷ tail) → b ≡ 42
+pub whole_begins : (b : ℕ) (tail : List ℕ) → IsWholeItem (b ∷ tail) → b ≡ 42
 whole_begins b tail (None, h) = elim h [
   | inl e ↦ head_is b 42 tail
       (48 ∷ line_end) e
@@ -42,7 +42,7 @@ count_from_number : (digits rest tail : List ℕ) (words : List (List ℕ)) → 
 count_from_number [] rest tail words some few short number spelled e = absurd number
 count_from_number (d ∷ ds) rest tail words some few short number spelled e =
     let zero_alone : d ≡ 48 → length words ≡ 0 = λ z. subst (λ (n : ℕ). length words ≡ n) (omega
-    (arith, z)) (subst (λ (digits : List ℕ). GoesOn (d - 48) digits (length words))
+    (arith, z)) (subst (λ (digits : List ℕ). DigitsGoOn (d - 48) digits (length words))
     (number.2 z) number.3) in
     let other : d ≢ 48 = λ z. omega (arith, zero_alone z, some) in
     let high : 49 ≤ d = omega (arith, number.0, other) in (
@@ -62,7 +62,7 @@ count_from_number (d ∷ ds) rest tail words some few short number spelled e =
       ),
     )
 
-pub star_follows : (tail : List ℕ) → IsWhole (42 ∷ tail) → FollowsStar tail
+pub star_follows : (tail : List ℕ) → IsWholeItem (42 ∷ tail) → FollowsStar tail
 star_follows tail (None, h) = elim h [
   | inl e ↦ inl (tail_is 42 42 _ _ e)
   | inr e ↦ inr (inl
@@ -72,7 +72,7 @@ star_follows tail (Some words, r) =
     inr (inr (count_from_number r.count.0 r.rest tail words r.some r.few r.short r.count.1
     r.spelled (tail_is 42 42 _ _ (r.is ∙ ap (λ (line : List ℕ). line ++ r.rest) r.count.2))))
 
-number_from_count : (d : ℕ) (ds : List ℕ) (n : ℕ) → 49 ≤ d → d ≤ 57 → GoesOn (d - 48) ds n →
+number_from_count : (d : ℕ) (ds : List ℕ) (n : ℕ) → 49 ≤ d → d ≤ 57 → DigitsGoOn (d - 48) ds n →
     IsNumber (d ∷ ds) n
 number_from_count d ds n low high goes = (
   omega (arith, low),
@@ -82,7 +82,7 @@ number_from_count d ds n low high goes = (
   goes,
 )
 
-pub star_followed : (tail : List ℕ) → FollowsStar tail → IsWhole (42 ∷ tail)
+pub star_followed : (tail : List ℕ) → FollowsStar tail → IsWholeItem (42 ∷ tail)
 star_followed tail (inl e) = (None, inl (ap (λ (t : List ℕ). 42 ∷ t) e))
 star_followed tail (inr (inl e)) = (None, inr (ap (λ (t : List ℕ). 42 ∷ t) e))
 star_followed tail (inr (inr (
@@ -101,7 +101,7 @@ star_followed tail (inr (inr (
     (words, spelled, count, short),
   ),
 ))) =
-    let many : d - 48 ≤ m = GoesOn-le (d - 48) ds m goes in (
+    let many : d - 48 ≤ m = DigitsGoOn-le (d - 48) ds m goes in (
       Some words,
       record {
         line = 42 ∷ ((d ∷ ds) ++ line_end);

@@ -3,16 +3,16 @@ use Rattle.std.proofs.Common.{◌≡◌, ℕ, ◌+◌, ◌-◌, ◌*◌, ◌/◌
 use Rattle.std.proofs.lemmas.List.{append_assoc, append-nil}
 use Rattle.std.proofs.lemmas.Fmt.{decimal_digit, decimal_step}
 use Rattle.std.proofs.lemmas.Bool.{cases_eq}
-use Rattle.resp_text.specs.Grammar.{line_end, GoesOn, IsNumber, IsLine, IsWord, AreWords, IsRequest}
-use Rattle.resp_text.proofs.Residuals.{GoesOn-le}
+use Rattle.resp_text.specs.Grammar.{line_end, DigitsGoOn, IsNumber, IsLine, IsWord, AreWords, IsRequest}
+use Rattle.resp_text.proofs.Residuals.{DigitsGoOn-le}
 
 -- digits behind those of a number that is not 0
-decimal_on : (h n : ℕ) (ds : List ℕ) → 0 < h → n < 2 ^ 64 → GoesOn h ds n →
+decimal_on : (h n : ℕ) (ds : List ℕ) → 0 < h → n < 2 ^ 64 → DigitsGoOn h ds n →
     decimal n ≡ decimal h ++ ds
 decimal_on h n [] some small goes = ap decimal goes ∙ sym (append-nil (decimal h))
 decimal_on h n (d ∷ ds) some small goes =
     let more : ℕ = h * 10 + (d - 48) in
-    let fits : h * 10 + (d - 48) ≤ n = GoesOn-le (h * 10 + (d - 48)) ds n goes.2 in
+    let fits : h * 10 + (d - 48) ≤ n = DigitsGoOn-le (h * 10 + (d - 48)) ds n goes.2 in
     let high : (h * 10 + (d - 48)) / 10 ≡ h = omega (arith, goes.0, goes.1) in
     let low : 48 + (h * 10 + (d - 48)) % 10 ≡ d = omega (arith, goes.0, goes.1) in
     decimal_on (h * 10 + (d - 48)) n ds (omega (arith, some)) small goes.2
@@ -28,7 +28,7 @@ number_is_decimal [] n small h = absurd h
 number_is_decimal (d ∷ ds) n small h = elim (cases_eq d 48) [
   | inl zero ↦ (let nil : ds ≡ [] = h.2 zero in
       let value : n ≡ 0 = subst (λ (k : ℕ). n ≡ k) (omega (arith, zero)) (subst (λ
-      (ds : List ℕ). GoesOn (d - 48) ds n) nil h.3) in
+      (ds : List ℕ). DigitsGoOn (d - 48) ds n) nil h.3) in
       ap (λ (c : ℕ). c ∷ ds) zero ∙ ap (λ (t : List ℕ). 48 ∷ t) nil ∙ sym (ap decimal value
       ∙ decimal_digit 0 (omega arith)))
   | inr other ↦ (let value : 48 + (d - 48) ≡ d = omega (arith, h.0) in

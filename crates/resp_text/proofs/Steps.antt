@@ -2,8 +2,8 @@
 use Rattle.std.proofs.Common.{◌≡◌, ℕ, ◌+◌, ◌-◌, ◌*◌, ◌<◌, ◌≤◌, ◌≢◌, ◌↔◌, ◌==◌, ◌&&◌, inl, inr, Bool, true, false, cond, leb, nat_le, min, List, [], ◌∷◌, ◌++◌, refl, sym, ap, subst, ◌∙◌, arith, Option, Some, None}
 use Rattle.std.proofs.lemmas.Bool.{eqb-true, eqb-false, leb-true, leb-false}
 use Rattle.std.proofs.lemmas.List.{nil_from_length}
-use Rattle.resp_text.specs.Grammar.{GoesOn, IsWhole}
-use Rattle.resp_text.specs.Residual.{AreWordsWithin, FinishesCount, FinishesBody, FinishesLength, Finishes, IsSoundPart, IsSound, IsAtByte, StepMeans, digit_behind, number_step, step_if, step_of}
+use Rattle.resp_text.specs.Grammar.{DigitsGoOn, IsWholeItem}
+use Rattle.resp_text.specs.Residual.{AreWordsWithin, FinishesCount, FinishesBody, FinishesLength, Finishes, IsSoundPart, IsSoundScan, IsAtByte, StepMeans, digit_behind, number_step, step_if, step_of}
 use Rattle.resp_text.specs.declared.scan.Scan.{Scan}
 use Rattle.resp_text.specs.declared.scan.Part.{Part}
 use Rattle.resp_text.specs.declared.scan.Part.TheVariants.{Start, Star, Zero, Minus, MinusOne, SkipEnd, Count, CountEnd, Dollar, Sign, Length, LengthEnd, Body, Ending}
@@ -11,7 +11,7 @@ use Rattle.resp_text.specs.declared.scan.Step.{Step}
 use Rattle.resp_text.specs.declared.scan.Step.TheVariants.{Go, Whole, Break}
 use Rattle.resp_text.specs.declared.fault.ProtocolKind.{ProtocolKind}
 use Rattle.resp_text.specs.declared.fault.ProtocolKind.TheVariants as kind
-use Rattle.resp_text.proofs.Residuals.{GoesOn-le, head_is, tail_is, whole_begins, star_follows, star_followed, words_begin, sign_follows, sign_followed}
+use Rattle.resp_text.proofs.Residuals.{DigitsGoOn-le, head_is, tail_is, whole_begins, star_follows, star_followed, words_begin, sign_follows, sign_followed}
 
 -- a reader at a part
 abbrev pub at : Part → ℕ → ℕ → Scan
@@ -200,7 +200,7 @@ count_digit n words room byte some digit = (
     ds,
     rest,
     m,
-    subst (λ (d : ℕ). GoesOn (n * 10 + (d - 48)) ds m) (sym
+    subst (λ (d : ℕ). DigitsGoOn (n * 10 + (d - 48)) ds m) (sym
         (head_is byte d _ _ is)) goes.2,
     few,
     tail_is byte d _ _ is,
@@ -213,7 +213,7 @@ count_breaks n byte tail other none ([], rest, m, goes, few, is, words) = other
     (head_is byte 13 _ _ is)
 count_breaks n byte tail other none (d ∷ ds, rest, m, goes, few, is, words) =
     let b : byte ≡ d = head_is byte d _ _ is in
-    let high : n * 10 + (d - 48) ≤ m = GoesOn-le _ ds m goes.2 in
+    let high : n * 10 + (d - 48) ≤ m = DigitsGoOn-le _ ds m goes.2 in
     none (omega (arith, b, goes.0), omega (arith, b, goes.1), omega (arith, b, high, few))
 
 count_means : (n words room byte : ℕ) → (0 < n) × (n ≤ 1024) →
@@ -287,7 +287,7 @@ length_digit n words room byte some positive digit = (
     ds,
     rest,
     m,
-    subst (λ (d : ℕ). GoesOn (n * 10 + (d - 48)) ds m) (sym
+    subst (λ (d : ℕ). DigitsGoOn (n * 10 + (d - 48)) ds m) (sym
         (head_is byte d _ _ is)) goes.2,
     (λ z. absurd (omega
         (arith, z, positive))),
@@ -304,7 +304,7 @@ length_breaks n words room byte tail other none
 length_breaks n words room byte tail other none
     (d ∷ ds, rest, m, goes, zero_alone, short, fits, is, body) =
     let b : byte ≡ d = head_is byte d _ _ is in
-    let high : n * 10 + (d - 48) ≤ m = GoesOn-le _ ds m goes.2 in
+    let high : n * 10 + (d - 48) ≤ m = DigitsGoOn-le _ ds m goes.2 in
     let positive : n ≢ 0 = λ z. (let nil : d ∷ ds ≡ [] = zero_alone z in cc) in
     none (omega (arith, positive)) (
       omega (arith, b, goes.0),
@@ -359,7 +359,7 @@ sign_means words room byte some =
     (λ digit. sign_digit words room byte some digit)
     (λ none tail h. (let s = sign_follows words room (byte ∷ tail) some h in
     let b : byte ≡ s.0 = head_is byte s.0 _ _ s.4 in
-    let high : s.0 - 48 ≤ s.5.2 = GoesOn-le _ s.5.0 s.5.2 s.5.3 in
+    let high : s.0 - 48 ≤ s.5.2 = DigitsGoOn-le _ s.5.0 s.5.2 s.5.3 in
     none (omega (arith, b, s.2), omega (arith, b, s.3), omega (arith, b, high, s.5.5, s.5.6))))
 
 -- a word without further bytes
@@ -420,7 +420,7 @@ ending_means words room byte = on_due (at Ending words room) byte 10 _ _
 step_means_at : (part : Part) (words room byte : ℕ) → IsSoundPart part words room →
     IsAtByte part → StepMeans (at part words room) byte (step_of (at part words room) part byte)
 step_means_at Start words room byte sound due = on_due (at Start words room) byte 42 _ _
-    (tt, λ tail. same (IsWhole (42 ∷ tail))) (λ tail h. whole_begins byte tail h)
+    (tt, λ tail. same (IsWholeItem (42 ∷ tail))) (λ tail h. whole_begins byte tail h)
 step_means_at Star words room byte sound due = star_means words room byte
 step_means_at Zero words room byte sound due = on_due (at Zero words room) byte 13 _ _
     (tt, λ tail. (λ h. tail_is 13 13 _ _ h, λ h. ap (λ (t : List ℕ). 13 ∷ t) h))
@@ -459,6 +459,6 @@ step_means_at (Body left) words room byte sound due = subst (λ (left : ℕ). St
 step_means_at Ending words room byte sound due = ending_means words room byte
 
 -- each step says what may follow it
-pub step_means : (scan : Scan) (byte : ℕ) → IsSound scan → IsAtByte scan.part →
+pub step_means : (scan : Scan) (byte : ℕ) → IsSoundScan scan → IsAtByte scan.part →
     StepMeans scan byte (step_of scan scan.part byte)
 step_means scan byte sound due = step_means_at scan.part scan.words scan.room byte sound due

@@ -1,25 +1,25 @@
 -- What stands at the front of a text of words.
 use Rattle.std.proofs.Common.{◌≡◌, ℕ, ◌+◌, ◌-◌, ◌*◌, ◌<◌, ◌≤◌, ◌≢◌, ◌^◌, List, [], ◌∷◌, ◌++◌, length, take, drop, get_or, refl, sym, ap, subst, ◌∙◌, arith, length-append}
 use Rattle.std.proofs.lemmas.List.{append_assoc, length-drop, drop_more, drop_at, take_at, nil_from_length, append-nil}
-use Rattle.resp_text.specs.Grammar.{line_end, GoesOn, IsNumber, AreWords, IsRequest}
+use Rattle.resp_text.specs.Grammar.{line_end, DigitsGoOn, IsNumber, AreWords, IsRequest}
 use Rattle.resp_text.specs.Lines.{HasLine, BeginsWithLine, BeginsWithWord}
-use Rattle.resp_text.proofs.Residuals.{GoesOn-le, head_is, tail_is}
+use Rattle.resp_text.proofs.Residuals.{DigitsGoOn-le, head_is, tail_is}
 
 -- behind the digits so far, the others stand for the rest of each number that the line may have
 abbrev pub StandsInLine : List ℕ → ℕ → ℕ → Type 0
 StandsInLine text at number = (n : ℕ) (digits more : List ℕ) → HasLine text n digits more →
-    (left : List ℕ) × GoesOn number left n × (drop at text ≡ left ++ 13 ∷ 10 ∷ more)
+    (left : List ℕ) × DigitsGoOn number left n × (drop at text ≡ left ++ 13 ∷ 10 ∷ more)
     × (at + length left ≡ length digits + 1)
 
 -- a number goes on from nothing
-pub GoesOn-number : (digits : List ℕ) (n : ℕ) → IsNumber digits n → GoesOn 0 digits n
-GoesOn-number [] n h = absurd h
-GoesOn-number (d ∷ ds) n h = (h.0, h.1, subst (λ (high : ℕ). GoesOn high ds n) (omega arith) h.3)
+pub DigitsGoOn-number : (digits : List ℕ) (n : ℕ) → IsNumber digits n → DigitsGoOn 0 digits n
+DigitsGoOn-number [] n h = absurd h
+DigitsGoOn-number (d ∷ ds) n h = (h.0, h.1, subst (λ (high : ℕ). DigitsGoOn high ds n) (omega arith) h.3)
 
 pub line_begins : (text : List ℕ) → StandsInLine text 1 0
 line_begins text n digits more line = (
   digits,
-  GoesOn-number digits n line.number,
+  DigitsGoOn-number digits n line.number,
   ap
       (drop 1) line.is,
   omega arith,
@@ -29,7 +29,7 @@ line_begins text n digits more line = (
 pub in_text : (text : List ℕ) (at number : ℕ) → BeginsWithLine text →
     StandsInLine text at number → at < length text
 in_text text at number (n, digits, more, small, line) here = longer (here n digits more line) where
-  longer : (left : List ℕ) × GoesOn number left n × (drop at text ≡ left ++ 13 ∷ 10 ∷ more)
+  longer : (left : List ℕ) × DigitsGoOn number left n × (drop at text ≡ left ++ 13 ∷ 10 ∷ more)
       × (at + length left ≡ length digits + 1) → at < length text
   longer (left, goes, is, len) = omega (
     arith,
@@ -41,7 +41,7 @@ in_text text at number (n, digits, more, small, line) here = longer (here n digi
 
 -- the byte at the place is a digit, or the line ends there
 abbrev Left : List ℕ → ℕ → ℕ → ℕ → List ℕ → List ℕ → Type 0
-Left text at number n digits more = (left : List ℕ) × GoesOn number left n
+Left text at number n digits more = (left : List ℕ) × DigitsGoOn number left n
     × (drop at text ≡ left ++ 13 ∷ 10 ∷ more) × (at + length left ≡ length digits + 1)
 
 goes_on : (text : List ℕ) (at number n : ℕ) (digits more : List ℕ) → at < length text →
@@ -54,10 +54,10 @@ goes_on text at number n digits more within other (d ∷ ds, goes, is, len) =
     let same : get_or text at 0 ∷ drop (at + 1) text ≡ d ∷ (ds ++ 13 ∷ 10 ∷ more) = sym
     (drop_more text at 0 within) ∙ is in
     let b : get_or text at 0 ≡ d = head_is _ d _ _ same in
-    let high : number * 10 + (d - 48) ≤ n = GoesOn-le _ ds n goes.2 in (
+    let high : number * 10 + (d - 48) ≤ n = DigitsGoOn-le _ ds n goes.2 in (
       (
         ds,
-        subst (λ (d : ℕ). GoesOn (number * 10 + (d - 48)) ds n)
+        subst (λ (d : ℕ). DigitsGoOn (number * 10 + (d - 48)) ds n)
             (sym b) goes.2,
         tail_is _ d _ _ same,
         omega (arith, len),

@@ -7,16 +7,16 @@ abbrev pub line_end : List ℕ
 line_end = 13 ∷ 10 ∷ []
 
 -- decimal digits behind those of high make n: each puts what stands before it one place up
-abbrev pub GoesOn : ℕ → List ℕ → ℕ → Type 0
-GoesOn high [] n = n ≡ high
-GoesOn high (digit ∷ digits) n = (48 ≤ digit) × (digit ≤ 57)
-    × GoesOn (high * 10 + (digit - 48)) digits n
+abbrev pub DigitsGoOn : ℕ → List ℕ → ℕ → Type 0
+DigitsGoOn high [] n = n ≡ high
+DigitsGoOn high (digit ∷ digits) n = (48 ≤ digit) × (digit ≤ 57)
+    × DigitsGoOn (high * 10 + (digit - 48)) digits n
 
 -- the bytes are the decimal digits of n: at least one, and no leading zero but in 0 itself
 abbrev pub IsNumber : List ℕ → ℕ → Type 0
 IsNumber [] n = ⊥
 IsNumber (digit ∷ digits) n = (48 ≤ digit) × (digit ≤ 57)
-    × (digit ≡ 48 → digits ≡ []) × GoesOn (digit - 48) digits n
+    × (digit ≡ 48 → digits ≡ []) × DigitsGoOn (digit - 48) digits n
 
 -- a line: its first byte, a number and a line end
 abbrev pub IsLine : ℕ → List ℕ → ℕ → Type 0
@@ -65,13 +65,13 @@ AreItems text (item ∷ items) = (front rest : List ℕ) × IsItem front item
     × (text ≡ front ++ rest) × AreItems rest items
 
 -- the requests among the items, in order
-abbrev pub requests_of : List (Option (List (List ℕ))) → List (List (List ℕ))
-requests_of = flat_map option_to_list
+abbrev pub item_requests : List (Option (List (List ℕ))) → List (List (List ℕ))
+item_requests = flat_map option_to_list
 
 -- the bytes are whole items, and the requests among them are these
 abbrev pub IsStream : List ℕ → List (List (List ℕ)) → Type 0
 IsStream text requests = (items : List (Option (List (List ℕ)))) × AreItems text items
-    × (requests ≡ requests_of items)
+    × (requests ≡ item_requests items)
 
 -- the bytes begin a stream
 abbrev pub IsBegun : List ℕ → Type 0
@@ -79,9 +79,9 @@ IsBegun bytes = (more : List ℕ) × (requests : List (List (List ℕ)))
     × IsStream (bytes ++ more) requests
 
 -- the bytes are one whole item
-abbrev pub IsWhole : List ℕ → Type 0
-IsWhole text = (item : Option (List (List ℕ))) × IsItem text item
+abbrev pub IsWholeItem : List ℕ → Type 0
+IsWholeItem text = (item : Option (List (List ℕ))) × IsItem text item
 
 -- the bytes begin an item and lack at least one byte of it; no bytes are such too
 abbrev pub IsUnfinished : List ℕ → Type 0
-IsUnfinished bytes = (byte : ℕ) × (more : List ℕ) × IsWhole (bytes ++ byte ∷ more)
+IsUnfinished bytes = (byte : ℕ) × (more : List ℕ) × IsWholeItem (bytes ++ byte ∷ more)

@@ -1,8 +1,8 @@
 -- What a call reads of the bytes that it is given.
 use Rattle.std.specs.Prelude.{◌≡◌, ℕ, ◌+◌, ◌<◌, ◌≤◌, ◌↔◌, List, ◌++◌, length, take, drop, Option, Some, None, option_to_list}
-use Rattle.resp_text.specs.Grammar.{IsItem, IsStream, IsWhole}
+use Rattle.resp_text.specs.Grammar.{IsItem, IsStream, IsWholeItem}
 use Rattle.resp_text.specs.Breaks.{IsPartBehind}
-use Rattle.resp_text.specs.Residual.{IsSound, Finishes, HasRead}
+use Rattle.resp_text.specs.Residual.{IsSoundScan, Finishes, HasRead}
 use Rattle.resp_text.specs.declared.scan.Scan.{Scan}
 use Rattle.resp_text.specs.declared.scan.Outcome.{Outcome}
 use Rattle.resp_text.specs.declared.scan.Outcome.TheVariants.{Open, End, Broken}
@@ -12,8 +12,8 @@ use Rattle.resp_text.specs.declared.fault.ProtocolKind.{ProtocolKind}
 -- a reader stands behind these bytes of an item: where it stands tells what finishes the item, and
 -- what was read of it
 pub record StandsBehind (scan : Scan) (bytes : List ℕ) : Type 0 where
-  pub sound : IsSound scan
-  pub leads : (tail : List ℕ) → IsWhole (bytes ++ tail) ↔ Finishes scan tail
+  pub sound : IsSoundScan scan
+  pub leads : (tail : List ℕ) → IsWholeItem (bytes ++ tail) ↔ Finishes scan tail
   pub read : HasRead scan bytes
 
 -- all bytes were read; or the byte behind those that were read is one with which the item is none,
@@ -21,7 +21,7 @@ pub record StandsBehind (scan : Scan) (bytes : List ℕ) : Type 0 where
 abbrev pub EndsFor : List ℕ → ℕ → ℕ → Option ProtocolKind → Type 0
 EndsFor bytes whole end None = end ≡ length bytes
 EndsFor bytes whole end (Some kind) = (end < length bytes)
-    × ((tail : List ℕ) → IsWhole (drop whole (take (end + 1) bytes) ++ tail) → ⊥)
+    × ((tail : List ℕ) → IsWholeItem (drop whole (take (end + 1) bytes) ++ tail) → ⊥)
     × IsPartBehind (drop whole (take end bytes)) kind
 
 -- up to a place the bytes are whole items, whose requests wait now; up to another they are the item
@@ -48,12 +48,12 @@ EndsItem old new rest rest' piece (Open scan) = (new ≡ old) × (rest' ≡ rest
     × StandsBehind scan rest'
 EndsItem old new rest rest' piece (Broken at scan kind) = (new ≡ old) × (at < length piece)
     × (rest' ≡ rest ++ take at piece) × StandsBehind scan rest'
-    × ((tail : List ℕ) → IsWhole ((rest ++ take (at + 1) piece) ++ tail) → ⊥)
+    × ((tail : List ℕ) → IsWholeItem ((rest ++ take (at + 1) piece) ++ tail) → ⊥)
     × IsPartBehind rest' kind
 
 -- a list has these first, whatever came behind
-abbrev pub Begins : List (List (List ℕ)) → List (List (List ℕ)) → Type 0
-Begins old new = (added : List (List (List ℕ))) × (new ≡ old ++ added)
+abbrev pub BeginsRequests : List (List (List ℕ)) → List (List (List ℕ)) → Type 0
+BeginsRequests old new = (added : List (List (List ℕ))) × (new ≡ old ++ added)
 
 -- the same of bytes
 abbrev pub BeginsBytes : List ℕ → List ℕ → Type 0

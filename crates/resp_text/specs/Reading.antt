@@ -15,12 +15,12 @@ pub record Reading : Type 0 where
   pub fault : Option FeedFault
 
 -- a reader that was fed nothing
-abbrev pub nothing_read : Reading
-nothing_read = record { waiting = []; rest = []; before = 0; fault = None }
+abbrev pub unfed_reading : Reading
+unfed_reading = record { waiting = []; rest = []; before = 0; fault = None }
 
 -- the bytes taken so far are whole items and then an unfinished one; the requests among the whole
 -- ones are those that were given and those that wait
-pub record StandsFor (reader : Reading) (taken : List ℕ)
+pub record StandsForBytes (reader : Reading) (taken : List ℕ)
     (given : List (List (List ℕ))) : Type 0 where
   pub whole : List ℕ
   pub is : taken ≡ whole ++ reader.rest
@@ -40,7 +40,7 @@ pub record BreaksAt (bytes : List ℕ) (place : ℕ) (kind : ProtocolKind) : Typ
 -- piece too, at a break for the bytes before it, and without memory nothing has changed
 abbrev pub FeedsOn : Reading → Reading → List ℕ → List (List (List ℕ)) →
     Result (Unit {0}) FeedFault → Type 0
-FeedsOn old new fed given (Ok x) = StandsFor new fed given × (new.fault ≡ None)
+FeedsOn old new fed given (Ok x) = StandsForBytes new fed given × (new.fault ≡ None)
 FeedsOn old new fed given (Err NoMemory) = new ≡ old
 FeedsOn old new fed given (Err (Protocol place kind)) = BreaksAt fed place kind
-    × StandsFor new (take place fed) given × (new.fault ≡ Some (Protocol place kind))
+    × StandsForBytes new (take place fed) given × (new.fault ≡ Some (Protocol place kind))

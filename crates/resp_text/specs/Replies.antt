@@ -22,15 +22,16 @@ error_text kind.Spent = codes "ERR No snapshot number left"
 error_text kind.ForkRefused = codes "ERR Background save refused, no frame"
 
 -- the text of a reply
-abbrev pub text_of : Reply → List ℕ
-text_of reply.Ok = codes "+OK\r\n"
-text_of reply.Pong = codes "+PONG\r\n"
-text_of (reply.Started number) = codes "+Background saving started\r\n"
-text_of reply.Empty = codes "*0\r\n"
-text_of reply.Null = codes "$-1\r\n"
-text_of (reply.Number value) = (58 ∷ []) ++ signed_decimal value ++ line_end
-text_of (reply.Bulk bytes) = (36 ∷ []) ++ decimal (length bytes) ++ line_end ++ bytes ++ line_end
-text_of (reply.Error kind) = (45 ∷ []) ++ error_text kind ++ line_end
+abbrev pub text_of_reply : Reply → List ℕ
+text_of_reply reply.Ok = codes "+OK\r\n"
+text_of_reply reply.Pong = codes "+PONG\r\n"
+text_of_reply (reply.Started number) = codes "+Background saving started\r\n"
+text_of_reply reply.Empty = codes "*0\r\n"
+text_of_reply reply.Null = codes "$-1\r\n"
+text_of_reply (reply.Number value) = (58 ∷ []) ++ signed_decimal value ++ line_end
+text_of_reply (reply.Bulk bytes) =
+    (36 ∷ []) ++ decimal (length bytes) ++ line_end ++ bytes ++ line_end
+text_of_reply (reply.Error kind) = (45 ∷ []) ++ error_text kind ++ line_end
 
 -- a front of the text stands at the end of what was there
 abbrev pub AppendsFront : List ℕ → List ℕ → List ℕ → Type 0

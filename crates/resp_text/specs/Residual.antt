@@ -1,7 +1,7 @@
 -- How a reader stands in an item: what was read of it, what may still follow, and how one byte
 -- moves it on.
 use Rattle.std.specs.Prelude.{◌≡◌, ℕ, ◌+◌, ◌-◌, ◌*◌, ◌<◌, ◌≤◌, ◌↔◌, List, [], ◌∷◌, ◌++◌, length, take, min, Option, Some, None, if◌then◌else◌, ◌&&◌, nat_le, ◌==◌}
-use Rattle.resp_text.specs.Grammar.{line_end, GoesOn, IsNumber, IsLine, AreWords, total_bytes, IsWhole}
+use Rattle.resp_text.specs.Grammar.{line_end, DigitsGoOn, IsNumber, IsLine, AreWords, total_bytes, IsWholeItem}
 use Rattle.resp_text.specs.Breaks.{HasNoLineFeed, HasWords, IsPartBehind}
 use Rattle.resp_text.specs.declared.scan.Scan.{Scan}
 use Rattle.resp_text.specs.declared.scan.Part.{Part}
@@ -21,7 +21,7 @@ AreWordsWithin count room text = (words : List (List ℕ)) × AreWords text word
 
 -- the rest of a count behind the digits of n, and its words
 abbrev pub FinishesCount : ℕ → List ℕ → Type 0
-FinishesCount n tail = (digits rest : List ℕ) × (m : ℕ) × GoesOn n digits m × (m ≤ 1024)
+FinishesCount n tail = (digits rest : List ℕ) × (m : ℕ) × DigitsGoOn n digits m × (m ≤ 1024)
     × (tail ≡ digits ++ 13 ∷ 10 ∷ rest) × AreWordsWithin m 2097152 rest
 
 -- so many bytes of a word, its line end, and the words behind it
@@ -31,14 +31,14 @@ FinishesBody left words room tail = (bytes rest : List ℕ) × (length bytes ≡
 
 -- the rest of a length behind the digits of n, its word, and the words behind it
 abbrev pub FinishesLength : ℕ → ℕ → ℕ → List ℕ → Type 0
-FinishesLength n words room tail = (digits rest : List ℕ) × (m : ℕ) × GoesOn n digits m
+FinishesLength n words room tail = (digits rest : List ℕ) × (m : ℕ) × DigitsGoOn n digits m
     × (n ≡ 0 → digits ≡ []) × (m ≤ 1048576) × (m ≤ room)
     × (tail ≡ digits ++ 13 ∷ 10 ∷ rest) × FinishesBody m (words - 1) (room - m) rest
 
 -- the bytes that finish an item from this part of it on
 abbrev pub FinishesPart : Part → ℕ → ℕ → List ℕ → Type 0
-FinishesPart Start words room tail = IsWhole tail
-FinishesPart Star words room tail = IsWhole (42 ∷ tail)
+FinishesPart Start words room tail = IsWholeItem tail
+FinishesPart Star words room tail = IsWholeItem (42 ∷ tail)
 FinishesPart Zero words room tail = tail ≡ line_end
 FinishesPart Minus words room tail = tail ≡ 49 ∷ line_end
 FinishesPart MinusOne words room tail = tail ≡ line_end
@@ -101,8 +101,8 @@ IsSoundPart (LengthEnd n) words room = (0 < words) × (n ≤ 1048576) × (n ≤ 
 IsSoundPart _ words room = Unit {0}
 
 -- a reader stands where numbers are within the limits
-abbrev pub IsSound : Scan → Type 0
-IsSound scan = IsSoundPart scan.part scan.words scan.room
+abbrev pub IsSoundScan : Scan → Type 0
+IsSoundScan scan = IsSoundPart scan.part scan.words scan.room
 
 -- a number with one more digit, where the byte is one and the number stays within the limit
 abbrev pub digit_behind : ℕ → ℕ → ℕ → Option ℕ
@@ -152,7 +152,7 @@ step_of scan Ending byte =
 
 -- what a step says of the bytes that finish the item
 abbrev pub StepMeans : Scan → ℕ → Step → Type 0
-StepMeans scan byte (Go next) = IsSound next
+StepMeans scan byte (Go next) = IsSoundScan next
     × ((tail : List ℕ) → Finishes scan (byte ∷ tail) ↔ Finishes next tail)
 StepMeans scan byte Whole = (tail : List ℕ) → Finishes scan (byte ∷ tail) ↔ (tail ≡ [])
 StepMeans scan byte (Break kind) = (tail : List ℕ) → Finishes scan (byte ∷ tail) → ⊥
@@ -169,24 +169,24 @@ IsAtByte (Body left) = left ≡ 0
 IsAtByte _ = Unit {0}
 
 -- the bytes lead a reader on: what finishes the item behind them finishes it from there
-abbrev pub Leads : Scan → List ℕ → Scan → Type 0
-Leads scan bytes next = (tail : List ℕ) → Finishes scan (bytes ++ tail) ↔ Finishes next tail
+abbrev pub LeadsOn : Scan → List ℕ → Scan → Type 0
+LeadsOn scan bytes next = (tail : List ℕ) → Finishes scan (bytes ++ tail) ↔ Finishes next tail
 
 -- bytes of a word are passed over without a look at them
 pub record PassesOver (scan : Scan) (available : ℕ) (run : Run) : Type 0 where
   pub within : run.taken ≤ available
-  pub sound : IsSound run.scan
-  pub leads : (bytes : List ℕ) → length bytes ≡ run.taken → Leads scan bytes run.scan
+  pub sound : IsSoundScan run.scan
+  pub leads : (bytes : List ℕ) → length bytes ≡ run.taken → LeadsOn scan bytes run.scan
   pub reads : (bytes : List ℕ) → length bytes ≡ run.taken → ReadsOn scan bytes run.scan
   pub due : run.taken < available → IsAtByte run.scan.part
 
 -- what a scan of these bytes says of the item
 abbrev pub OutcomeMeans : Scan → List ℕ → Outcome → Type 0
-OutcomeMeans scan bytes (Open next) = IsSound next × Leads scan bytes next
+OutcomeMeans scan bytes (Open next) = IsSoundScan next × LeadsOn scan bytes next
     × ReadsOn scan bytes next
 OutcomeMeans scan bytes (End taken) = (0 < taken) × (taken ≤ length bytes)
     × Finishes scan (take taken bytes)
-OutcomeMeans scan bytes (Broken at next kind) = (at < length bytes) × IsSound next
-    × Leads scan (take at bytes) next
+OutcomeMeans scan bytes (Broken at next kind) = (at < length bytes) × IsSoundScan next
+    × LeadsOn scan (take at bytes) next
     × ((tail : List ℕ) → Finishes scan (take (at + 1) bytes ++ tail) → ⊥)
     × ReadsOn scan (take at bytes) next × Tells next kind

@@ -36,7 +36,7 @@ pub enum Reply {
     Error(ErrorKind),
 }
 
-ghost use Rattle.resp_text.specs.Replies.{error_text, text_of, AppendsFront};
+ghost use Rattle.resp_text.specs.Replies.{error_text, text_of_reply, AppendsFront};
 ghost use Rattle.resp_text.specs.Grammar.{line_end};
 
 impl ErrorKind {
@@ -62,8 +62,8 @@ impl ErrorKind {
 
 /// Appends the bytes of a reply.
 pub fn reply_text(reply: &Reply, out: &mut Bytes) -> Result<(), NoMemory>
-    ensures whole { OnOk result (out.new ≡ out.old ++ text_of reply.now) }
-    ensures front { OnErr result (AppendsFront out.old out.new (text_of reply.now)) }
+    ensures whole { OnOk result (out.new ≡ out.old ++ text_of_reply reply.now) }
+    ensures front { OnErr result (AppendsFront out.old out.new (text_of_reply reply.now)) }
 {
     match reply {
         Reply::Ok => out.push_all(b"+OK\r\n"),
@@ -90,8 +90,9 @@ fn push_line(out: &mut Bytes, first: &[u8], rest: &[u8]) -> Result<(), NoMemory>
 
 /// Appends a bulk string: the line of `$` and its length, its bytes, and a line end.
 fn push_bulk(out: &mut Bytes, bytes: &[u8]) -> Result<(), NoMemory>
-    ensures whole { OnOk result (out.new ≡ out.old ++ text_of (Reply.Bulk bytes.now)) }
-    ensures front { OnErr result (AppendsFront out.old out.new (text_of (Reply.Bulk bytes.now))) }
+    ensures whole { OnOk result (out.new ≡ out.old ++ text_of_reply (Reply.Bulk bytes.now)) }
+    ensures front { OnErr result
+        (AppendsFront out.old out.new (text_of_reply (Reply.Bulk bytes.now))) }
 {
     push_line(out, b"$", Buffer::new().format(bytes.len()).as_bytes())?;
     out.push_all(bytes)?;

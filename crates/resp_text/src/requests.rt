@@ -1,7 +1,7 @@
 //! A reader of requests, which is fed bytes in pieces.
 ghost use Rattle.std.specs.Prelude.{◌≡◌, ◌+◌, ◌<◌, ◌≤◌, ◌^◌, ◌↔◌, List, ℕ, [], ◌++◌, length, drop, take, Option, Some, None, Err, IsNone, IfSome, IfOk, IfErr, OnOk, OnErr, IsErrOf, option_to_list};
-ghost use Rattle.resp_text.specs.Grammar.{IsItem, IsStream, IsWhole};
-ghost use Rattle.resp_text.specs.Pieces.{StandsBehind, Reads, EndsItem, Begins, BeginsBytes};
+ghost use Rattle.resp_text.specs.Grammar.{IsItem, IsStream, IsWholeItem};
+ghost use Rattle.resp_text.specs.Pieces.{StandsBehind, Reads, EndsItem, BeginsRequests, BeginsBytes};
 
 use crate::fault::{FeedFault, ProtocolKind};
 use crate::request::Request;
@@ -27,7 +27,7 @@ pub(crate) struct Reached {
 
 /// Adds the request that a whole item is. A skipped item is none.
 fn push_item(alloc: Global, waiting: &mut VecDeque<Request>, text: &[u8]) -> Result<(), NoMemory>
-    requires { IsWhole text.now }
+    requires { IsWholeItem text.now }
     ensures added { OnOk result ((item : Option (List (List ℕ))) × IsItem text.now item
         × (waiting.new.items ≡ waiting.old.items ++ option_to_list item)) }
     ensures no_memory { OnErr result (waiting.new.items ≡ waiting.old.items) }
@@ -47,7 +47,7 @@ fn read_items(
     bytes: &[u8],
 ) -> Result<Reached, NoMemory>
     ensures read { IfOk result (Reads waiting.old.items waiting.new.items bytes.now) }
-    ensures no_memory { OnErr result (Begins waiting.old.items waiting.new.items) }
+    ensures no_memory { OnErr result (BeginsRequests waiting.old.items waiting.new.items) }
 {
     let mut whole = 0;
     'items: loop {
@@ -141,7 +141,7 @@ fn read_piece(
         (Reads waiting.old.items waiting.new.items (rest.old.items ++ piece.now)) }
     ensures kept { IfOk result (λ reached. rest.new.items
         ≡ drop reached.whole (take reached.end (rest.old.items ++ piece.now))) }
-    ensures no_memory { OnErr result (Begins waiting.old.items waiting.new.items) }
+    ensures no_memory { OnErr result (BeginsRequests waiting.old.items waiting.new.items) }
     ensures no_memory_rest { OnErr result (BeginsBytes rest.old.items rest.new.items) }
 {
     let had = rest.len();
@@ -211,12 +211,12 @@ impl Model for Requests {
 }
 
 impl Requests {
-    ghost use Rattle.resp_text.specs.Reading.{nothing_read, StandsFor, FeedsOn};
+    ghost use Rattle.resp_text.specs.Reading.{unfed_reading, StandsForBytes, FeedsOn};
 
     /// A reader that was fed nothing. It takes no memory yet.
     pub fn new(alloc: Global) -> Self
-        ensures nothing { result ≡ nothing_read }
-        ensures stands { StandsFor result [] [] }
+        ensures nothing { result ≡ unfed_reading }
+        ensures stands { StandsForBytes result [] [] }
     {
         Requests {
             alloc,
@@ -234,7 +234,7 @@ impl Requests {
         requires { self.old.before + length self.old.rest + length piece.now < 2 ^ 63 }
         // Whatever bytes were fed before and whatever requests were given.
         ensures fed { (taken : List ℕ) (given : List (List (List ℕ))) →
-            self.old.fault ≡ None → StandsFor self.old taken given →
+            self.old.fault ≡ None → StandsForBytes self.old taken given →
             FeedsOn self.old self.new (taken ++ piece.now) given result }
         ensures broken { IfSome self.old.fault (λ fault.
             (result ≡ Err fault) × (self.new ≡ self.old)) }
@@ -275,8 +275,8 @@ impl Requests {
         ensures none { IsNone result ↔ (self.old.waiting ≡ []) }
         ensures others { self.new ≡ record self.old { waiting = self.new.waiting } }
         ensures given { (taken : List ℕ) (given : List (List (List ℕ))) →
-            StandsFor self.old taken given →
-            StandsFor self.new taken (given ++ option_to_list result) }
+            StandsForBytes self.old taken given →
+            StandsForBytes self.new taken (given ++ option_to_list result) }
     {
         self.waiting.pop_front()
     }
@@ -286,7 +286,7 @@ impl Requests {
         ensures value { result ≡ length self.now.rest }
         // It is 0 exactly where all that was taken is whole items.
         ensures whole { (taken : List ℕ) (given : List (List (List ℕ))) →
-            StandsFor self.now taken given →
+            StandsForBytes self.now taken given →
             ((result ≡ 0) ↔ ((requests : List (List (List ℕ))) × IsStream taken requests)) }
     {
         self.rest.len() as u64

@@ -1,6 +1,6 @@
 //! Where a reader stands in an item, and how one byte moves it on.
 ghost use Rattle.std.specs.Prelude.{◌≡◌, ◌≤◌, ◌==◌, if◌then◌else◌, min};
-ghost use Rattle.resp_text.specs.Residual.{IsSound, IsAtByte, StepMeans, StepReads, step_if, digit_behind, number_step, step_of, PassesOver, Leads, ReadsOn, OutcomeMeans};
+ghost use Rattle.resp_text.specs.Residual.{IsSoundScan, IsAtByte, StepMeans, StepReads, step_if, digit_behind, number_step, step_of, PassesOver, LeadsOn, ReadsOn, OutcomeMeans};
 
 use crate::fault::ProtocolKind;
 
@@ -98,7 +98,7 @@ impl Scan {
 
     /// The step of a byte, where no bytes of a word are due.
     pub(crate) fn step(self, byte: u8) -> Step
-        requires sound { IsSound self }
+        requires sound { IsSoundScan self }
         requires at_byte { IsAtByte self.part }
         ensures means { StepMeans self byte result }
         ensures reads { StepReads self byte result }
@@ -108,7 +108,7 @@ impl Scan {
 
     /// Passes over bytes of a word, as many as are there.
     fn pass_over(self, available: usize) -> Run
-        requires { IsSound self }
+        requires { IsSoundScan self }
         ensures { PassesOver self available result }
     {
         let Part::Body(left) = self.part else {
@@ -126,7 +126,7 @@ impl Scan {
     }
 
     fn step_by(self, byte: u8) -> Step
-        requires { IsSound self }
+        requires { IsSoundScan self }
         ensures { result ≡ step_of self self.part byte }
     {
         match self.part {
@@ -287,7 +287,7 @@ fn digit_behind(high: u32, byte: u8, most: u32) -> Option<u32>
 
 /// Reads on in an item, up to its end.
 pub(crate) fn scan_item(scan: Scan, bytes: &[u8]) -> Outcome
-    requires { IsSound scan }
+    requires { IsSoundScan scan }
     ensures { OutcomeMeans scan bytes.now result }
 {
     let mut scan = scan;

@@ -7,7 +7,7 @@ ghost use Rattle.std.specs.Io.KnownBytes.{Keeps, WriteAppends};
 ghost use Rattle.std.specs.IoError.{error_kind};
 ghost use Rattle.io_face.specs.Faults.{Rose};
 ghost use Rattle.std.specs.String.{string_bytes};
-ghost use Rattle.server_main.specs.Folder.{count_after, part_name};
+ghost use Rattle.server_main.specs.Folder.{count_after_faults, part_name};
 
 #[cfg(test)]
 mod tests;
@@ -71,7 +71,7 @@ impl<R: Files + Drop> CurrentFolder<R> {
 
     // Counts so many faults more.
     fn count(&mut self, more: u64)
-        ensures sum { self.new.faults ≡ count_after self.old.faults more }
+        ensures sum { self.new.faults ≡ count_after_faults self.old.faults more }
         ensures faults { self.old.faults ≤ self.new.faults }
         ensures quiet { more ≡ 0 → self.new.faults ≡ self.old.faults }
         ensures counted { 0 < more → Rose self.old.faults self.new.faults }
@@ -83,7 +83,7 @@ impl<R: Files + Drop> CurrentFolder<R> {
     fn told<T: Drop>(&mut self, outcome: io::Result<T>) -> Result<T, Failed>
         ensures value { result_ok result ≡ result_ok outcome }
         ensures ok { OnOk result (self.new.faults ≡ self.old.faults) }
-        ensures err { OnErr result (self.new.faults ≡ count_after self.old.faults 1) }
+        ensures err { OnErr result (self.new.faults ≡ count_after_faults self.old.faults 1) }
         ensures faults { self.old.faults ≤ self.new.faults }
         ensures cause { OnErr result (Rose self.old.faults self.new.faults) }
     {
@@ -186,7 +186,7 @@ impl<R: Files + Drop> Folder for CurrentFolder<R> {
     fn load(&mut self, name: &str) -> Result<Option<Self::In>, Failed>
         ensures fresh { IfOk result (λ found. IfSome found (λ input. input.faults ≡ 0)) }
         ensures ok { OnOk result (self.new.faults ≡ self.old.faults) }
-        ensures err { OnErr result (self.new.faults ≡ count_after self.old.faults 1) }
+        ensures err { OnErr result (self.new.faults ≡ count_after_faults self.old.faults 1) }
         ensures faults { self.old.faults ≤ self.new.faults }
         ensures cause { OnErr result (Rose self.old.faults self.new.faults) }
     {
@@ -199,7 +199,7 @@ impl<R: Files + Drop> Folder for CurrentFolder<R> {
         ensures fresh { IfOk result (λ out. out.stream.faults ≡ 0) }
         ensures path { IfOk result (λ out. string_bytes out.path ≡ part_name name.now) }
         ensures ok { OnOk result (self.new.faults ≡ self.old.faults) }
-        ensures err { OnErr result (self.new.faults ≡ count_after self.old.faults 1) }
+        ensures err { OnErr result (self.new.faults ≡ count_after_faults self.old.faults 1) }
         ensures faults { self.old.faults ≤ self.new.faults }
         ensures cause { OnErr result (Rose self.old.faults self.new.faults) }
     {
@@ -211,9 +211,10 @@ impl<R: Files + Drop> Folder for CurrentFolder<R> {
     #[tactic(auto, using(crate::proofs::Outcomes::rose_longer))]
     fn publish(&mut self, out: PartFile<R>, name: &str) -> Result<(), Failed>
         ensures ok { OnOk result
-            (self.new.faults ≡ count_after self.old.faults out.stream.faults) }
+            (self.new.faults ≡ count_after_faults self.old.faults out.stream.faults) }
         ensures err { OnErr result
-            (self.new.faults ≡ count_after (count_after self.old.faults out.stream.faults) 1) }
+            (self.new.faults
+            ≡ count_after_faults (count_after_faults self.old.faults out.stream.faults) 1) }
         ensures faults { self.old.faults ≤ self.new.faults }
         ensures quiet { OnOk result
             (out.stream.faults ≡ 0 → self.new.faults ≡ self.old.faults) }
@@ -230,7 +231,7 @@ impl<R: Files + Drop> Folder for CurrentFolder<R> {
     }
 
     fn close(&mut self, input: Self::In)
-        ensures sum { self.new.faults ≡ count_after self.old.faults input.faults }
+        ensures sum { self.new.faults ≡ count_after_faults self.old.faults input.faults }
         ensures faults { self.old.faults ≤ self.new.faults }
         ensures quiet { input.faults ≡ 0 → self.new.faults ≡ self.old.faults }
         ensures counted { 0 < input.faults → Rose self.old.faults self.new.faults }
@@ -240,9 +241,9 @@ impl<R: Files + Drop> Folder for CurrentFolder<R> {
 
     // A file that cannot be removed is one fault more.
     fn abandon(&mut self, out: PartFile<R>)
-        ensures sum { count_after self.old.faults out.stream.faults ≤ self.new.faults }
+        ensures sum { count_after_faults self.old.faults out.stream.faults ≤ self.new.faults }
         ensures most { self.new.faults
-            ≤ count_after (count_after self.old.faults out.stream.faults) 1 }
+            ≤ count_after_faults (count_after_faults self.old.faults out.stream.faults) 1 }
         ensures faults { self.old.faults ≤ self.new.faults }
         ensures counted { 0 < out.stream.faults → Rose self.old.faults self.new.faults }
     {

@@ -6,7 +6,7 @@ ghost use Rattle.io_face.specs.Faults.{Rose};
 use io_face::{Failed, Sink, Source};
 use std::io::{ErrorKind, Read, Write};
 
-/// How often a call that a signal cut short is made again.
+/// How often a call is tried in all, where signals cut it short.
 const TRIES: u32 = 64;
 
 /// A reader as a source.

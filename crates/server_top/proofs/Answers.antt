@@ -13,7 +13,7 @@ use Rattle.resp_text.specs.declared.reply.Reply.TheVariants as reply
 use Rattle.resp_text.specs.declared.reply.ErrorKind.TheVariants as kind
 use Rattle.image_text.specs.Image.{bytes_cmp, FitsImage}
 use Rattle.service_meaning.specs.Commands.{Command, SetPair, GetValue, StartSave, command_of, is_long}
-use Rattle.service_meaning.specs.MapMachine.{Service, Answer, refused, value_reply, answer, command_answer, set_answer, get_answer, save_answer, with_snapshot}
+use Rattle.service_meaning.specs.MapMachine.{Service, ServiceAnswer, refused, value_reply, answer, command_answer, set_answer, get_answer, save_answer, with_snapshot}
 use Rattle.service_meaning.specs.History.{Call, started, is_refusal}
 
 -- a request with a word behind BGSAVE
@@ -23,7 +23,7 @@ save_arity service (word ∷ []) some other = absurd (other refl)
 save_arity service (word ∷ more ∷ words) some other = refl
 
 -- what holds of each answer: a snapshot that is started lives behind the others, no frame is refused, a fork leaves the pairs, and at most one pair comes, which fits an image where the others do
-pub record Follows (service : Service) (given : Answer) : Type 0 where
+pub record Follows (service : Service) (given : ServiceAnswer) : Type 0 where
   pub live : given.1.live ≡ service.live ++ started given.0
   pub granted : (caller : ℕ) (words : List (List ℕ)) → is_refusal (Call caller words given.0) ≡ false
   pub forked : (number : ℕ) → given.0 ≡ reply.Started number → given.1.pairs ≡ service.pairs

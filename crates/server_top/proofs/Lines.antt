@@ -14,7 +14,7 @@ use Rattle.trace_core.specs.KernelState.{Machine, opening_state}
 use Rattle.trace_core.specs.KernelStanding.{KernelParts}
 use Rattle.trace_core.specs.KernelRun.{HasRun}
 use Rattle.trace_core.specs.RunMeaning.{IsRun, numbers_refused}
-use Rattle.server_top.specs.RunPromise.{WroteLines, WroteSomeLines, machine_of, outcome_lines}
+use Rattle.server_top.specs.RunPromise.{WroteLines, WroteSomeLines, script_machine, outcome_lines}
 use Rattle.server_top.proofs.Written.{Writing, writing_all, writing_front, writing_part, writing_renamed, writing_written, adds_nothing}
 
 -- one event more, and its line waits
@@ -97,10 +97,10 @@ run_of now machine policies events outcomes has = record {
 
 -- a prefix of the lines of first events was written
 pub some_lines : (from now : KernelParts) (script : ScriptParts) (i : ℕ) (old new : Option (List ℕ)) (waiting : List ℕ)
-    → (gone : HasGoneOn from now (machine_of script) (take i script.events) old new waiting) → (end : Option (List ℕ)) → AddsPrefix old end (outcome_lines gone.outcomes)
-    → (policies : PolicySum) → HasRun from (machine_of script) 0 policies [] [] → WroteSomeLines script policies old end
+    → (gone : HasGoneOn from now (script_machine script) (take i script.events) old new waiting) → (end : Option (List ℕ)) → AddsPrefix old end (outcome_lines gone.outcomes)
+    → (policies : PolicySum) → HasRun from (script_machine script) 0 policies [] [] → WroteSomeLines script policies old end
 some_lines from now script i old new waiting gone end lines policies begun =
-    let has : HasRun now (machine_of script) 0 policies (take i script.events) gone.outcomes = gone.run policies begun in
+    let has : HasRun now (script_machine script) 0 policies (take i script.events) gone.outcomes = gone.run policies begun in
     record {
       first = take i script.events;
       later = drop i script.events;
@@ -108,50 +108,50 @@ some_lines from now script i old new waiting gone end lines policies begun =
       outcomes = gone.outcomes;
       refused = numbers_refused has.requests;
       end = has.state;
-      run = run_of now (machine_of script) policies (take i script.events) gone.outcomes has;
+      run = run_of now (script_machine script) policies (take i script.events) gone.outcomes has;
       lines = lines;
     }
 
 -- at a want of memory
 pub lines_in_front : (from now : KernelParts) (script : ScriptParts) (i : ℕ) (old new : Option (List ℕ)) (waiting : List ℕ)
-    → HasGoneOn from now (machine_of script) (take i script.events) old new waiting
-    → (policies : PolicySum) → HasRun from (machine_of script) 0 policies [] [] → WroteSomeLines script policies old new
+    → HasGoneOn from now (script_machine script) (take i script.events) old new waiting
+    → (policies : PolicySum) → HasRun from (script_machine script) 0 policies [] [] → WroteSomeLines script policies old new
 lines_in_front from now script i old new waiting gone =
     some_lines from now script i old new waiting gone new (writing_front old new waiting [] (outcome_lines gone.outcomes) gone.writing)
 
 -- at a fault
 pub lines_in_part : (from now : KernelParts) (script : ScriptParts) (i : ℕ) (old new end : Option (List ℕ)) (waiting : List ℕ)
-    → HasGoneOn from now (machine_of script) (take i script.events) old new waiting → AddsPrefix new end waiting
-    → (policies : PolicySum) → HasRun from (machine_of script) 0 policies [] [] → WroteSomeLines script policies old end
+    → HasGoneOn from now (script_machine script) (take i script.events) old new waiting → AddsPrefix new end waiting
+    → (policies : PolicySum) → HasRun from (script_machine script) 0 policies [] [] → WroteSomeLines script policies old end
 lines_in_part from now script i old new end waiting gone part =
     some_lines from now script i old new waiting gone end (writing_part old new end waiting [] (outcome_lines gone.outcomes) gone.writing part)
 
 -- all lines were written
 pub all_lines : (from now : KernelParts) (script : ScriptParts) (i : ℕ) (old new end : Option (List ℕ)) (waiting : List ℕ)
-    → take i script.events ≡ script.events → HasGoneOn from now (machine_of script) (take i script.events) old new waiting → Adds new end waiting
-    → (policies : PolicySum) → HasRun from (machine_of script) 0 policies [] [] → WroteLines script policies old end
+    → take i script.events ≡ script.events → HasGoneOn from now (script_machine script) (take i script.events) old new waiting → Adds new end waiting
+    → (policies : PolicySum) → HasRun from (script_machine script) 0 policies [] [] → WroteLines script policies old end
 all_lines from now script i old new end waiting whole gone adds policies begun =
-    let has : HasRun now (machine_of script) 0 policies (take i script.events) gone.outcomes = gone.run policies begun in
+    let has : HasRun now (script_machine script) 0 policies (take i script.events) gone.outcomes = gone.run policies begun in
     record {
       outcomes = gone.outcomes;
       refused = numbers_refused has.requests;
       end = has.state;
-      run = subst (λ events. IsRun (machine_of script) 0 policies events gone.outcomes (numbers_refused has.requests) has.state) whole
-          (run_of now (machine_of script) policies (take i script.events) gone.outcomes has);
+      run = subst (λ events. IsRun (script_machine script) 0 policies events gone.outcomes (numbers_refused has.requests) has.state) whole
+          (run_of now (script_machine script) policies (take i script.events) gone.outcomes has);
       lines = writing_all old new end waiting (outcome_lines gone.outcomes) gone.writing adds;
     }
 
 -- a run that has begun on a machine of these numbers has begun on the script's
 pub begun_on : (parts : KernelParts) (script : ScriptParts) (frames cells : ℕ) (told given : PolicySum) → frames ≡ script.frames → cells ≡ script.cells → told ≡ given
-    → HasRun parts (record { frames = frames; slots = cells; limit = 1 }) 0 told [] [] → HasRun parts (machine_of script) 0 given [] []
+    → HasRun parts (record { frames = frames; slots = cells; limit = 1 }) 0 told [] [] → HasRun parts (script_machine script) 0 given [] []
 begun_on parts script frames cells told given frames_are cells_are told_is begun =
     subst (λ n. HasRun parts (record { frames = n; slots = script.cells; limit = 1 }) 0 given [] []) frames_are
     (subst (λ n. HasRun parts (record { frames = frames; slots = n; limit = 1 }) 0 given [] []) cells_are
     (subst (λ sum. HasRun parts (record { frames = frames; slots = cells; limit = 1 }) 0 sum [] []) told_is begun))
 
 -- what holds under whatever the run began under holds under what it did begin under
-pub for_begun : (from : KernelParts) (script : ScriptParts) (policies : PolicySum) (P : PolicySum → Type 0) → HasRun from (machine_of script) 0 policies [] []
-    → ((given : PolicySum) → HasRun from (machine_of script) 0 given [] [] → P given) → P policies
+pub for_begun : (from : KernelParts) (script : ScriptParts) (policies : PolicySum) (P : PolicySum → Type 0) → HasRun from (script_machine script) 0 policies [] []
+    → ((given : PolicySum) → HasRun from (script_machine script) 0 given [] [] → P given) → P policies
 for_begun from script policies P begun holds = holds policies begun
 
 -- before a kernel was there

@@ -11,18 +11,18 @@ use Rattle.io_face.specs.Folder.{Files}
 use Rattle.io_face.specs.Told.{Adds, AddsPrefix}
 use Rattle.resp_text.specs.declared.reply.Reply.{Reply}
 use Rattle.resp_text.specs.declared.reply.Reply.TheVariants as reply
-use Rattle.resp_text.specs.Replies.{text_of}
+use Rattle.resp_text.specs.Replies.{text_of_reply}
 use Rattle.image_text.specs.Image.{bytes_cmp, pairs_text, FitsImage}
 use Rattle.service_meaning.specs.declared.saved.Saved.{Saved}
 use Rattle.service_meaning.specs.declared.saved.Saved.TheVariants as saved
 use Rattle.service_meaning.specs.MapMachine.{Pairs}
-use Rattle.service_meaning.specs.History.{Entry, Call, Taken, Ended, Moment, without, Leads, LeadAlong, IsForked, is_refusal, refusals, calls_in, calls_of, ends_in, ends_of}
+use Rattle.service_meaning.specs.History.{Entry, Call, Taken, Ended, Moment, without, EntryLeads, LeadAlong, IsForked, is_refusal, refusals, calls_in, calls_of, ends_in, ends_of}
 use Rattle.service_meaning.specs.SessionText.{requests_asked, replies_text}
-use Rattle.service_meaning.specs.SaveEnd.{report_line, report_text, file_name, AreCounted, FileOf, FilesOf, faults_of, refused_saves}
+use Rattle.service_meaning.specs.SaveEnd.{report_line, report_text, file_name, ArePairsCounted, FileOf, FilesOf, faults_of, refused_saves}
 use Rattle.server_top.specs.declared.replay.book.Book.{Book}
 use Rattle.server_top.specs.declared.replay.book.Snapshot.{Snapshot}
 use Rattle.server_top.specs.ReplayPromise.{Outside, HasEnded, IsHistoryOf, Published, Served, ServedAll, ServedSome, replay_opening, sent_text}
-use Rattle.server_top.specs.ReplayRun.{AreStorable, Kept, IsServable, Saves, SavedSo, calls_from, kept_in, number_of, forked, kept_after, kept_behind, replies_from, reply_to}
+use Rattle.server_top.specs.ReplayRun.{AreStorable, BookState, IsServable, Saves, SavedSo, calls_from, book_state, snapshot_number, started_snapshot, kept_after, kept_behind, replies_from, reply_to}
 use Rattle.server_top.proofs.Answers.{follows}
 use Rattle.server_top.proofs.StoredPairs.{entries-empty}
 use Rattle.server_top.proofs.Written.{Writing, adds_more, writing_part}
@@ -30,11 +30,11 @@ use Rattle.server_top.proofs.Written.{Writing, adds_more, writing_part}
 -- ---- moments
 
 -- what is kept before the first request
-abbrev pub opening_kept : Kept
+abbrev pub opening_kept : BookState
 opening_kept = record { service = replay_opening.service; snapshot = None }
 
 -- the moment at which a book keeps this, where no save was taken: all snapshots that live wait
-abbrev pub moment_of : Kept → Moment
+abbrev pub moment_of : BookState → Moment
 moment_of kept = record { service = kept.service; waiting = kept.service.live; saving = [] }
 
 lead_append : (old mid new : Moment) (front back : List Entry) → LeadAlong old front mid → LeadAlong mid back new → LeadAlong old (front ++ back) new
@@ -42,32 +42,34 @@ lead_append old mid new [] back before after = subst (λ m. LeadAlong m back new
 lead_append old mid new (entry ∷ front) back before after =
     (before.0, (before.1.0, lead_append before.0 mid new front back before.1.1 after))
 
-lead_call : (kept : Kept) (words : List (List ℕ)) → IsServable words → Leads (moment_of kept) (Call 0 words (reply_to kept words)) (moment_of (kept_after kept words))
+lead_call : (kept : BookState) (words : List (List ℕ)) → IsServable words → EntryLeads (moment_of kept) (Call 0 words (reply_to kept words)) (moment_of (kept_after kept words))
 lead_call kept words servable = (inl refl, (follows kept.service words servable.short).live, refl)
 
-pub lead_calls : (kept : Kept) (requests : List (List (List ℕ))) → AllByRecursion IsServable requests → LeadAlong (moment_of kept) (calls_from kept requests) (moment_of (kept_behind kept requests))
+pub lead_calls : (kept : BookState) (requests : List (List (List ℕ))) → AllByRecursion IsServable requests → LeadAlong (moment_of kept) (calls_from kept requests) (moment_of (kept_behind kept requests))
 lead_calls kept [] servable = refl
 lead_calls kept (words ∷ requests) servable =
     (moment_of (kept_after kept words), (lead_call kept words servable.0, lead_calls (kept_after kept words) requests servable.1))
 
 -- ---- what the calls say
 
-no_refusals : (kept : Kept) (requests : List (List (List ℕ))) → AllByRecursion IsServable requests → refusals (calls_from kept requests) ≡ 0
+no_refusals : (kept : BookState) (requests : List (List (List ℕ))) → AllByRecursion IsServable requests
+    → refusals (calls_from kept requests) ≡ 0
 no_refusals kept [] servable = refl
 no_refusals kept (words ∷ requests) servable =
     let here : ◌≡◌ {A = ℕ} (if is_refusal (Call 0 words (reply_to kept words)) then 1 else 0) 0 =
     ap (λ b. if b then 1 else 0) ((follows kept.service words servable.0.short).granted 0 words) in
     omega (arith, here, no_refusals (kept_after kept words) requests servable.1)
 
-requests_calls : (kept : Kept) (requests : List (List (List ℕ))) → requests_asked (calls_of (calls_from kept requests)) ≡ requests
+requests_calls : (kept : BookState) (requests : List (List (List ℕ))) → requests_asked (calls_of (calls_from kept requests)) ≡ requests
 requests_calls kept [] = refl
 requests_calls kept (words ∷ requests) = ap (λ (rest : List (List (List ℕ))). words ∷ rest) (requests_calls (kept_after kept words) requests)
 
-replies_calls : (kept : Kept) (requests : List (List (List ℕ))) → replies_text (calls_of (calls_from kept requests)) ≡ replies_from kept requests
+replies_calls : (kept : BookState) (requests : List (List (List ℕ))) → replies_text (calls_of (calls_from kept requests)) ≡ replies_from kept requests
 replies_calls kept [] = refl
-replies_calls kept (words ∷ requests) = ap (λ rest. text_of (reply_to kept words) ++ rest) (replies_calls (kept_after kept words) requests)
+replies_calls kept (words ∷ requests) =
+    ap (λ rest. text_of_reply (reply_to kept words) ++ rest) (replies_calls (kept_after kept words) requests)
 
-ends_calls : (kept : Kept) (requests : List (List (List ℕ))) → ends_of (calls_from kept requests) ≡ []
+ends_calls : (kept : BookState) (requests : List (List (List ℕ))) → ends_of (calls_from kept requests) ≡ []
 ends_calls kept [] = refl
 ends_calls kept (words ∷ requests) = ends_calls (kept_after kept words) requests
 
@@ -102,7 +104,7 @@ forks_more history more None has = tt
 forks_more history more (Some snapshot) has = fork_more history more snapshot has
 
 -- a reply that starts a snapshot
-new_fork : (before : List Entry) (kept : Kept) (words : List (List ℕ)) (number : ℕ) → IsServable words → reply_to kept words ≡ reply.Started number
+new_fork : (before : List Entry) (kept : BookState) (words : List (List ℕ)) (number : ℕ) → IsServable words → reply_to kept words ≡ reply.Started number
     → LeadAlong replay_opening (before ++ Call 0 words (reply_to kept words) ∷ []) (moment_of (kept_after kept words))
     → HasFork (before ++ Call 0 words (reply_to kept words) ∷ []) (record { number = number; pairs = entries kept.service.pairs })
 new_fork before kept words number servable is lead = record {
@@ -121,11 +123,12 @@ new_fork before kept words number servable is lead = record {
 }
 
 -- what one more call makes of the snapshot
-fork_on : (before : List Entry) (kept : Kept) (words : List (List ℕ)) → IsServable words
+fork_on : (before : List Entry) (kept : BookState) (words : List (List ℕ)) → IsServable words
     → LeadAlong replay_opening (before ++ Call 0 words (reply_to kept words) ∷ []) (moment_of (kept_after kept words))
     → IfSome kept.snapshot (HasFork before)
     → (given : Reply) → reply_to kept words ≡ given
-    → IfSome (option_or (forked given kept.service.pairs) kept.snapshot) (HasFork (before ++ Call 0 words (reply_to kept words) ∷ []))
+    → IfSome (option_or (started_snapshot given kept.service.pairs) kept.snapshot)
+    (HasFork (before ++ Call 0 words (reply_to kept words) ∷ []))
 fork_on before kept words servable lead has reply.Ok is = forks_more before _ kept.snapshot has
 fork_on before kept words servable lead has reply.Pong is = forks_more before _ kept.snapshot has
 fork_on before kept words servable lead has (reply.Started number) is = new_fork before kept words number servable is lead
@@ -135,13 +138,13 @@ fork_on before kept words servable lead has (reply.Number value) is = forks_more
 fork_on before kept words servable lead has (reply.Bulk bytes) is = forks_more before _ kept.snapshot has
 fork_on before kept words servable lead has (reply.Error kind) is = forks_more before _ kept.snapshot has
 
-forks : (kept : Kept) (requests : List (List (List ℕ))) (before : List Entry) → AllByRecursion IsServable requests
+forks : (kept : BookState) (requests : List (List (List ℕ))) (before : List Entry) → AllByRecursion IsServable requests
     → LeadAlong replay_opening before (moment_of kept) → IfSome kept.snapshot (HasFork before)
     → IfSome (kept_behind kept requests).snapshot (HasFork (before ++ calls_from kept requests))
 forks kept [] before servable lead has = subst (λ history. IfSome kept.snapshot (HasFork history)) (sym (append-nil before)) has
 forks kept (words ∷ requests) before servable lead has =
     let call : Entry = Call 0 words (reply_to kept words) in
-    let next : Kept = kept_after kept words in
+    let next : BookState = kept_after kept words in
     let leads : LeadAlong replay_opening (before ++ call ∷ []) (moment_of next) =
     lead_append replay_opening (moment_of kept) (moment_of next) before (call ∷ []) lead (moment_of next, (lead_call kept words servable.0, refl)) in
     let has_next : IfSome next.snapshot (HasFork (before ++ call ∷ [])) = fork_on before kept words servable.0 leads has (reply_to kept words) refl in
@@ -178,7 +181,7 @@ served_calls : (outside : Outside) (requests : List (List (List ℕ))) → AllBy
 served_calls outside requests servable leaves = record {
   is_history = history_of_calls requests servable;
   files = nothing_published (calls_from opening_kept requests) outside.files outside.files_after (ends_calls opening_kept requests) leaves.files;
-  counted = subst (AreCounted replay_opening (calls_from opening_kept requests)) (sym (ends_calls opening_kept requests)) tt;
+  counted = subst (ArePairsCounted replay_opening (calls_from opening_kept requests)) (sym (ends_calls opening_kept requests)) tt;
   unrefused = ap refused_saves (ends_calls opening_kept requests);
   faults = omega (arith, leaves.faults, ap faults_of (ends_calls opening_kept requests));
 }
@@ -338,7 +341,7 @@ faults_saved snapshot saved.NoMemory outside so = omega (arith, so.faults)
 count_saved : (snapshot : Snapshot) (count : ℕ) (old new : Option Files) → Saves snapshot (saved.Ok count) old new → count ≡ length snapshot.pairs
 count_saved snapshot count old new saves = saves.0
 
-counted_saved : (history : List Entry) (snapshot : Snapshot) (end : Saved) (old new : Option Files) → HasFork history snapshot → Saves snapshot end old new → AreCounted replay_opening history ((snapshot.number, end) ∷ [])
+counted_saved : (history : List Entry) (snapshot : Snapshot) (end : Saved) (old new : Option Files) → HasFork history snapshot → Saves snapshot end old new → ArePairsCounted replay_opening history ((snapshot.number, end) ∷ [])
 counted_saved history snapshot (saved.Ok count) old new has saves =
     ((has.pairs, (has.forked, count_saved snapshot count old new saves ∙ ap length has.same ∙ sym (len-entries has.pairs))), tt)
 counted_saved history snapshot (saved.Lost at) old new has saves = absurd saves
@@ -369,7 +372,7 @@ served_saved outside requests snapshot end lives so =
     record {
       is_history = history_saved requests (snapshot.number, end) lives.servable lives.live;
       files = published_saved (saved_history requests (snapshot.number, end)) snapshot end outside.files outside.files_after (ends_saved requests (snapshot.number, end)) fork_saved so.saves;
-      counted = subst (AreCounted replay_opening (saved_history requests (snapshot.number, end))) (sym (ends_saved requests (snapshot.number, end)))
+      counted = subst (ArePairsCounted replay_opening (saved_history requests (snapshot.number, end))) (sym (ends_saved requests (snapshot.number, end)))
           (counted_saved (saved_history requests (snapshot.number, end)) snapshot end outside.files outside.files_after fork_saved so.saves);
       unrefused = ap refused_saves (ends_saved requests (snapshot.number, end)) ∙ unrefused_saved snapshot end outside.files outside.files_after so.saves;
       faults = subst (λ ends. min (outside.faults + faults_of ends) (2 ^ 64 - 1) ≤ outside.faults_after) (sym (ends_saved requests (snapshot.number, end))) (faults_saved snapshot end outside so);
@@ -409,18 +412,19 @@ opening_storable = record {
   each = subst (AllByRecursion FitsImage) (sym entries-empty) tt;
 }
 
-pub lives_in : (book : Book) (start : Kept) (requests : List (List (List ℕ))) (snapshot : Snapshot) → AllByRecursion IsServable requests
-    → start ≡ opening_kept → kept_in book ≡ kept_behind start requests → book.snapshot ≡ Some snapshot → Lives requests snapshot
+pub lives_in : (book : Book) (start : BookState) (requests : List (List (List ℕ))) (snapshot : Snapshot)
+    → AllByRecursion IsServable requests
+    → start ≡ opening_kept → book_state book ≡ kept_behind start requests → book.snapshot ≡ Some snapshot → Lives requests snapshot
 lives_in book start requests snapshot servable start_is kept is =
-    let whole : kept_in book ≡ kept_behind opening_kept requests = kept ∙ ap (λ k. kept_behind k requests) start_is in
+    let whole : book_state book ≡ kept_behind opening_kept requests = kept ∙ ap (λ k. kept_behind k requests) start_is in
     record {
       servable = servable;
-      live = sym (ap (λ k. k.service.live) whole) ∙ ap (λ s. option_to_list (option_map number_of s)) is;
+      live = sym (ap (λ k. k.service.live) whole) ∙ ap (λ s. option_to_list (option_map snapshot_number s)) is;
       kept = sym (ap (λ k. k.snapshot) whole) ∙ is;
     }
 
-pub none_lives : (book : Book) (start : Kept) (requests : List (List (List ℕ))) → start ≡ opening_kept → kept_in book ≡ kept_behind start requests → book.snapshot ≡ None
+pub none_lives : (book : Book) (start : BookState) (requests : List (List (List ℕ))) → start ≡ opening_kept → book_state book ≡ kept_behind start requests → book.snapshot ≡ None
     → (kept_behind opening_kept requests).service.live ≡ []
 none_lives book start requests start_is kept is =
-    let whole : kept_in book ≡ kept_behind opening_kept requests = kept ∙ ap (λ k. kept_behind k requests) start_is in
-    sym (ap (λ k. k.service.live) whole) ∙ ap (λ s. option_to_list (option_map number_of s)) is
+    let whole : book_state book ≡ kept_behind opening_kept requests = kept ∙ ap (λ k. kept_behind k requests) start_is in
+    sym (ap (λ k. k.service.live) whole) ∙ ap (λ s. option_to_list (option_map snapshot_number s)) is

@@ -4,11 +4,12 @@ use Rattle.std.specs.Prelude.{Option, None}
 use Rattle.kernel_meaning.specs.RefusedRequests.{PolicySum}
 use Rattle.server_top.specs.declared.status.Status.{Status}
 use Rattle.server_top.specs.declared.status.Status.TheVariants.{Done, Usage, BadScript, ReadFault, WriteFault, Protocol, TooLong, NoMemory}
-use Rattle.server_top.specs.RunPromise.{Streams, WasRead, Ran, RanText, script_limit, usage_of}
+use Rattle.server_top.specs.RunPromise.{Streams, WasRead, RanTrace, RanText, script_limit, usage_of}
 
 -- the text was read to its end, and then it ran so
 pub ran_text : (policies : PolicySum) (streams : Streams) (text : List ℕ) (status : Status)
-    → WasRead streams script_limit text → RanText text policies streams.written streams.written_after status → Ran policies streams status
+    → WasRead streams script_limit text → RanText text policies streams.written streams.written_after status
+    → RanTrace policies streams status
 ran_text policies streams text Done read ran = (text, (read, ran))
 ran_text policies streams text (Usage place) read ran = absurd ran
 ran_text policies streams text (BadScript line) read ran = (text, (read, ran))

@@ -2,8 +2,8 @@
 use Rattle.std.proofs.Common.{◌≡◌, ℕ, ◌+◌, ◌≤◌, ◌<◌, List, [], ◌∷◌, ◌++◌, length, drop, Option, Some, None, refl, sym, ◌∙◌, ap, subst, arith, length-append}
 use Rattle.std.specs.List.{AllByRecursion}
 use Rattle.std.proofs.lemmas.List.{append-nil, take-append-drop}
-use Rattle.resp_text.specs.Grammar.{IsRequest, IsStream, AreItems, AreWords, requests_of}
-use Rattle.resp_text.specs.Reading.{Reading, StandsFor, BreaksAt}
+use Rattle.resp_text.specs.Grammar.{IsRequest, IsStream, AreItems, AreWords, item_requests}
+use Rattle.resp_text.specs.Reading.{Reading, StandsForBytes, BreaksAt}
 use Rattle.resp_text.specs.declared.fault.ProtocolKind.{ProtocolKind}
 use Rattle.server_top.specs.ReplayPromise.{IsNoStream}
 use Rattle.server_top.specs.ReplayRun.{IsServable}
@@ -18,7 +18,7 @@ servable_request text words request = record {
   short = short_words request.rest words request.spelled;
 }
 
-servable_items : (text : List ℕ) (items : List (Option (List (List ℕ)))) → AreItems text items → AllByRecursion IsServable (requests_of items)
+servable_items : (text : List ℕ) (items : List (Option (List (List ℕ)))) → AreItems text items → AllByRecursion IsServable (item_requests items)
 servable_items text [] are = tt
 servable_items text (None ∷ items) are = servable_items are.1 items are.4
 servable_items text (Some words ∷ items) are = (servable_request are.0 words are.2, servable_items are.1 items are.4)
@@ -31,7 +31,7 @@ some_bytes text words request =
     let line : 0 < length request.line = rw request.count.2 (omega arith) in
     omega (arith, ap length request.is, length-append request.line request.rest, line)
 
-few_items : (text : List ℕ) (items : List (Option (List (List ℕ)))) → AreItems text items → length (requests_of items) ≤ length text
+few_items : (text : List ℕ) (items : List (Option (List (List ℕ)))) → AreItems text items → length (item_requests items) ≤ length text
 few_items text [] are = omega arith
 few_items text (None ∷ items) are =
     omega (arith, few_items are.1 items are.4, ap length are.3, length-append are.0 are.1)
@@ -51,12 +51,12 @@ no_bytes [] none = refl
 no_bytes (byte ∷ rest) none = absurd (omega (arith, none))
 
 -- a reader that stands for a text with nothing behind the last whole item has read a stream
-pub whole_text : (reader : Reading) (text : List ℕ) → StandsFor reader text [] → length reader.rest ≡ 0 → IsStream text reader.waiting
+pub whole_text : (reader : Reading) (text : List ℕ) → StandsForBytes reader text [] → length reader.rest ≡ 0 → IsStream text reader.waiting
 whole_text reader text stands none =
     let same : stands.whole ≡ text =
     sym (append-nil stands.whole) ∙ ap (λ rest. stands.whole ++ rest) (sym (no_bytes reader.rest none)) ∙ sym stands.is in
     subst (λ whole. IsStream whole reader.waiting) same stands.stream
 
 -- the same of a text that was read as a slice
-pub read_stream : (reader : Reading) (slice text : List ℕ) → slice ≡ text → StandsFor reader slice [] → length reader.rest ≡ 0 → IsStream text reader.waiting
+pub read_stream : (reader : Reading) (slice text : List ℕ) → slice ≡ text → StandsForBytes reader slice [] → length reader.rest ≡ 0 → IsStream text reader.waiting
 read_stream reader slice text same stands none = subst (λ t. IsStream t reader.waiting) same (whole_text reader slice stands none)

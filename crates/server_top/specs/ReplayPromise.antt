@@ -6,13 +6,13 @@ use Rattle.io_face.specs.Folder.{Files}
 use Rattle.resp_text.specs.Grammar.{IsStream}
 use Rattle.service_meaning.specs.History.{Moment, Entry, opening, LeadAlong, IsLegal, refusals, calls_of, ends_of}
 use Rattle.service_meaning.specs.SessionText.{requests_asked, replies_text}
-use Rattle.service_meaning.specs.SaveEnd.{report_text, AreCounted, FilesOf, faults_of, refused_saves}
+use Rattle.service_meaning.specs.SaveEnd.{report_text, ArePairsCounted, FilesOf, faults_of, refused_saves}
 use Rattle.kernel_meaning.specs.RefusedRequests.{PolicySum}
 use Rattle.server_top.specs.declared.words.Plan.{Plan}
 use Rattle.server_top.specs.declared.words.Plan.TheVariants.{Trace, Replay}
 use Rattle.server_top.specs.declared.status.Status.{Status}
 use Rattle.server_top.specs.declared.status.Status.TheVariants.{Done, Usage, BadScript, ReadFault, WriteFault, Protocol, TooLong, NoMemory}
-use Rattle.server_top.specs.RunPromise.{Streams, WasRead, Ran}
+use Rattle.server_top.specs.RunPromise.{Streams, WasRead, RanTrace}
 
 -- the most bytes of a stream of requests
 abbrev pub replay_limit : ℕ
@@ -28,13 +28,13 @@ pub record Outside : Type 0 where
   pub faults_after : ℕ
 
 -- what stands on all sides of a run: what an input had left, before it and after it, and what lies outside besides
-pub record Sides : Type 0 where
+pub record RunSides : Type 0 where
   pub left : Option (List ℕ)
   pub left_after : Option (List ℕ)
   pub outside : Outside
 
 -- the input and the output
-abbrev pub streams_of : Sides → Streams
+abbrev pub streams_of : RunSides → Streams
 streams_of sides = record {
   left = sides.left;
   left_after = sides.left_after;
@@ -86,7 +86,7 @@ Published history (Some old) after =
 pub record Served (outside : Outside) (requests : List (List (List ℕ))) (history : List Entry) : Type 0 where
   pub is_history : IsHistoryOf requests history
   pub files : Published history outside.files outside.files_after
-  pub counted : AreCounted replay_opening history (ends_of history)
+  pub counted : ArePairsCounted replay_opening history (ends_of history)
   pub unrefused : refused_saves (ends_of history) ≡ 0
   pub faults : min (outside.faults + faults_of (ends_of history)) (2 ^ 64 - 1) ≤ outside.faults_after
 
@@ -129,12 +129,12 @@ RanStream text outside TooLong = ⊥
 RanStream text outside NoMemory = IsUntouched outside ⊎ ReplayedSome text outside
 
 -- the input was read to its end, and this came of its text
-abbrev pub ReadAndRan : Sides → Status → Type 0
+abbrev pub ReadAndRan : RunSides → Status → Type 0
 ReadAndRan sides status = (text : List ℕ)
     × (WasRead (streams_of sides) replay_limit text × RanStream text sides.outside status)
 
 -- what `replay` read, wrote and published, by status; words and scripts are not what it may fail by
-abbrev pub RanReplay : Sides → Status → Type 0
+abbrev pub RanReplay : RunSides → Status → Type 0
 RanReplay sides Done = ReadAndRan sides Done
 RanReplay sides (Usage place) = ⊥
 RanReplay sides (BadScript line) = ⊥
@@ -149,9 +149,9 @@ RanReplay sides NoMemory =
     ⊎ ReadAndRan sides NoMemory
 
 -- what a top call read, wrote and published, by the command of its words; of the policies that it was handed this was known
-abbrev pub RanBy : Result Plan ℕ → PolicySum → Sides → Status → Type 0
+abbrev pub RanBy : Result Plan ℕ → PolicySum → RunSides → Status → Type 0
 RanBy (Err place) policies sides status =
     (status ≡ Usage place) × (sides.left_after ≡ sides.left) × IsUntouched sides.outside
 RanBy (Ok Trace) policies sides status =
-    Ran policies (streams_of sides) status × (sides.outside.files_after ≡ sides.outside.files)
+    RanTrace policies (streams_of sides) status × (sides.outside.files_after ≡ sides.outside.files)
 RanBy (Ok Replay) policies sides status = RanReplay sides status

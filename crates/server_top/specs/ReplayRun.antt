@@ -6,7 +6,7 @@ use Rattle.std.specs.FinMap.{entries, from_entries, insert, len}
 use Rattle.std.specs.declared.vec.Vec.{Vec}
 use Rattle.resp_text.specs.declared.reply.Reply.{Reply}
 use Rattle.resp_text.specs.declared.reply.Reply.TheVariants as reply
-use Rattle.resp_text.specs.Replies.{text_of}
+use Rattle.resp_text.specs.Replies.{text_of_reply}
 use Rattle.image_text.specs.Image.{FitsImage, pairs_text}
 use Rattle.io_face.specs.Folder.{Files}
 use Rattle.service_meaning.specs.declared.saved.Saved.{Saved}
@@ -15,7 +15,7 @@ use Rattle.service_meaning.specs.SaveEnd.{file_name, report_line}
 use Rattle.io_face.specs.Faults.{Rose}
 use Rattle.io_face.specs.Told.{Adds, AddsPrefix}
 use Rattle.server_top.specs.ReplayPromise.{Outside}
-use Rattle.service_meaning.specs.MapMachine.{Pairs, Service, Answer, answer}
+use Rattle.service_meaning.specs.MapMachine.{Pairs, Service, ServiceAnswer, answer}
 use Rattle.service_meaning.specs.History.{Entry, Call}
 use Rattle.server_top.specs.declared.replay.book.Book.{Book}
 use Rattle.server_top.specs.declared.replay.book.Snapshot.{Snapshot}
@@ -25,24 +25,24 @@ abbrev pub pairs_in : {A : Type 0} → List (Vec ℕ A × Vec ℕ A) → List (L
 pairs_in entries = map (λ entry. (entry.0.items, entry.1.items)) entries
 
 -- an ordered map of vectors as a finite map
-abbrev pub stored : {A : Type 0} → List (Vec ℕ A × Vec ℕ A) → Pairs
-stored entries = from_entries (pairs_in entries)
+abbrev pub stored_pairs : {A : Type 0} → List (Vec ℕ A × Vec ℕ A) → Pairs
+stored_pairs entries = from_entries (pairs_in entries)
 
 -- what a book keeps: the state of the service, and the snapshot that lives, if there is one
-pub record Kept : Type 0 where
+pub record BookState : Type 0 where
   pub service : Service
   pub snapshot : Option Snapshot
 
 -- the number of a snapshot
-abbrev pub number_of : Snapshot → ℕ
-number_of snapshot = snapshot.number
+abbrev pub snapshot_number : Snapshot → ℕ
+snapshot_number snapshot = snapshot.number
 
 -- what this book keeps; one snapshot may live
-abbrev pub kept_in : Book → Kept
-kept_in book = record {
+abbrev pub book_state : Book → BookState
+book_state book = record {
   service = record {
-    pairs = stored book.pairs.entries;
-    live = option_to_list (option_map number_of book.snapshot);
+    pairs = stored_pairs book.pairs.entries;
+    live = option_to_list (option_map snapshot_number book.snapshot);
     last = book.last;
     limit = 1;
   };
@@ -50,47 +50,48 @@ kept_in book = record {
 }
 
 -- the snapshot that a reply says was started of these pairs
-abbrev pub forked : Reply → Pairs → Option Snapshot
-forked reply.Ok pairs = None
-forked reply.Pong pairs = None
-forked (reply.Started number) pairs = Some (record { number = number; pairs = entries pairs })
-forked reply.Empty pairs = None
-forked reply.Null pairs = None
-forked (reply.Number value) pairs = None
-forked (reply.Bulk bytes) pairs = None
-forked (reply.Error kind) pairs = None
+abbrev pub started_snapshot : Reply → Pairs → Option Snapshot
+started_snapshot reply.Ok pairs = None
+started_snapshot reply.Pong pairs = None
+started_snapshot (reply.Started number) pairs =
+    Some (record { number = number; pairs = entries pairs })
+started_snapshot reply.Empty pairs = None
+started_snapshot reply.Null pairs = None
+started_snapshot (reply.Number value) pairs = None
+started_snapshot (reply.Bulk bytes) pairs = None
+started_snapshot (reply.Error kind) pairs = None
 
 -- a book that kept this gave this reply, as the answer to a request has it, and then keeps what the answer leaves
-abbrev pub Gives : Kept → Answer → Reply → Kept → Type 0
-Gives old given reply new = (reply ≡ given.0) × (new ≡ record {
+abbrev pub GivesReply : BookState → ServiceAnswer → Reply → BookState → Type 0
+GivesReply old given reply new = (reply ≡ given.0) × (new ≡ record {
   service = given.1;
-  snapshot = option_or (forked given.0 old.service.pairs) old.snapshot;
+  snapshot = option_or (started_snapshot given.0 old.service.pairs) old.snapshot;
 })
 
 -- the reply to a request
-abbrev pub reply_to : Kept → List (List ℕ) → Reply
+abbrev pub reply_to : BookState → List (List ℕ) → Reply
 reply_to kept words = (answer kept.service words).0
 
 -- what is kept behind a request
-abbrev pub kept_after : Kept → List (List ℕ) → Kept
+abbrev pub kept_after : BookState → List (List ℕ) → BookState
 kept_after kept words = record {
   service = (answer kept.service words).1;
-  snapshot = option_or (forked (reply_to kept words) kept.service.pairs) kept.snapshot;
+  snapshot = option_or (started_snapshot (reply_to kept words) kept.service.pairs) kept.snapshot;
 }
 
 -- what is kept behind some requests
-abbrev pub kept_behind : Kept → List (List (List ℕ)) → Kept
+abbrev pub kept_behind : BookState → List (List (List ℕ)) → BookState
 kept_behind kept [] = kept
 kept_behind kept (words ∷ requests) = kept_behind (kept_after kept words) requests
 
 -- the texts of the replies to some requests
-abbrev pub replies_from : Kept → List (List (List ℕ)) → List ℕ
+abbrev pub replies_from : BookState → List (List (List ℕ)) → List ℕ
 replies_from kept [] = []
 replies_from kept (words ∷ requests) =
-    text_of (reply_to kept words) ++ replies_from (kept_after kept words) requests
+    text_of_reply (reply_to kept words) ++ replies_from (kept_after kept words) requests
 
 -- the entries of some requests, all made by the one session
-abbrev pub calls_from : Kept → List (List (List ℕ)) → List Entry
+abbrev pub calls_from : BookState → List (List (List ℕ)) → List Entry
 calls_from kept [] = []
 calls_from kept (words ∷ requests) =
     Call 0 words (reply_to kept words) ∷ calls_from (kept_after kept words) requests

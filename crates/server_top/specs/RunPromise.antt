@@ -34,8 +34,8 @@ pub record WasRead (streams : Streams) (limit : ℕ) (text : List ℕ) : Type 0 
   pub within : length text ≤ limit
 
 -- the machine that a script runs on: its frames, its slots, and one snapshot at a time
-abbrev pub machine_of : ScriptParts → Machine
-machine_of script = record { frames = script.frames; slots = script.cells; limit = 1 }
+abbrev pub script_machine : ScriptParts → Machine
+script_machine script = record { frames = script.frames; slots = script.cells; limit = 1 }
 
 -- the lines of outcomes, one after another
 abbrev pub outcome_lines : List Outcome → List ℕ
@@ -46,7 +46,7 @@ pub record WroteLines (script : ScriptParts) (policies : PolicySum) (written aft
   pub outcomes : List Outcome
   pub refused : List ℕ
   pub end : KernelState
-  pub run : IsRun (machine_of script) 0 policies script.events outcomes refused end
+  pub run : IsRun (script_machine script) 0 policies script.events outcomes refused end
   pub lines : Adds written after (outcome_lines outcomes)
 
 -- some first events of a script ran, none or all of them too, and a prefix of their lines was written
@@ -57,7 +57,7 @@ pub record WroteSomeLines (script : ScriptParts) (policies : PolicySum) (written
   pub outcomes : List Outcome
   pub refused : List ℕ
   pub end : KernelState
-  pub run : IsRun (machine_of script) 0 policies first outcomes refused end
+  pub run : IsRun (script_machine script) 0 policies first outcomes refused end
   pub lines : AddsPrefix written after (outcome_lines outcomes)
 
 -- the text is the script of these parts, and its lines were written
@@ -87,17 +87,17 @@ ReadAndRanText policies streams status = (text : List ℕ)
     × (WasRead streams script_limit text × RanText text policies streams.written streams.written_after status)
 
 -- what `trace` read and wrote, by status, under policies of which this was known; words and requests are not what it may fail by
-abbrev pub Ran : PolicySum → Streams → Status → Type 0
-Ran policies streams Done = ReadAndRanText policies streams Done
-Ran policies streams (Usage place) = ⊥
-Ran policies streams (BadScript line) = ReadAndRanText policies streams (BadScript line)
-Ran policies streams ReadFault =
+abbrev pub RanTrace : PolicySum → Streams → Status → Type 0
+RanTrace policies streams Done = ReadAndRanText policies streams Done
+RanTrace policies streams (Usage place) = ⊥
+RanTrace policies streams (BadScript line) = ReadAndRanText policies streams (BadScript line)
+RanTrace policies streams ReadFault =
     TakesAtMost streams.left streams.left_after script_limit × WroteNothing streams
-Ran policies streams WriteFault = ReadAndRanText policies streams WriteFault
-Ran policies streams (Protocol place) = ⊥
-Ran policies streams TooLong =
+RanTrace policies streams WriteFault = ReadAndRanText policies streams WriteFault
+RanTrace policies streams (Protocol place) = ⊥
+RanTrace policies streams TooLong =
     TakesCount streams.left streams.left_after (script_limit + 1) × WroteNothing streams
-Ran policies streams NoMemory =
+RanTrace policies streams NoMemory =
     (TakesAtMost streams.left streams.left_after script_limit × WroteNothing streams) ⊎ ReadAndRanText policies streams NoMemory
 
 -- the place of a bad word

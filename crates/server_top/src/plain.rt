@@ -5,7 +5,7 @@ ghost use Rattle.frame_pool.specs.Policies.{standing};
 ghost use Rattle.trace_core.specs.SupplyState.{policy_sum};
 ghost use Rattle.server_top.specs.CommandWords.{bad_word, plan_of};
 ghost use Rattle.server_top.specs.ReplayPromise.{RanBy};
-ghost use Rattle.server_top.specs.RunPromise.{Ran, RanText, usage_of};
+ghost use Rattle.server_top.specs.RunPromise.{RanTrace, RanText, usage_of};
 
 use crate::replay::replay;
 use crate::run::{RunError, run_script};
@@ -71,12 +71,13 @@ fn trace<I: Source, O: Sink>(
     input: &mut I,
     output: &mut O,
 ) -> Status
-    ensures ran { Ran (policy_sum (standing (map (λ policy. told policy) policies.items))) (record {
-      left = I.left input.old;
-      left_after = I.left input.new;
-      written = O.written output.old;
-      written_after = O.written output.new;
-    }) result }
+    ensures ran { RanTrace (policy_sum (standing (map (λ policy. told policy) policies.items)))
+        (record {
+          left = I.left input.old;
+          left_after = I.left input.new;
+          written = O.written output.old;
+          written_after = O.written output.new;
+        }) result }
     ensures words { usage_of result ≡ None }
     ensures read_fault { result ≡ Status.ReadFault → Rose (I.faults input.old) (I.faults input.new) }
     ensures write_fault { result ≡ Status.WriteFault → Rose (O.faults output.old) (O.faults output.new) }

@@ -9,12 +9,12 @@ ghost use Rattle.trace_events.specs.declared.outcome.Outcome.{Outcome};
 ghost use Rattle.trace_events.specs.EventBounds.{IsWithinBounds, IsAboveLast, fork_number};
 ghost use Rattle.trace_text.specs.PrintedLines.{outcome_line};
 ghost use Rattle.trace_text.specs.ScriptGrammar.{AreForksRising};
-ghost use Rattle.trace_text.specs.SoFar.{parts_of};
+ghost use Rattle.trace_text.specs.SoFar.{script_parts};
 ghost use Rattle.trace_core.specs.KernelState.{Machine};
 ghost use Rattle.trace_core.specs.KernelRun.{HasRun};
 ghost use Rattle.trace_core.specs.SupplyState.{policy_sum};
 ghost use Rattle.server_top.specs.declared.run.RunError.TheVariants.{NoMemory as no_memory_left, WriteFault as write_failed};
-ghost use Rattle.server_top.specs.RunPromise.{WroteLines, WroteSomeLines, machine_of};
+ghost use Rattle.server_top.specs.RunPromise.{WroteLines, WroteSomeLines, script_machine};
 
 use frame_pool::FramePolicy;
 use io_face::{Failed, Sink, write_all};
@@ -58,13 +58,13 @@ pub(crate) fn run_script<O: Sink>(
     policies: Vec<Box<dyn FramePolicy + Send>>,
     output: &mut O,
 ) -> Result<(), RunError>
-    requires bounds { All IsWithinBounds (parts_of script.now).events }
-    requires rising { AreForksRising 0 (parts_of script.now).events }
-    requires cells { (parts_of script.now).cells ≤ 512 }
-    ensures ok { OnOk result (WroteLines (parts_of script.now)
+    requires bounds { All IsWithinBounds (script_parts script.now).events }
+    requires rising { AreForksRising 0 (script_parts script.now).events }
+    requires cells { (script_parts script.now).cells ≤ 512 }
+    ensures ok { OnOk result (WroteLines (script_parts script.now)
         (policy_sum (standing (map (λ policy. told policy) policies.items)))
         (O.written output.old) (O.written output.new)) }
-    ensures err { OnErr result (WroteSomeLines (parts_of script.now)
+    ensures err { OnErr result (WroteSomeLines (script_parts script.now)
         (policy_sum (standing (map (λ policy. told policy) policies.items)))
         (O.written output.old) (O.written output.new)) }
     ensures faults { O.faults output.old ≤ O.faults output.new }
@@ -81,14 +81,15 @@ fn run_events<O: Sink>(
     script: &Script,
     output: &mut O,
 ) -> Result<(), RunError>
-    requires bounds { All IsWithinBounds (parts_of script.now).events }
-    requires rising { AreForksRising (⟦<Kernel as Standing>⟧.parts kernel.old).last (parts_of script.now).events }
+    requires bounds { All IsWithinBounds (script_parts script.now).events }
+    requires rising { AreForksRising (⟦<Kernel as Standing>⟧.parts kernel.old).last (script_parts script.now).events }
     ensures ok { OnOk result ((policies : PolicySum)
-        → HasRun (⟦<Kernel as Standing>⟧.parts kernel.old) (machine_of (parts_of script.now)) 0 policies [] []
-        → WroteLines (parts_of script.now) policies (O.written output.old) (O.written output.new)) }
+        → HasRun (⟦<Kernel as Standing>⟧.parts kernel.old) (script_machine (script_parts script.now)) 0 policies [] []
+        → WroteLines (script_parts script.now) policies
+        (O.written output.old) (O.written output.new)) }
     ensures err { OnErr result ((policies : PolicySum)
-        → HasRun (⟦<Kernel as Standing>⟧.parts kernel.old) (machine_of (parts_of script.now)) 0 policies [] []
-        → WroteSomeLines (parts_of script.now) policies (O.written output.old) (O.written output.new)) }
+        → HasRun (⟦<Kernel as Standing>⟧.parts kernel.old) (script_machine (script_parts script.now)) 0 policies [] []
+        → WroteSomeLines (script_parts script.now) policies (O.written output.old) (O.written output.new)) }
     ensures faults { O.faults output.old ≤ O.faults output.new }
     ensures cause { IsErrOf result RunError.WriteFault → Rose (O.faults output.old) (O.faults output.new) }
 {

@@ -44,25 +44,25 @@ started (reply.Bulk bytes) = []
 started (reply.Error kind) = []
 
 -- an entry may come at a moment and leads to another: a reply is the machine's, a save is taken once it was started and ends once it was taken
-abbrev pub Leads : Moment → Entry → Moment → Type 0
-Leads old (Call caller words reply) new =
+abbrev pub EntryLeads : Moment → Entry → Moment → Type 0
+EntryLeads old (Call caller words reply) new =
     MayAnswer old.service words (reply, new.service)
     × (new.waiting ≡ old.waiting ++ started reply) × (new.saving ≡ old.saving)
-Leads old (Taken caller number) new = Contains old.waiting number × (new ≡ record old {
+EntryLeads old (Taken caller number) new = Contains old.waiting number × (new ≡ record old {
   waiting = without number old.waiting;
   saving = old.saving ++ number ∷ [];
 })
-Leads old (Ended caller number saved) new = Contains old.saving number × (new ≡ record old {
+EntryLeads old (Ended caller number saved) new = Contains old.saving number × (new ≡ record old {
   service = record old.service { live = without number old.service.live };
   saving = without number old.saving;
 })
-Leads old (Left caller) new = new ≡ old
+EntryLeads old (Left caller) new = new ≡ old
 
 -- entries lead from a moment to another, one after another
 abbrev pub LeadAlong : Moment → List Entry → Moment → Type 0
 LeadAlong old [] new = new ≡ old
 LeadAlong old (entry ∷ entries) new =
-    (next : Moment) × (Leads old entry next × LeadAlong next entries new)
+    (next : Moment) × (EntryLeads old entry next × LeadAlong next entries new)
 
 -- a history is legal from an opening moment on
 abbrev pub IsLegal : Moment → List Entry → Type 0

@@ -24,11 +24,11 @@ pub record Service : Type 0 where
   pub limit : ℕ
 
 -- a reply, and the state after it
-abbrev pub Answer : Type 0
-Answer = Reply × Service
+abbrev pub ServiceAnswer : Type 0
+ServiceAnswer = Reply × Service
 
 -- a request is answered with an error, and changes nothing
-abbrev pub refused : Service → ErrorKind → Answer
+abbrev pub refused : Service → ErrorKind → ServiceAnswer
 refused service kind = (reply.Error kind, service)
 
 -- a value, or that there is none
@@ -37,7 +37,7 @@ value_reply None = reply.Null
 value_reply (Some value) = reply.Bulk value
 
 -- SET: the key stands for the value
-abbrev pub set_answer : Service → List (List ℕ) → Answer
+abbrev pub set_answer : Service → List (List ℕ) → ServiceAnswer
 set_answer service [] = refused service kind.Arity
 set_answer service (key ∷ []) = refused service kind.Arity
 set_answer service (key ∷ value ∷ []) =
@@ -46,7 +46,7 @@ set_answer service (key ∷ value ∷ []) =
 set_answer service (key ∷ value ∷ more ∷ operands) = refused service kind.Arity
 
 -- GET: what the key stands for
-abbrev pub get_answer : Service → List (List ℕ) → Answer
+abbrev pub get_answer : Service → List (List ℕ) → ServiceAnswer
 get_answer service [] = refused service kind.Arity
 get_answer service (key ∷ []) =
     if is_long key then refused service kind.LongKey
@@ -61,7 +61,7 @@ with_snapshot service = record service {
 }
 
 -- BGSAVE: a snapshot with the next number is started, where one more may live and there is a number left
-abbrev pub save_answer : Service → List (List ℕ) → Answer
+abbrev pub save_answer : Service → List (List ℕ) → ServiceAnswer
 save_answer service [] =
     if nat_le service.limit (length service.live) then refused service kind.InProgress
     else if nat_le (2 ^ 32 - 1) service.last then refused service kind.Spent
@@ -69,14 +69,14 @@ save_answer service [] =
 save_answer service (more ∷ operands) = refused service kind.Arity
 
 -- what a command answers to its operands
-abbrev pub command_answer : Service → Option Command → List (List ℕ) → Answer
+abbrev pub command_answer : Service → Option Command → List (List ℕ) → ServiceAnswer
 command_answer service None operands = refused service kind.Unknown
 command_answer service (Some SetPair) operands = set_answer service operands
 command_answer service (Some GetValue) operands = get_answer service operands
 command_answer service (Some StartSave) operands = save_answer service operands
 
 -- what a request is answered where no frame is refused; its first word is the command's name
-abbrev pub answer : Service → List (List ℕ) → Answer
+abbrev pub answer : Service → List (List ℕ) → ServiceAnswer
 answer service [] = refused service kind.Unknown
 answer service (name ∷ operands) = command_answer service (command_of name) operands
 
@@ -103,7 +103,7 @@ frame_error (Some GetValue) given = None
 frame_error (Some StartSave) given = save_frame_error given
 
 -- a request may be answered so, and then leaves this state
-abbrev pub MayAnswer : Service → List (List ℕ) → Answer → Type 0
+abbrev pub MayAnswer : Service → List (List ℕ) → ServiceAnswer → Type 0
 MayAnswer service words given =
     (given ≡ answer service words)
     ⊎ ((Some given.0 ≡ option_map reply.Error (frame_error (command_in words) (answer service words).0)) × (given.1 ≡ service))

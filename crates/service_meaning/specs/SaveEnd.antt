@@ -46,14 +46,15 @@ FilesOf from history (end ∷ ends) old new =
     (next : Files) × (FileOf from history end old next × FilesOf from history ends next new)
 
 -- each save that ended well tells how many pairs there were at its fork
-abbrev pub AreCounted : Moment → List Entry → List (ℕ × Saved) → Type 0
-AreCounted from history [] = Unit {0}
-AreCounted from history ((number, saved.Ok count) ∷ ends) = ((pairs : Pairs)
-    × (IsForked from history number pairs × (count ≡ len pairs))) × AreCounted from history ends
-AreCounted from history ((number, saved.Lost at) ∷ ends) = AreCounted from history ends
-AreCounted from history ((number, saved.Refused at) ∷ ends) = AreCounted from history ends
-AreCounted from history ((number, saved.SinkFault) ∷ ends) = AreCounted from history ends
-AreCounted from history ((number, saved.NoMemory) ∷ ends) = AreCounted from history ends
+abbrev pub ArePairsCounted : Moment → List Entry → List (ℕ × Saved) → Type 0
+ArePairsCounted from history [] = Unit {0}
+ArePairsCounted from history ((number, saved.Ok count) ∷ ends) = ((pairs : Pairs)
+    × (IsForked from history number pairs × (count ≡ len pairs)))
+    × ArePairsCounted from history ends
+ArePairsCounted from history ((number, saved.Lost at) ∷ ends) = ArePairsCounted from history ends
+ArePairsCounted from history ((number, saved.Refused at) ∷ ends) = ArePairsCounted from history ends
+ArePairsCounted from history ((number, saved.SinkFault) ∷ ends) = ArePairsCounted from history ends
+ArePairsCounted from history ((number, saved.NoMemory) ∷ ends) = ArePairsCounted from history ends
 
 -- how many of some saves ended by a fault of the folder or of a file
 abbrev pub faults_of : List (ℕ × Saved) → ℕ

@@ -77,6 +77,28 @@ copies_all places tables n all first = record {
   counted = first.counted ∙ ap tables_at (take_all n tables all);
 }
 
+-- no table is behind those that were met
+none_behind : (tables : List Place) (i k : ℕ) → tables_at (take i tables) ≡ tables_at tables → i ≤ k → table_at tables k ≡ None
+none_behind [] i k met behind = refl
+none_behind (None ∷ tables) zero zero met behind = refl
+none_behind (None ∷ tables) zero (suc k) met behind = none_behind tables zero k met (omega arith)
+none_behind (Some table ∷ tables) zero k met behind = absurd (omega arith)
+none_behind (p ∷ tables) (suc i) zero met behind = absurd (omega arith)
+none_behind (None ∷ tables) (suc i) (suc k) met behind = none_behind tables i k met (omega arith)
+none_behind (Some table ∷ tables) (suc i) (suc k) met behind = none_behind tables i k (omega arith) (omega arith)
+
+-- all are copied once as many were met as there are
+pub copies_met : (places tables : List Place) (n : ℕ) → tables_at (take n tables) ≡ tables_at tables
+    → CopiesFirst places tables n → Copies places tables
+copies_met places tables n met first = record {
+  bytes = λ k. elim (cases_lt k n) [
+    | inl below ↦ first.copied k below
+    | inr beyond ↦ ap bytes_in (first.free k (omega arith)) ∙ sym (ap bytes_in (none_behind tables n k met (omega arith)))
+  ];
+  places = first.size;
+  counted = first.counted ∙ met;
+}
+
 -- the want of one table was refused, and what was granted for those before it was given back
 pub refuses_level : {State : Type 0} (goes : State → Deal → State → Type 0) (want : Want) (tables : List Place) (i : ℕ) (d : Place) (at n : ℕ) (old granted_then refused_then new : State) → i < length tables
     → LeadsAlong goes old (granted (replicate (tables_at (take i tables)) want)) granted_then

@@ -44,3 +44,19 @@ pub gives_more : {State : Type 0} (goes : State → Deal → State → Type 0) (
     → LeadsAlong goes old (returned n) new
 gives_more goes a b n old middle new before after sum =
     subst (λ deals. LeadsAlong goes old deals new) (returned-append a b ∙ ap returned (sym sum)) (LeadsAlong-append goes (returned a) (returned b) old middle new before after)
+
+-- ---- no table is behind those that were met
+free_list : (places : List Place) → tables_at places ≡ 0 → places ≡ replicate (length places) free
+free_list [] none = refl
+free_list (None ∷ places) none = ap (λ l. free ∷ l) (free_list places none)
+free_list (Some table ∷ places) none = absurd (omega arith)
+
+pub freed_all : (places : List Place) (i : ℕ) → i ≤ length places → tables_at (take i places) ≡ tables_at places
+    → freed i places ≡ replicate (length places) free
+freed_all [] zero inside met = refl
+freed_all [] (suc i) inside met = absurd (omega arith)
+freed_all (p ∷ places) zero inside met = free_list (p ∷ places) (sym met)
+freed_all (None ∷ places) (suc i) inside met = ap (λ l. free ∷ l) (freed_all places i (omega arith) met)
+freed_all (Some table ∷ places) (suc i) inside met =
+    let rest : tables_at (take i places) ≡ tables_at places = omega arith in
+    ap (λ l. free ∷ l) (freed_all places i (omega arith) rest)

@@ -116,6 +116,13 @@ slot_linked top uppers middles new_middles cell slot middle below directory at a
       counted = counted;
     }
 
+-- no upper table is fresh where the cell's is named
+pub unwanted_upper : (levels : Levels) (cell : ℕ) (fresh : Fresh) → IsSome (entry_in levels.top (cell / 512 / 512))
+    → HasFresh (wanted_for levels cell) fresh → tables_at (fresh.upper ∷ []) ≡ 0
+unwanted_upper levels cell fresh named is_fresh =
+    fresh_count (not (is_some (entry_in levels.top (cell / 512 / 512)))) Upper fresh.upper is_fresh.1
+    ∙ ap (λ b. length (wanted_if (not b) Upper)) named
+
 -- what is wanted is what the definition misses
 pub wanted_for_used : (levels : Levels) → IsUsed levels → (cell : ℕ) → cell < 2 ^ 27 → wanted_tables (wanted_for levels cell) ≡ missing_tables (keys (cells_of levels)) cell
 wanted_for_used levels directory cell below = by_middle (middle_of levels (cell / 512)) refl

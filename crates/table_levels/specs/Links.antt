@@ -1,10 +1,10 @@
 -- What a table that is put on the way to a cell changes.
-use Rattle.std.specs.Prelude.{◌≡◌, ◌≢◌, ℕ, ◌+◌, ◌/◌, ◌<◌, ◌^◌, true, not, List, length, Option, Some, IsSome, is_some, None}
+use Rattle.std.specs.Prelude.{◌≡◌, ◌≢◌, ℕ, ◌+◌, ◌/◌, ◌<◌, ◌^◌, true, not, List, [], ◌∷◌, length, Option, Some, IsSome, is_some, None}
 use Rattle.std.specs.FinMap.{insert, remove, keys}
 use Rattle.table_levels.specs.declared.frames.Wanted.{Wanted}
 use Rattle.table_levels.specs.Requests.{missing_tables}
 use Rattle.std.specs.Option.{option_or}
-use Rattle.table_levels.specs.Walks.{Place, Levels, entry_in, table_at, middle_at, middle_of, cells_of, tables_in, NamesUppers, AreNamed, AreDirectory}
+use Rattle.table_levels.specs.Walks.{Place, Levels, entry_in, table_at, tables_at, middle_at, middle_of, cells_of, tables_in, NamesUppers, AreNamed, AreDirectory}
 
 -- one entry of a table was set, and the others stay
 pub record SetsIn (old new : Place) (i : ℕ) (number : Option ℕ) : Type 0 where
@@ -18,6 +18,15 @@ pub record AddsMiddle (top : Place) (uppers : List Place) (new_top : Place) (new
   pub names : NamesUppers new_top new_uppers
   pub named : AreNamed new_top new_uppers
   pub kept : (i : ℕ) → i ≢ index / 512 → table_at new_uppers i ≡ table_at uppers i
+
+-- one table more, where there is a fresh one
+abbrev pub AddsTable : List Place → List Place → Place → Type 0
+AddsTable old new fresh = tables_at new ≡ tables_at old + tables_at (fresh ∷ [])
+
+-- the same of the upper tables, and of these with the top table
+pub record CountsMore (top new fresh upper : Place) (olds news : List Place) : Type 0 where
+  pub all : tables_at (new ∷ news) ≡ tables_at (top ∷ olds) + tables_at (fresh ∷ upper ∷ [])
+  pub uppers : AddsTable olds news upper
 
 -- a slot is named in a middle table, which may be fresh, and the others stay
 pub record PutsMiddle (old new : List Place) (place : ℕ) (fresh : Place) (i slot : ℕ) : Type 0 where

@@ -83,6 +83,11 @@ pub record IsDirectory (levels : Levels) (tables : ℕ) : Type 0 where
   pub taken : tables ≡ tables_of (cells_of levels)
   pub middles_taken : tables_at levels.middles ≡ middle_tables_of (cells_of levels)
 
+-- the same, with so many upper tables among them
+pub record IsCounted (levels : Levels) (tables upper_tables : ℕ) : Type 0 where
+  pub directory : IsDirectory levels tables
+  pub upper_counted : upper_tables ≡ tables_at levels.uppers
+
 -- the tables are those of a directory
 abbrev pub AreDirectory : Levels → Type 0
 AreDirectory levels = IsDirectory levels (tables_in levels)

@@ -3,11 +3,18 @@ ghost use Rattle.std.specs.Prelude.{◌≡◌, ◌+◌, ◌++◌, ◌∷◌, [],
 ghost use Rattle.vm_base.specs.declared.frame_request.Want.TheVariants.{Upper, Middle};
 ghost use Rattle.vm_base.specs.Deals.{Counts};
 ghost use Rattle.table_levels.specs.Requests.{Asks, Adds};
-ghost use Rattle.table_levels.specs.Copies.{Copies, bytes_in};
+ghost use Rattle.table_levels.specs.Copies.{Copies, HasRoom, bytes_in};
 ghost use Rattle.table_levels.specs.Walks.{tables_at};
 
-use crate::frames::give_all;
+use crate::frames::{count_of, give_all};
 use vm_base::{Allot, Frame, Refused, Want};
+
+/// How many tables there are below the top table.
+#[derive(Clone, Copy)]
+pub(crate) struct LowerTables {
+    pub uppers: u32,
+    pub middles: u32,
+}
 
 /// A copy of a table in a frame that is asked for, if the table is there.
 pub(crate) fn copy_of<A: Allot>(
@@ -30,14 +37,16 @@ pub(crate) fn copy_of<A: Allot>(
     Ok(Some(frame))
 }
 
-/// Copies the tables of a level, each to the place that it has, or none of them.
+/// Copies the tables of a level, each to the place that it has, or none of them. They are so many,
+/// and no place behind the last of them is looked at.
 fn copy_level<A: Allot>(
     places: &mut Vec<Option<Frame>>,
     tables: &[Option<Frame>],
+    count: u32,
     want: Want,
     allot: &mut A,
 ) -> Result<(), Refused>
-    requires free { places.old.items ≡ replicate (length tables.now) None }
+    requires room { HasRoom places.old.items tables.now count }
     requires untold { A.grants allot.old ≡ None }
     ensures copied { OnOk result (Copies places.new.items tables.now) }
     ensures kept { OnErr result (places.new.items ≡ places.old.items) }
@@ -46,11 +55,18 @@ fn copy_level<A: Allot>(
     ensures out { Adds A.out (A.state allot.old) (tables_at tables.now) result (A.state allot.new) }
     ensures untold { A.grants allot.new ≡ A.grants allot.old }
 {
+    let mut copied = 0;
     for i in 0..tables.len() {
+        if copied == count {
+            return Ok(());
+        }
         match copy_of(&tables[i], want, allot) {
-            Ok(copy) => places[i] = copy,
+            Ok(copy) => {
+                copied += count_of(&copy);
+                places[i] = copy;
+            }
             Err(refused) => {
-                give_all(places, allot);
+                give_all(places, copied, allot);
                 return Err(refused);
             }
         }
@@ -64,10 +80,11 @@ pub(crate) fn copy_lower<A: Allot>(
     middles: &mut Vec<Option<Frame>>,
     upper_tables: &[Option<Frame>],
     middle_tables: &[Option<Frame>],
+    counts: LowerTables,
     allot: &mut A,
 ) -> Result<(), Refused>
-    requires free_uppers { uppers.old.items ≡ replicate (length upper_tables.now) None }
-    requires free_middles { middles.old.items ≡ replicate (length middle_tables.now) None }
+    requires room_uppers { HasRoom uppers.old.items upper_tables.now counts.uppers }
+    requires room_middles { HasRoom middles.old.items middle_tables.now counts.middles }
     requires untold { A.grants allot.old ≡ None }
     ensures copied_uppers { OnOk result (Copies uppers.new.items upper_tables.now) }
     ensures copied_middles { OnOk result (Copies middles.new.items middle_tables.now) }
@@ -80,11 +97,11 @@ pub(crate) fn copy_lower<A: Allot>(
     ensures out { Adds A.out (A.state allot.old) (tables_at upper_tables.now + tables_at middle_tables.now) result (A.state allot.new) }
     ensures untold { A.grants allot.new ≡ A.grants allot.old }
 {
-    copy_level(uppers, upper_tables, Want::Upper, allot)?;
-    match copy_level(middles, middle_tables, Want::Middle, allot) {
+    copy_level(uppers, upper_tables, counts.uppers, Want::Upper, allot)?;
+    match copy_level(middles, middle_tables, counts.middles, Want::Middle, allot) {
         Ok(()) => Ok(()),
         Err(refused) => {
-            give_all(uppers, allot);
+            give_all(uppers, counts.uppers, allot);
             Err(refused)
         }
     }

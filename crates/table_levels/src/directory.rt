@@ -3,11 +3,11 @@ ghost use Rattle.std.specs.Prelude.{◌≡◌, ◌+◌, ◌-◌, ◌<◌, ◌≤
 ghost use Rattle.table_levels.specs.Walks.{entry_in, middle_at, NamesUppers};
 ghost use Rattle.std.specs.FinMap as map;
 ghost use Rattle.vm_base.specs.Deals.{LeadsAlong, Counts};
-ghost use Rattle.table_levels.specs.Cells.{first_from, tables_of};
+ghost use Rattle.table_levels.specs.Cells.{first_from, tables_of, middle_tables_of};
 ghost use Rattle.table_levels.specs.Requests.{missing_tables, directory_wants, returned, Asks, Adds};
 
-use crate::copying::{copy_lower, copy_of};
-use crate::frames::{Wanted, give_all, give_back, give_unused, take_fresh};
+use crate::copying::{LowerTables, copy_lower, copy_of};
+use crate::frames::{Wanted, count_of, give_all, give_back, give_unused, take_fresh};
 use crate::linking::link;
 use crate::search::first_slot;
 use crate::table::{ENTRIES, entry};
@@ -27,6 +27,9 @@ pub struct Directory {
     uppers: Vec<Option<Frame>>,
     middles: Vec<Option<Frame>>,
     tables: u32,
+    /// How many of the tables are upper ones. A walk over the places of a level ends once it has
+    /// met as many tables as there are.
+    upper_tables: u32,
 }
 
 impl Model for Directory {
@@ -34,7 +37,7 @@ impl Model for Directory {
     ghost use Rattle.std.specs.Ordering.{nat_cmp};
     ghost use Rattle.std.specs.Coded.{coded_ℕ};
     ghost use Rattle.std.specs.FinMap.{FinMap, code};
-    ghost use Rattle.table_levels.specs.Walks.{cells_of, IsDirectory};
+    ghost use Rattle.table_levels.specs.Walks.{cells_of, IsCounted};
 
     ghost Value = { FinMap nat_cmp ℕ };
 
@@ -42,7 +45,7 @@ impl Model for Directory {
 
     ghost view = { λ d. cells_of (record { top = d.top; uppers = d.uppers.items; middles = d.middles.items }) };
 
-    ghost invariant = { λ d. IsDirectory (record { top = d.top; uppers = d.uppers.items; middles = d.middles.items }) d.tables };
+    ghost invariant = { λ d. IsCounted (record { top = d.top; uppers = d.uppers.items; middles = d.middles.items }) d.tables d.upper_tables };
 }
 
 impl Directory {
@@ -55,6 +58,7 @@ impl Directory {
             uppers: empty_places(alloc)?,
             middles: empty_places(alloc)?,
             tables: 0,
+            upper_tables: 0,
         })
     }
 
@@ -64,6 +68,13 @@ impl Directory {
         ensures { result ≡ tables_of self.now }
     {
         self.tables
+    }
+
+    /// How many of them are middle tables.
+    fn middle_tables(&self) -> u32
+        ensures { result ≡ middle_tables_of self.now }
+    {
+        self.tables - self.upper_tables - count_of(&self.top)
     }
 
     /// The slot of a cell.
@@ -100,6 +111,7 @@ impl Directory {
         };
         let fresh = take_fresh(wanted, allot)?;
         self.tables += wanted.count();
+        self.upper_tables += count_of(&fresh.upper);
         link(
             &mut self.top,
             &mut self.uppers,
@@ -137,6 +149,7 @@ impl Directory {
         }
         let unused = unlink(&mut self.top, &mut self.uppers, &mut self.middles, cell);
         self.tables -= unused.count();
+        self.upper_tables -= count_of(&unused.upper);
         give_unused(unused, allot);
     }
 
@@ -155,16 +168,22 @@ impl Directory {
         ensures untold { A.grants allot.new ≡ A.grants allot.old }
     {
         let top = copy_of(&other.top, Want::Top, allot)?;
+        let counts = LowerTables {
+            uppers: other.upper_tables,
+            middles: other.middle_tables(),
+        };
         match copy_lower(
             &mut self.uppers,
             &mut self.middles,
             &other.uppers,
             &other.middles,
+            counts,
             allot,
         ) {
             Ok(()) => {
                 self.top = top;
                 self.tables = other.tables;
+                self.upper_tables = other.upper_tables;
                 Ok(())
             }
             Err(refused) => {
@@ -185,10 +204,12 @@ impl Directory {
         ensures unrefused { A.refused (A.state allot.new) ≡ A.refused (A.state allot.old) }
         ensures untold { A.grants allot.new ≡ A.grants allot.old }
     {
-        give_all(&mut self.middles, allot);
-        give_all(&mut self.uppers, allot);
+        let middle_tables = self.middle_tables();
+        give_all(&mut self.middles, middle_tables, allot);
+        give_all(&mut self.uppers, self.upper_tables, allot);
         give_back(self.top.take(), allot);
         self.tables = 0;
+        self.upper_tables = 0;
     }
 }
 

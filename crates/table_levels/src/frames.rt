@@ -90,6 +90,16 @@ fn take_if<A: Allot>(is_wanted: bool, want: Want, allot: &mut A) -> Result<Optio
     Ok(Some(allot.take(want)?))
 }
 
+/// One for a table that is there.
+pub(crate) fn count_of(table: &Option<Frame>) -> u32
+    ensures { result ≡ tables_at (table.now ∷ []) }
+{
+    match table {
+        Some(_) => 1,
+        None => 0,
+    }
+}
+
 /// Gives a table back, if it is there.
 pub(crate) fn give_back<A: Allot>(table: Option<Frame>, allot: &mut A)
     requires { tables_at (table ∷ []) ≤ A.out (A.state allot.old) }
@@ -117,16 +127,24 @@ pub(crate) fn give_unused<A: Allot>(unused: Unused, allot: &mut A)
     give_back(unused.top, allot);
 }
 
-/// Gives back the tables of all places, which are free then.
-pub(crate) fn give_all<A: Allot>(places: &mut Vec<Option<Frame>>, allot: &mut A)
-    requires { tables_at places.old.items ≤ A.out (A.state allot.old) }
+/// Gives back the tables of all places, which are free then. They are so many, and no place behind
+/// the last of them is looked at.
+pub(crate) fn give_all<A: Allot>(places: &mut Vec<Option<Frame>>, tables: u32, allot: &mut A)
+    requires counted { tables ≡ tables_at places.old.items }
+    requires lent { tables_at places.old.items ≤ A.out (A.state allot.old) }
     ensures free { places.new.items ≡ replicate (length places.old.items) None }
     ensures given { LeadsAlong A.goes (A.state allot.old) (returned (tables_at places.old.items)) (A.state allot.new) }
     ensures out { A.out (A.state allot.new) + tables_at places.old.items ≡ A.out (A.state allot.old) }
     ensures unrefused { A.refused (A.state allot.new) ≡ A.refused (A.state allot.old) }
     ensures untold { A.grants allot.new ≡ A.grants allot.old }
 {
+    let mut given = 0;
     for i in 0..places.len() {
-        give_back(places[i].take(), allot);
+        if given == tables {
+            return;
+        }
+        let table = places[i].take();
+        given += count_of(&table);
+        give_back(table, allot);
     }
 }

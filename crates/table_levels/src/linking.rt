@@ -3,7 +3,7 @@ ghost use Rattle.std.specs.Prelude.{◌≡◌, ◌≢◌, ◌+◌, ◌/◌, ◌<
 ghost use Rattle.std.specs.Option.{option_or};
 ghost use Rattle.table_levels.specs.Walks.{entry_in, table_at, middle_at, middle_of, slot_of, tables_at, levels_of, NamesUppers, AreNamed, AreDirectory};
 ghost use Rattle.table_levels.specs.Fresh.{IsFresh, HasFresh};
-ghost use Rattle.table_levels.specs.Links.{SetsIn, PutsMiddle, AddsMiddle, LinksCell, wanted_at, wanted_for};
+ghost use Rattle.table_levels.specs.Links.{SetsIn, PutsMiddle, AddsMiddle, AddsTable, CountsMore, LinksCell, wanted_at, wanted_for};
 
 use crate::directory::place_of;
 use crate::frames::Fresh;
@@ -50,7 +50,7 @@ fn link_upper(
     requires upper_fresh { IsFresh (not (is_some (entry_in top.old (index / 512)))) fresh_upper }
     ensures added { AddsMiddle top.old uppers.old.items top.new uppers.new.items index middle }
     ensures places { length uppers.new.items ≡ 512 }
-    ensures counted { tables_at (top.new ∷ uppers.new.items) ≡ tables_at (top.old ∷ uppers.old.items) + tables_at (fresh_top ∷ fresh_upper ∷ []) }
+    ensures counted { CountsMore top.old top.new fresh_top fresh_upper uppers.old.items uppers.new.items }
 {
     let upper = index as usize / ENTRIES;
     put_if_some(top, fresh_top);
@@ -108,6 +108,7 @@ fn link_cell(
     requires fewer { tables_at middles.old.items < 512 }
     requires fresh { HasFresh (wanted_at top.old (cell / 512 / 512)) fresh }
     ensures linked { LinksCell (levels_of top.old uppers.old.items middles.old.items) (levels_of top.new uppers.new.items middles.new.items) cell slot }
+    ensures upper_counted { AddsTable uppers.old.items uppers.new.items fresh.upper }
 {
     let Fresh {
         top: fresh_top,
@@ -141,6 +142,7 @@ pub(crate) fn link(
     requires fewer { tables_at middles.old.items < 512 }
     requires fresh { HasFresh (wanted_for (levels_of top.old uppers.old.items middles.old.items) cell) fresh }
     ensures linked { LinksCell (levels_of top.old uppers.old.items middles.old.items) (levels_of top.new uppers.new.items middles.new.items) cell slot }
+    ensures upper_counted { AddsTable uppers.old.items uppers.new.items fresh.upper }
 {
     match place_of(top, uppers, cell / ENTRIES as u32) {
         Some(middle) => {

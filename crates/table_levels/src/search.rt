@@ -1,12 +1,16 @@
 //! What is found first from a place on.
-ghost use Rattle.std.specs.Prelude.{◌≡◌, ◌+◌, ◌*◌, ◌/◌, ◌<◌, ◌^◌, length};
+ghost use Rattle.std.specs.Prelude.{◌≡◌, ◌+◌, ◌*◌, ◌/◌, ◌<◌, ◌≤◌, ◌^◌, ℕ, IsTrue, None, length, max};
 ghost use Rattle.table_levels.specs.First.{IsFirst};
+ghost use Rattle.table_levels.specs.Tables.{entry_at};
 ghost use Rattle.table_levels.specs.Walks.{entry_in, middle_at, slot_of, levels_of, NamesUppers, AreNamed, AreDirectory};
 ghost use Rattle.table_levels.specs.Links.{AreInUse};
 
-use crate::directory::{named_by, place_of};
-use crate::table::ENTRIES;
+use crate::directory::place_of;
+use crate::table::{ENTRIES, entry, is_zero};
 use vm_base::Frame;
+
+/// How many entries are looked at together.
+const BLOCK: usize = 8;
 
 /// How many middle tables there may be.
 const MIDDLES: u32 = 1 << 18;
@@ -18,12 +22,53 @@ const CELLS: u32 = 1 << 27;
 pub(crate) fn first_entry(table: &Option<Frame>, from: usize) -> Option<(usize, u32)>
     ensures { IsFirst 512 (entry_in table.now) from result }
 {
-    for i in from..ENTRIES {
-        if let Some(number) = named_by(table, i) {
+    match table {
+        Some(table) => first_in(table, from),
+        None => None,
+    }
+}
+
+/// The first entry of a table that is there. It goes block after block.
+fn first_in(table: &Frame, from: usize) -> Option<(usize, u32)>
+    ensures { IsFirst 512 (entry_at table.now.bytes) from result }
+{
+    for block in from / BLOCK..ENTRIES / BLOCK {
+        if let Some(found) = first_in_block(table, from, block) {
+            return Some(found);
+        }
+    }
+    None
+}
+
+/// The first entry of a block that is not below an index.
+fn first_in_block(table: &Frame, from: usize, block: usize) -> Option<(usize, u32)>
+    requires { block < 64 }
+    ensures { IsFirst (8 * block + 8) (entry_at table.now.bytes) (max from (8 * block)) result }
+{
+    let begin = BLOCK * block;
+    if is_bare(table, begin) {
+        return None;
+    }
+    for i in from.max(begin)..begin + BLOCK {
+        if let Some(number) = entry(table, i) {
             return Some((i, number));
         }
     }
     None
+}
+
+/// Whether the eight entries from an index on are all zero, and so name nothing.
+fn is_bare(table: &Frame, begin: usize) -> bool
+    requires { begin + 8 ≤ 512 }
+    ensures { IsTrue result → (k : ℕ) → begin ≤ k → k < begin + 8
+        → entry_at table.now.bytes k ≡ None }
+{
+    for i in begin..begin + BLOCK {
+        if !is_zero(table, i) {
+            return false;
+        }
+    }
+    true
 }
 
 /// The first middle table from an index on, by its index in all and its place.

@@ -1,5 +1,5 @@
 //! One table: a frame as 512 entries.
-ghost use Rattle.std.specs.Prelude.{◌≡◌, ◌<◌};
+ghost use Rattle.std.specs.Prelude.{◌≡◌, ◌<◌, IsTrue, None};
 ghost use Rattle.table_levels.specs.Tables.{entry_at, SetsEntry};
 
 use byteorder::{ByteOrder, LittleEndian};
@@ -20,6 +20,15 @@ pub(crate) fn entry(table: &Frame, i: usize) -> Option<u32>
     } else {
         None
     }
+}
+
+/// Whether an entry is zero, and so not present.
+pub(crate) fn is_zero(table: &Frame, i: usize) -> bool
+    requires { i < 512 }
+    ensures { IsTrue result → entry_at table.now.bytes i ≡ None }
+{
+    let bytes: &[u8] = table.bytes();
+    LittleEndian::read_u64(&bytes[8 * i..]) == 0
 }
 
 /// Names a number in an entry, or takes the entry out.

@@ -2,7 +2,7 @@
 ghost use Rattle.std.specs.Prelude.{◌≡◌, ◌+◌, ◌/◌, ◌<◌, ◌^◌, ◌∷◌, [], None, IsSome, length};
 ghost use Rattle.table_levels.specs.Requests.{wanted_tables};
 ghost use Rattle.table_levels.specs.Walks.{middle_at, slot_of, tables_at, levels_of, NamesUppers, AreNamed, AreDirectory};
-ghost use Rattle.table_levels.specs.Links.{SetsIn, IsInUse, DropsMiddle, UnlinksCell, wanted_at};
+ghost use Rattle.table_levels.specs.Links.{SetsIn, IsInUse, DropsMiddle, AddsTable, CountsMore, UnlinksCell, wanted_at};
 
 use crate::directory::place_of;
 use crate::linking::set_in;
@@ -21,7 +21,8 @@ pub(crate) struct Unused {
 impl Unused {
     /// No table.
     fn none() -> Unused
-        ensures { tables_at (result.top ∷ result.upper ∷ result.middle ∷ []) ≡ 0 }
+        ensures tables { tables_at (result.top ∷ result.upper ∷ result.middle ∷ []) ≡ 0 }
+        ensures upper { result.upper ≡ None }
     {
         Unused {
             top: None,
@@ -69,7 +70,7 @@ fn unlink_middle(
     requires there { IsSome (middle_at top.old uppers.old.items index) }
     ensures dropped { DropsMiddle top.old uppers.old.items top.new uppers.new.items index }
     ensures places { length uppers.new.items ≡ 512 }
-    ensures counted { tables_at (top.new ∷ uppers.new.items) + tables_at (result.0 ∷ result.1 ∷ []) ≡ tables_at (top.old ∷ uppers.old.items) }
+    ensures counted { CountsMore top.new top.old result.0 result.1 uppers.new.items uppers.old.items }
     ensures unused { tables_at (result.0 ∷ result.1 ∷ []) + 1 ≡ length (wanted_tables (wanted_at top.new (index / 512))) }
 {
     let upper = index as usize / ENTRIES;
@@ -90,6 +91,7 @@ pub(crate) fn unlink(
     requires directory { AreDirectory (levels_of top.old uppers.old.items middles.old.items) }
     requires there { IsSome (slot_of (levels_of top.old uppers.old.items middles.old.items) cell) }
     ensures unlinked { UnlinksCell (levels_of top.old uppers.old.items middles.old.items) (levels_of top.new uppers.new.items middles.new.items) cell (tables_at (result.top ∷ result.upper ∷ result.middle ∷ [])) }
+    ensures upper_counted { AddsTable uppers.new.items uppers.old.items result.upper }
 {
     let index = cell / ENTRIES as u32;
     let Some(place) = place_of(top, uppers, index) else {

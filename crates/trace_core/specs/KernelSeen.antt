@@ -1,11 +1,11 @@
 -- What a kernel is as a memory, as a process, and as the nest of its snapshot.
-use Rattle.std.specs.Prelude.{◌≡◌, ◌⊎◌, ℕ, ◌+◌, ◌/◌, ◌<◌, ◌≤◌, ◌==◌, if◌then◌else◌, max, length, Bool, true, false, List, [], ◌∷◌, Option, Some, None, IsSome, Result}
+use Rattle.std.specs.Prelude.{◌≡◌, ◌⊎◌, ℕ, ◌+◌, ◌/◌, ◌<◌, ◌≤◌, ◌==◌, if◌then◌else◌, max, length, Bool, true, false, List, [], ◌∷◌, Option, Some, None, IsSome, IsTrue, Result}
 use Rattle.std.specs.Option.{ForSome}
 use Rattle.std.specs.Ordering.{nat_cmp}
 use Rattle.std.specs.FinMap.{FinMap, get, empty}
 use Rattle.std.specs.FinSet as set
 use Rattle.vm_base.specs.Counts.{next_count}
-use Rattle.vm_base.specs.FlatMemory.{PageMap, FlatMemory, IsFlat, empty_memory, cells_of}
+use Rattle.vm_base.specs.FlatMemory.{FlatMemory, IsFlat, empty_memory, cells_of}
 use Rattle.vm_base.specs.MemoryState.{MemoryState, IsIn, IsListed, own_of}
 use Rattle.vm_base.specs.ProcessState.{Children, Remains}
 use Rattle.vm_base.specs.SnapshotState.{SnapshotState}
@@ -16,7 +16,9 @@ use Rattle.trace_events.specs.declared.outcome.Outcome.{Outcome}
 use Rattle.trace_events.specs.declared.outcome.Outcome.TheVariants.{Done, NoFrame}
 use Rattle.frame_pool.specs.Policies.{PolicyView}
 use Rattle.page_tables.specs.declared.tables.PageTables.{PageTables}
-use Rattle.page_tables.specs.Standing.{slot_count, slot_in}
+use Rattle.page_tables.specs.Standing.{slot_count}
+use Rattle.page_tables.specs.SlotViews.{used_in, ready_in, lost_in, waiting_in}
+use Rattle.page_tables.specs.TablesView.{views_of, pages_of, snapshot_has}
 use Rattle.vm_base.specs.declared.faults.Fault.{Fault}
 use Rattle.vm_base.specs.declared.faults.ForkFault.{ForkFault}
 use Rattle.vm_base.specs.declared.faults.ForkFault.TheVariants.{TooMany as TooManyLive, NumbersSpent}
@@ -25,13 +27,8 @@ use Rattle.trace_core.specs.TouchAnswers.{touch_outcome}
 use Rattle.trace_core.specs.KernelState.{Machine, KernelState}
 use Rattle.trace_core.specs.KernelStanding.{KernelParts, KernelStands, KeptAreas, areas_in, copies_refused_in}
 use Rattle.trace_core.specs.SupplyState.{state_of}
-use Rattle.trace_core.specs.TablesSeen.{pages_in, used_in, ready_in, lost_in, waiting_in}
 use Rattle.trace_core.specs.declared.parts.Parts.{Parts}
 use Rattle.trace_core.specs.declared.notes.Notes.{Notes}
-
--- the parent's pages
-abbrev pub pages_of : PageTables → PageMap
-pages_of tables = pages_in tables.slots.items
 
 -- ---- what a kernel is read off
 
@@ -83,8 +80,8 @@ memory_of parts most = record {
   refused = parts.supply.refused;
   room = parts.supply.made;
   slots = slot_count parts.tables;
-  used = used_in parts.tables.slots.items;
-  ready = ready_in parts.areas parts.tables.slots.items;
+  used = used_in (views_of parts.tables);
+  ready = ready_in parts.areas (views_of parts.tables);
   most = most;
   enough = None;
 }
@@ -174,11 +171,11 @@ pub record BesideChild : Type 0 where
 abbrev pub nest_of : KernelParts → KernelNotes → ℕ → SnapshotState
 nest_of parts notes number = record {
   mem = kept_in parts.snapshot notes.forked;
-  found = lost_in number parts.tables.slots.items;
+  found = lost_in number (views_of parts.tables);
   refused = copies_refused_in parts.snapshot;
-  todo = waiting_in number parts.tables.slots.items;
-  passed = waiting_in number parts.tables.slots.items == 0;
-  whole = waiting_in number parts.tables.slots.items == 0;
+  todo = waiting_in number (views_of parts.tables);
+  passed = waiting_in number (views_of parts.tables) == 0;
+  whole = waiting_in number (views_of parts.tables) == 0;
 }
 
 -- ---- what holds of a kernel
@@ -201,22 +198,22 @@ IsKernelNoted parts notes = (machine : Machine) × ((state : KernelState) × IsS
 
 -- each slot is used by a cell of the parent, or by one of the snapshot that lives
 abbrev pub AreSlotsUsed : KernelParts → KernelNotes → Type 0
-AreSlotsUsed parts notes = (cell : ℕ) → IsIn cell (used_in parts.tables.slots.items)
+AreSlotsUsed parts notes = (cell : ℕ) → IsIn cell (used_in (views_of parts.tables))
     → ∥ IsListed cell (cells_of (parent_of parts)) ⊎ (IsSome parts.snapshot × IsListed cell (cells_of (kept_in parts.snapshot notes.forked))) ∥₁
 
 -- each cell of the snapshot that lives uses a slot
 abbrev pub AreKeptUsed : KernelParts → KernelNotes → Type 0
 AreKeptUsed parts notes = IsSome parts.snapshot → (cell : ℕ) → IsListed cell (cells_of (kept_in parts.snapshot notes.forked))
-    → IsIn cell (used_in parts.tables.slots.items)
+    → IsIn cell (used_in (views_of parts.tables))
 
 -- what the notes tell of the snapshot that lives, and of refusals, holds
 pub record NotesHold (parts : KernelParts) (notes : KernelNotes) : Type 0 where
   -- each of the snapshot's cells had a page at its fork
-  pub cells : (c : ℕ) → IsSome (slot_in parts.tables.snapshot c) → IsListed c (cells_of (kept_in parts.snapshot notes.forked))
+  pub cells : (c : ℕ) → IsTrue (snapshot_has parts.tables c) → IsListed c (cells_of (kept_in parts.snapshot notes.forked))
   -- where it lives, no more requests were refused by its fork than by now
   pub born : IsSome parts.snapshot → notes.born ≤ parts.supply.refused
   -- each that it has lost was lost behind the fork
-  pub since : (n c at : ℕ) → get (lost_in n parts.tables.slots.items) c ≡ Some at → (next_count notes.born ≤ at) × (at ≤ parts.supply.refused)
+  pub since : (n c at : ℕ) → get (lost_in n (views_of parts.tables)) c ≡ Some at → (next_count notes.born ≤ at) × (at ≤ parts.supply.refused)
   -- its memory took no more frames than were noted
   pub own : own_of (kept_in parts.snapshot notes.forked) ≤ notes.most
   -- where enough is told no request is named to be refused, and it is no more than half of the frames, and one

@@ -8,7 +8,8 @@ use Rattle.kernel_meaning.specs.Requests.{Answer, answers_of}
 use Rattle.kernel_meaning.specs.FrameLaw.{losses_of}
 use Rattle.page_tables.specs.declared.tables.PageTables.{PageTables}
 use Rattle.page_tables.specs.Sides.{Sides}
-use Rattle.page_tables.specs.Standing.{TablesStandFor, number_of, slot_count}
+use Rattle.page_tables.specs.Standing.{TablesStandFor, slot_count}
+use Rattle.page_tables.specs.TablesView.{snapshot_number, IsEven}
 use Rattle.page_tables.specs.Held.{frames_of, frames_in, shares_in}
 use Rattle.trace_events.specs.declared.outcome.Outcome.{Outcome}
 use Rattle.trace_core.specs.declared.parts.SnapshotAreas.{SnapshotAreas}
@@ -70,14 +71,14 @@ pub record KernelStands (parts : KernelParts) (machine : Machine) (state : Kerne
   pub pages : FinMap nat_cmp PageMap
   pub areas : state.world.parent.areas ≡ parts.areas
   pub tables : TablesStandFor parts.tables (sides_of state pages)
-  pub number : number_of parts.tables.snapshot ≡ kept_number parts.snapshot
+  pub number : snapshot_number parts.tables ≡ kept_number parts.snapshot
   pub memories : kept_memories parts.snapshot pages state.world.snapshots
   pub losses : state.world.losses ≡ losses_of state.leaves
   pub last : state.world.last ≡ parts.last
   pub counts : state.world.refused_copies ≡ kept_counts parts.snapshot
   pub supply : IsSupplied machine state parts.supply
   pub out : parts.supply.out ≡ frames_of parts.tables
-  pub even : frames_in parts.tables.slots.items ≡ shares_in parts.tables.slots.items
+  pub even : IsEven parts.tables
   pub slots : slot_count parts.tables ≡ machine.slots
   pub limit : machine.limit ≡ 1
 

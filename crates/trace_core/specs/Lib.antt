@@ -3,7 +3,6 @@ pub mod SupplyState
 pub mod DealtSupply
 pub mod Answering
 pub mod KernelStanding
-pub mod TablesSeen
 pub mod KernelSeen
 pub mod KernelState
 pub mod EventMeaning

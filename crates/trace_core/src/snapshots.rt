@@ -12,8 +12,9 @@ ghost use Rattle.trace_core.specs.Writing.{WritesAfterSnapshot};
 ghost use Rattle.trace_core.specs.SnapshotAnswers.{snap_read_answer, KeepsUnlessLost};
 
 use crate::parts::{Parts, SnapshotAreas, Standing};
-use crate::writing::{PAGE_BYTES, first_outside, page_count};
+use crate::writing::{first_outside, page_count};
 use leaf_cell::LeafState;
+use page_tables::PAGE_BYTES;
 use trace_events::Outcome;
 
 // The fork

@@ -12,12 +12,10 @@ ghost use Rattle.trace_core.specs.TouchAnswers.{fault_outcome, touch_outcome, Is
 
 use crate::parts::{Parts, Standing};
 use area_list::{AreaFault, Areas};
+use page_tables::PAGE_BYTES;
 use std::alloc::Global;
 use trace_events::Outcome;
 use vm_base::{Fault, NoMemory, Perm};
-
-/// Bytes in a page.
-pub(crate) const PAGE_BYTES: u64 = 4096;
 
 impl Parts {
     /// Maps pages as an area, or says why not. No frame is asked for: a page takes its frames when

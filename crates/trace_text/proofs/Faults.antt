@@ -2,7 +2,7 @@
 use Rattle.std.proofs.Common.{◌≡◌, ℕ, zero, suc, ◌+◌, ◌<◌, ◌≤◌, Bool, true, false, cond, List, [], ◌∷◌, length, take, Option, Some, None, Result, Ok, Err, refl, ap, ◌∙◌, arith}
 use Rattle.std.specs.Option.{ok_or}
 use Rattle.trace_text.specs.ScriptGrammar.{is_skipped}
-use Rattle.trace_text.specs.SoFar.{SoFar, and_then, line_taken, lines_taken, with_kept}
+use Rattle.trace_text.specs.SoFar.{SoFar, and_then, line_taken, lines_taken, with_kept_line}
 use Rattle.trace_text.proofs.Readings.{broken}
 
 abbrev answer : Type 0
@@ -26,9 +26,9 @@ line_fault : (at : ℕ) (s : SoFar) (l : List ℕ) (line : ℕ) → line_taken a
 unfolding line_taken
 line_fault at s l line h = by (is_skipped l) h
   where
-    by : (skipped : Bool) → cond skipped (Ok s) (ok_or (with_kept s l s.machine) at) ≡ Err line → line ≡ at
+    by : (skipped : Bool) → cond skipped (Ok s) (ok_or (with_kept_line s l s.machine) at) ≡ Err line → line ≡ at
     by true e = absurd cc
-    by false e = ok_or_fault (with_kept s l s.machine) at line e
+    by false e = ok_or_fault (with_kept_line s l s.machine) at line e
 
 breaks_first : (at : ℕ) (s : SoFar) (l : List ℕ) (lines : List (List ℕ)) (line other : ℕ) → line_taken at s l ≡ Err other → broken {A = SoFar} other ≡ broken line → Breaks at s (l ∷ lines) line
 breaks_first at s l lines line other found same =

@@ -10,12 +10,12 @@ use Rattle.trace_events.specs.declared.event.Event.{Event}
 use Rattle.trace_events.specs.declared.event.Event.TheVariants.{Map, Unmap, Protect, Read, Write, Fill, Fork, Copy, Drop, SnapRead, Frames, ListAreas, Refuse}
 use Rattle.trace_events.specs.EventBounds.{IsWithinBounds}
 use Rattle.trace_text.specs.ScriptGrammar.{hexadecimal, perm_text, mode_text, range_text, event_line}
-use Rattle.trace_text.specs.ScriptReading.{parts_at, number_of, count_of, byte_of, bytes_of, perm_of, mode_of, page_at, range_of, area_of, map_event, unmap_event, protect_event, read_event, write_event, fill_event, fork_event, copy_event, drop_event, snap_read_event, refuse_event, snapshot_event, word_event, lone_event, event_by, event_of, is_within}
+use Rattle.trace_text.specs.ScriptReading.{parts_at, spelled_number, count_of, byte_of, bytes_of, perm_of, mode_of, page_at, range_of, spelled_area, map_event, unmap_event, protect_event, read_event, write_event, fill_event, fork_event, copy_event, drop_event, snap_read_event, refuse_event, snapshot_event, word_event, lone_event, event_by, event_of, is_within}
 use Rattle.trace_text.proofs.Bounds.{within_true, true_within}
 use Rattle.trace_text.proofs.Digits.{base_10, base_16}
 use Rattle.trace_text.proofs.Parts.{parts_at_again, parts_at_takes, with_parts}
 use Rattle.trace_text.proofs.Steps.{bind_some, only_if_some, some_is}
-use Rattle.trace_text.proofs.NumberLaws.{number_of_again, number_of_takes, number_lacks}
+use Rattle.trace_text.proofs.NumberLaws.{spelled_number_again, spelled_number_takes, number_lacks}
 use Rattle.trace_text.proofs.BytesLaws.{byte_takes, byte_again, bytes_of_again, bytes_of_takes}
 use Rattle.trace_text.proofs.TokenLaws.{chosen, same_bytes, perm_takes, perm_again, mode_takes, mode_again, page_takes, page_again, count_takes, count_again, range_fields, range_takes, range_again}
 
@@ -65,17 +65,17 @@ event_line-line_of (Refuse nth) = refl
 abbrev Spells : List ℕ → List ℕ → Event → Type 0
 Spells word fields e = word ++ 32 ∷ fields ≡ line_of e
 
-area_takes : (fields : List ℕ) (a : ℕ × ℕ × Perm) → area_of fields ≡ Some a → fields ≡ area_fields a.0 a.1 a.2
-unfolding area_of
+area_takes : (fields : List ℕ) (a : ℕ × ℕ × Perm) → spelled_area fields ≡ Some a → fields ≡ area_fields a.0 a.1 a.2
+unfolding spelled_area
 area_takes fields a h =
     let parts = bind_some (parts_at 32 fields) _ a h in
     let others = bind_some (parts_at 32 parts.0.1) _ a parts.2 in
     let first = bind_some (page_at parts.0.0) _ a others.2 in
-    let pages = bind_some (number_of 10 others.0.0) _ a first.2 in
+    let pages = bind_some (spelled_number 10 others.0.0) _ a first.2 in
     let perm = bind_some (perm_of others.0.1) _ a pages.2 in
     let is = some_is (first.0, pages.0, perm.0) a perm.2 in
     let address = page_takes parts.0.0 first.0 first.1 in
-    let count = (number_of_takes 10 others.0.0 pages.0 base_10 pages.1).spelled in
+    let count = (spelled_number_takes 10 others.0.0 pages.0 base_10 pages.1).spelled in
     let kind = perm_takes others.0.1 perm.0 perm.1 in
     let back = with_parts 32 parts.0.1 others.0.0 others.0.1 _ _ (parts_at_takes 32 parts.0.1 others.0 others.1) count kind in
     let whole = with_parts 32 fields parts.0.0 parts.0.1 _ _ (parts_at_takes 32 fields parts.0 parts.1) address back in
@@ -84,13 +84,13 @@ area_takes fields a h =
 map_takes : (fields : List ℕ) (e : Event) → map_event fields ≡ Some e → Spells (codes "map") fields e
 unfolding map_event
 map_takes fields e h =
-    let a = bind_some (area_of fields) _ e h in
+    let a = bind_some (spelled_area fields) _ e h in
     ap (λ (line : List ℕ). codes "map " ++ line) (area_takes fields a.0 a.1) ∙ ap line_of (some_is (Map a.0.0 a.0.1 a.0.2) e a.2)
 
 protect_takes : (fields : List ℕ) (e : Event) → protect_event fields ≡ Some e → Spells (codes "protect") fields e
 unfolding protect_event
 protect_takes fields e h =
-    let a = bind_some (area_of fields) _ e h in
+    let a = bind_some (spelled_area fields) _ e h in
     ap (λ (line : List ℕ). codes "protect " ++ line) (area_takes fields a.0 a.1) ∙ ap line_of (some_is (Protect a.0.0 a.0.1 a.0.2) e a.2)
 
 unmap_takes : (fields : List ℕ) (e : Event) → unmap_event fields ≡ Some e → Spells (codes "unmap") fields e
@@ -98,9 +98,9 @@ unfolding unmap_event
 unmap_takes fields e h =
     let parts = bind_some (parts_at 32 fields) _ e h in
     let first = bind_some (page_at parts.0.0) _ e parts.2 in
-    let pages = bind_some (number_of 10 parts.0.1) _ e first.2 in
+    let pages = bind_some (spelled_number 10 parts.0.1) _ e first.2 in
     let address = page_takes parts.0.0 first.0 first.1 in
-    let count = (number_of_takes 10 parts.0.1 pages.0 base_10 pages.1).spelled in
+    let count = (spelled_number_takes 10 parts.0.1 pages.0 base_10 pages.1).spelled in
     let whole = with_parts 32 fields parts.0.0 parts.0.1 _ _ (parts_at_takes 32 fields parts.0 parts.1) address count in
     ap (λ (line : List ℕ). codes "unmap " ++ line) whole ∙ ap line_of (some_is (Unmap first.0 pages.0) e pages.2)
 
@@ -114,9 +114,9 @@ write_takes : (fields : List ℕ) (e : Event) → write_event fields ≡ Some e 
 unfolding write_event
 write_takes fields e h =
     let parts = bind_some (parts_at 32 fields) _ e h in
-    let addr = bind_some (number_of 16 parts.0.0) _ e parts.2 in
+    let addr = bind_some (spelled_number 16 parts.0.0) _ e parts.2 in
     let bytes = bind_some (bytes_of parts.0.1) _ e addr.2 in
-    let address = (number_of_takes 16 parts.0.0 addr.0 base_16 addr.1).spelled in
+    let address = (spelled_number_takes 16 parts.0.0 addr.0 base_16 addr.1).spelled in
     let digits = bytes_of_takes parts.0.1 bytes.0 bytes.1 in
     let whole = with_parts 32 fields parts.0.0 parts.0.1 _ _ (parts_at_takes 32 fields parts.0 parts.1) address digits in
     ap (λ (line : List ℕ). codes "write " ++ line) whole ∙ ap line_of (some_is (Write addr.0 bytes.0) e bytes.2)
@@ -126,10 +126,10 @@ unfolding fill_event
 fill_takes fields e h =
     let parts = bind_some (parts_at 32 fields) _ e h in
     let others = bind_some (parts_at 32 parts.0.1) _ e parts.2 in
-    let addr = bind_some (number_of 16 parts.0.0) _ e others.2 in
+    let addr = bind_some (spelled_number 16 parts.0.0) _ e others.2 in
     let len = bind_some (count_of others.0.0) _ e addr.2 in
     let byte = bind_some (byte_of others.0.1) _ e len.2 in
-    let address = (number_of_takes 16 parts.0.0 addr.0 base_16 addr.1).spelled in
+    let address = (spelled_number_takes 16 parts.0.0 addr.0 base_16 addr.1).spelled in
     let count = count_takes others.0.0 len.0 len.1 in
     let digits = byte_takes others.0.1 byte.0 byte.1 in
     let back = with_parts 32 parts.0.1 others.0.0 others.0.1 _ _ (parts_at_takes 32 parts.0.1 others.0 others.1) count digits in
@@ -234,14 +234,14 @@ event_of_takes line e h =
 
 -- ---- what was spelled is read again
 
-area_again : (first pages : ℕ) (perm : Perm) → IsWithinBounds (Map first pages perm) → area_of (area_fields first pages perm) ≡ Some (first, pages, perm)
-unfolding area_of
+area_again : (first pages : ℕ) (perm : Perm) → IsWithinBounds (Map first pages perm) → spelled_area (area_fields first pages perm) ≡ Some (first, pages, perm)
+unfolding spelled_area
 area_again first pages perm h =
     let few = h.1 in
     let some = h.0 in
     let address = parts_at_again 32 (hexadecimal (first * 4096)) (decimal pages ++ 32 ∷ perm_text perm) (number_lacks 32 16 (first * 4096) refl base_16 (omega arith)) in
     let count = parts_at_again 32 (decimal pages) (perm_text perm) (number_lacks 32 10 pages refl base_10 (omega arith)) in
-    rw (address, count, page_again first (omega arith), number_of_again 10 pages base_10 (omega arith), perm_again perm) refl
+    rw (address, count, page_again first (omega arith), spelled_number_again 10 pages base_10 (omega arith), perm_again perm) refl
 
 unmap_again : (first pages : ℕ) → IsWithinBounds (Unmap first pages) → unmap_event (hexadecimal (first * 4096) ++ 32 ∷ decimal pages) ≡ Some (Unmap first pages)
 unfolding unmap_event
@@ -249,7 +249,7 @@ unmap_again first pages h =
     let few = h.1 in
     let some = h.0 in
     let address = parts_at_again 32 (hexadecimal (first * 4096)) (decimal pages) (number_lacks 32 16 (first * 4096) refl base_16 (omega arith)) in
-    rw (address, page_again first (omega arith), number_of_again 10 pages base_10 (omega arith)) refl
+    rw (address, page_again first (omega arith), spelled_number_again 10 pages base_10 (omega arith)) refl
 
 write_again : (addr : ℕ) (bytes : List ℕ) → IsWithinBounds (Write addr bytes) → write_event (hexadecimal addr ++ 32 ∷ encode_lower bytes) ≡ Some (Write addr bytes)
 unfolding write_event
@@ -257,7 +257,7 @@ write_again addr bytes h =
     let small : addr < 2 ^ 48 = omega (arith, h.0.0, h.0.2) in
     let parts = parts_at_again 32 (hexadecimal addr) (encode_lower bytes) (number_lacks 32 16 addr refl base_16 small) in
     let back = bytes_of_again bytes (recursion_from_All (λ byte. byte < 2 ^ 8) bytes h.1) in
-    rw (parts, number_of_again 16 addr base_16 small, back) refl
+    rw (parts, spelled_number_again 16 addr base_16 small, back) refl
 
 fill_again : (addr len byte : ℕ) → IsWithinBounds (Fill addr len byte) → fill_event (hexadecimal addr ++ 32 ∷ (decimal len ++ 32 ∷ encode_lower (byte ∷ []))) ≡ Some (Fill addr len byte)
 unfolding fill_event
@@ -266,7 +266,7 @@ fill_again addr len byte h =
     let few : len < 2 ^ 32 = omega (arith, h.0.1) in
     let address = parts_at_again 32 (hexadecimal addr) (decimal len ++ 32 ∷ encode_lower (byte ∷ [])) (number_lacks 32 16 addr refl base_16 small) in
     let count = parts_at_again 32 (decimal len) (encode_lower (byte ∷ [])) (number_lacks 32 10 len refl base_10 (omega arith)) in
-    rw (address, count, number_of_again 16 addr base_16 small, count_again len few, byte_again byte h.1) refl
+    rw (address, count, spelled_number_again 16 addr base_16 small, count_again len few, byte_again byte h.1) refl
 
 fork_again : (number : ℕ) (mode : Mode) → number < 2 ^ 32 → fork_event (decimal number ++ 32 ∷ mode_text mode) ≡ Some (Fork number mode)
 unfolding fork_event

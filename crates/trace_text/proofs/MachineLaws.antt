@@ -5,7 +5,7 @@ use Rattle.std.specs.Str.{bytes_eq}
 use Rattle.std.proofs.lemmas.Bool.{le-leb, leb-true, and_parts}
 use Rattle.trace_text.specs.declared.machine.Machine.{Machine}
 use Rattle.trace_text.specs.ScriptGrammar.{IsMachineLine}
-use Rattle.trace_text.specs.ScriptReading.{parts_at, count_of, machine_by, machine_fields, machine_of, is_machine}
+use Rattle.trace_text.specs.ScriptReading.{parts_at, count_of, machine_by, machine_fields, spelled_machine, is_machine}
 use Rattle.trace_text.proofs.Digits.{base_10}
 use Rattle.trace_text.proofs.Parts.{parts_at_again, parts_at_takes, parts_at_lacks, with_parts}
 use Rattle.trace_text.proofs.Steps.{bind_some, guard_some, only_if_some, some_is}
@@ -65,9 +65,9 @@ pub record IsMachine (line : List ℕ) (m : Machine) : Type 0 where
   pub spelled : IsMachineLine line m.frames m.cells
   pub within : IsWithin m.frames m.cells
 
-pub machine_of_takes : (line : List ℕ) (m : Machine) → machine_of line ≡ Some m → IsMachine line m
-unfolding machine_of machine_fields
-machine_of_takes line m h =
+pub spelled_machine_takes : (line : List ℕ) (m : Machine) → spelled_machine line ≡ Some m → IsMachine line m
+unfolding spelled_machine machine_fields
+spelled_machine_takes line m h =
     let parts = bind_some (parts_at 32 line) _ m h in
     let read = bind_some (cond (bytes_eq parts.0.0 (codes "machine")) (machine_fields parts.0.1) None) _ m parts.2 in
     let word = guard_some (bytes_eq parts.0.0 (codes "machine")) (machine_fields parts.0.1) read.0 read.1 in
@@ -95,15 +95,15 @@ fields_short frames many =
     let parts = parts_at_lacks 32 (decimal frames) (number_lacks 32 10 frames refl base_10 (omega arith)) in
     rw (parts, count_again frames (omega arith)) refl
 
-by_fields : (fields : List ℕ) (m : Machine) → machine_fields fields ≡ Some m → IsWithin m.frames m.cells → machine_of (codes "machine " ++ fields) ≡ Some m
-unfolding machine_of
+by_fields : (fields : List ℕ) (m : Machine) → machine_fields fields ≡ Some m → IsWithin m.frames m.cells → spelled_machine (codes "machine " ++ fields) ≡ Some m
+unfolding spelled_machine
 by_fields fields m read h = rw (read, true_within m h) refl
 
-pub machine_of_again : (line : List ℕ) (frames cells : ℕ) → IsMachineLine line frames cells → IsWithin frames cells → machine_of line ≡ Some (record { frames = frames; cells = cells })
-machine_of_again line frames cells (inl long) h =
-    ap machine_of (long ∙ long_line-nested frames cells)
+pub spelled_machine_again : (line : List ℕ) (frames cells : ℕ) → IsMachineLine line frames cells → IsWithin frames cells → spelled_machine line ≡ Some (record { frames = frames; cells = cells })
+spelled_machine_again line frames cells (inl long) h =
+    ap spelled_machine (long ∙ long_line-nested frames cells)
     ∙ by_fields (decimal frames ++ 32 ∷ decimal cells) (record { frames = frames; cells = cells }) (fields_long frames cells h) h
-machine_of_again line frames cells (inr short) h =
+spelled_machine_again line frames cells (inr short) h =
     let read : machine_fields (decimal frames) ≡ Some (record { frames = frames; cells = cells }) =
     fields_short frames h.many_frames ∙ ap (λ (n : ℕ). Some (record { frames = frames; cells = n })) (sym short.1) in
-    ap machine_of short.0 ∙ by_fields (decimal frames) (record { frames = frames; cells = cells }) read h
+    ap spelled_machine short.0 ∙ by_fields (decimal frames) (record { frames = frames; cells = cells }) read h

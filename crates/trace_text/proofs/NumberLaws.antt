@@ -4,7 +4,7 @@ use Rattle.std.specs.Fmt.{digits, digit_glyph}
 use Rattle.std.proofs.lemmas.Bool.{cases_lt, ne_eqb, lt-ltb, ltb-true, leb-true, eqb-false, and_parts}
 use Rattle.std.proofs.lemmas.List.{append-nil}
 use Rattle.std.proofs.lemmas.Bool.Decides.{nat_tests}
-use Rattle.trace_text.specs.ScriptReading.{digit_of, digits_read, number_of}
+use Rattle.trace_text.specs.ScriptReading.{digit_of, digits_read, spelled_number}
 use Rattle.trace_text.proofs.Digits.{IsBase}
 use Rattle.trace_text.proofs.Parts.{Lacks}
 use Rattle.trace_text.proofs.Steps.{bind_some, guard_some, some_is}
@@ -158,19 +158,19 @@ starts_above base (suc bound) n b below some small =
           rw (s.2, spelled) (StartsAbove-append (digits base false s.0) (digit_glyph false s.1 ∷ []) front)
     ]
 
-number_of-starts : (base : ℕ) (text : List ℕ) → StartsAbove text → number_of base text ≡ digits_read base 0 text
+spelled_number-starts : (base : ℕ) (text : List ℕ) → StartsAbove text → spelled_number base text ≡ digits_read base 0 text
 unfolding StartsAbove
-number_of-starts base [] h = absurd h
-number_of-starts base (c ∷ []) h = refl
-number_of-starts base (c ∷ d ∷ cs) h = rw (ne_eqb c 48 h) refl
+spelled_number-starts base [] h = absurd h
+spelled_number-starts base (c ∷ []) h = refl
+spelled_number-starts base (c ∷ d ∷ cs) h = rw (ne_eqb c 48 h) refl
 
-pub number_of_again : (base n : ℕ) → IsBase base → n < 2 ^ 48 → number_of base (digits base false n) ≡ Some n
-number_of_again base zero b small =
+pub spelled_number_again : (base n : ℕ) → IsBase base → n < 2 ^ 48 → spelled_number base (digits base false n) ≡ Some n
+spelled_number_again base zero b small =
     let one = b.one 0 (omega (arith, b.low)) in
     let read = digits_read_again base 0 b small in
     rw one (rw one at read)
-number_of_again base (suc k) b small =
-    number_of-starts base (digits base false (suc k)) (starts_above base (suc (suc k)) (suc k) b (omega arith) (omega arith) small)
+spelled_number_again base (suc k) b small =
+    spelled_number-starts base (digits base false (suc k)) (starts_above base (suc (suc k)) (suc k) b (omega arith) (omega arith) small)
     ∙ digits_read_again base (suc k) b small
 
 pub number_lacks : (byte base n : ℕ) → digit_of byte ≡ None → IsBase base → n < 2 ^ 48 → Lacks byte (digits base false n)
@@ -205,14 +205,14 @@ digits_first base c d cs m b is below some read =
     let front : c ∷ cs ≡ digits base false d ++ cs = rw (b.one d below, glyph_of_digit c d is) refl in
     record { spelled = front ∙ rest.spelled; small = rest.small }
 
-pub number_of_takes : (base : ℕ) (text : List ℕ) (n : ℕ) → IsBase base → number_of base text ≡ Some n → IsNumber base text n
-number_of_takes base [] n b e = absurd cc
-number_of_takes base (c ∷ []) n b e =
+pub spelled_number_takes : (base : ℕ) (text : List ℕ) (n : ℕ) → IsBase base → spelled_number base text ≡ Some n → IsNumber base text n
+spelled_number_takes base [] n b e = absurd cc
+spelled_number_takes base (c ∷ []) n b e =
     let f = digits_read_first base 0 c [] n e in
     let value : f.digit ≡ n = omega (arith, some_is (0 * base + f.digit) n f.others) in
     let spelled : c ∷ [] ≡ digits base false n = rw (← value, b.one f.digit f.below, glyph_of_digit c f.digit f.is) refl in
     record { spelled = spelled; small = omega (arith, f.small) }
-number_of_takes base (c ∷ d ∷ cs) n b e = by (eqb c 48) refl e
+spelled_number_takes base (c ∷ d ∷ cs) n b e = by (eqb c 48) refl e
   where
     by : (led : Bool) → eqb c 48 ≡ led → cond led None (digits_read base 0 (c ∷ d ∷ cs)) ≡ Some n → IsNumber base (c ∷ d ∷ cs) n
     by true same e = absurd cc

@@ -9,12 +9,12 @@ use Rattle.std.proofs.lemmas.List.Elements.{All-push, All-from_recursion}
 use Rattle.trace_events.specs.declared.event.Event.{Event}
 use Rattle.trace_events.specs.EventBounds.{IsWithinBounds, fork_number}
 use Rattle.trace_text.specs.declared.machine.Machine.{Machine}
-use Rattle.trace_text.specs.ScriptGrammar.{ScriptParts, AreForksRising, AreLinesOf, IsMachineLine, event_line, is_skipped, kept}
-use Rattle.trace_text.specs.ScriptReading.{event_of, machine_of}
-use Rattle.trace_text.specs.SoFar.{SoFar, and_then, is_above, line_taken, lines_taken, next_event, nothing_read, said, with_kept, with_machine}
+use Rattle.trace_text.specs.ScriptGrammar.{ScriptParts, AreForksRising, AreLinesOf, IsMachineLine, event_line, is_skipped, kept_lines}
+use Rattle.trace_text.specs.ScriptReading.{event_of, spelled_machine}
+use Rattle.trace_text.specs.SoFar.{SoFar, and_then, is_above, line_taken, lines_taken, next_event, no_lines_read, said, with_kept_line, with_machine}
 use Rattle.trace_text.proofs.Steps.{bind_some, only_if_some, some_is}
 use Rattle.trace_text.proofs.LineLaws.{IsLine, event_of_takes, event_of_again}
-use Rattle.trace_text.proofs.MachineLaws.{IsMachine, IsWithin, machine_of_takes, machine_of_again}
+use Rattle.trace_text.proofs.MachineLaws.{IsMachine, IsWithin, spelled_machine_takes, spelled_machine_again}
 
 -- ---- steps that answered
 
@@ -44,27 +44,30 @@ ok_is x y e = cc
 
 -- ---- lines one behind another
 
-kept-append : (xs ys : List (List ℕ)) → kept (xs ++ ys) ≡ kept xs ++ kept ys
-kept-append [] ys = refl
-kept-append (x ∷ xs) ys = by (is_skipped x) (kept-append xs ys)
+kept_lines-append : (xs ys : List (List ℕ)) → kept_lines (xs ++ ys) ≡ kept_lines xs ++ kept_lines ys
+kept_lines-append [] ys = refl
+kept_lines-append (x ∷ xs) ys = by (is_skipped x) (kept_lines-append xs ys)
   where
-    by : (skipped : Bool) → kept (xs ++ ys) ≡ kept xs ++ kept ys
-        → cond skipped (kept (xs ++ ys)) (x ∷ kept (xs ++ ys)) ≡ cond skipped (kept xs) (x ∷ kept xs) ++ kept ys
+    by : (skipped : Bool) → kept_lines (xs ++ ys) ≡ kept_lines xs ++ kept_lines ys
+        → cond skipped (kept_lines (xs ++ ys)) (x ∷ kept_lines (xs ++ ys))
+        ≡ cond skipped (kept_lines xs) (x ∷ kept_lines xs) ++ kept_lines ys
     by true e = e
     by false e = ap (λ (lines : List (List ℕ)). x ∷ lines) e
 
-kept_alone : (line : List ℕ) → is_skipped line ≡ false → kept (line ∷ []) ≡ line ∷ []
+kept_alone : (line : List ℕ) → is_skipped line ≡ false → kept_lines (line ∷ []) ≡ line ∷ []
 kept_alone line is = rw is refl
 
-kept_none : (line : List ℕ) → is_skipped line ≡ true → kept (line ∷ []) ≡ []
+kept_none : (line : List ℕ) → is_skipped line ≡ true → kept_lines (line ∷ []) ≡ []
 kept_none line is = rw is refl
 
-kept_push : (lines : List (List ℕ)) (line : List ℕ) → is_skipped line ≡ false → kept (lines ++ line ∷ []) ≡ kept lines ++ line ∷ []
-kept_push lines line is = kept-append lines (line ∷ []) ∙ ap (λ (back : List (List ℕ)). kept lines ++ back) (kept_alone line is)
+kept_push : (lines : List (List ℕ)) (line : List ℕ) → is_skipped line ≡ false
+    → kept_lines (lines ++ line ∷ []) ≡ kept_lines lines ++ line ∷ []
+kept_push lines line is = kept_lines-append lines (line ∷ []) ∙ ap (λ (back : List (List ℕ)). kept_lines lines ++ back) (kept_alone line is)
 
-kept_skip : (lines : List (List ℕ)) (line : List ℕ) → is_skipped line ≡ true → kept (lines ++ line ∷ []) ≡ kept lines
+kept_skip : (lines : List (List ℕ)) (line : List ℕ) → is_skipped line ≡ true → kept_lines (lines ++ line ∷ []) ≡ kept_lines lines
 kept_skip lines line is =
-    kept-append lines (line ∷ []) ∙ ap (λ (back : List (List ℕ)). kept lines ++ back) (kept_none line is) ∙ append-nil (kept lines)
+    kept_lines-append lines (line ∷ []) ∙ ap (λ (back : List (List ℕ)). kept_lines lines ++ back) (kept_none line is)
+    ∙ append-nil (kept_lines lines)
 
 -- ---- forks one behind another
 
@@ -109,13 +112,13 @@ next_event_again last e bounds above = rw (event_of_again e bounds, true_above l
 
 -- without the machine's line no line says anything; with it the lines are those of a script
 abbrev StandsBy : List (List ℕ) → Option Machine → List Event → ℕ → Type 0
-StandsBy lines None events last = (kept lines ≡ []) × (events ≡ []) × (last ≡ 0)
+StandsBy lines None events last = (kept_lines lines ≡ []) × (events ≡ []) × (last ≡ 0)
 StandsBy lines (Some machine) events last = AreLinesOf lines (said machine events) × (last ≡ last_of 0 events)
 
 abbrev pub Stands : List (List ℕ) → SoFar → Type 0
 Stands lines s = StandsBy lines s.machine s.events s.last
 
-pub stands_empty : Stands [] nothing_read
+pub stands_empty : Stands [] no_lines_read
 stands_empty = (refl, refl, refl)
 
 stands_skip : (lines : List (List ℕ)) (line : List ℕ) (machine : Option Machine) (events : List Event) (last : ℕ) → is_skipped line ≡ true → StandsBy lines machine events last → StandsBy (lines ++ line ∷ []) machine events last
@@ -139,7 +142,7 @@ stands_machine : (lines : List (List ℕ)) (line : List ℕ) (m : Machine) (even
     → StandsBy lines None events last → StandsBy (lines ++ line ∷ []) (Some m) events last
 stands_machine lines line m events last is machine h =
     let none : events ≡ [] = h.1 in
-    let spelled : kept (lines ++ line ∷ []) ≡ line ∷ [] = kept_push lines line is ∙ ap (λ (front : List (List ℕ)). front ++ line ∷ []) h.0 in
+    let spelled : kept_lines (lines ++ line ∷ []) ≡ line ∷ [] = kept_push lines line is ∙ ap (λ (front : List (List ℕ)). front ++ line ∷ []) h.0 in
     let first : AreLinesOf (lines ++ line ∷ []) (said m []) = record {
       first = line;
       machine = machine.spelled;
@@ -158,7 +161,7 @@ stands_event lines line m events last e is next h =
     let are = h.0 in
     let pushed : map event_line (events ++ e ∷ []) ≡ map event_line events ++ line ∷ [] =
     map-append event_line events (e ∷ []) ∙ ap (λ (l : List ℕ). map event_line events ++ l ∷ []) (sym next.own.spelled) in
-    let spelled : kept (lines ++ line ∷ []) ≡ are.first ∷ map event_line (events ++ e ∷ []) =
+    let spelled : kept_lines (lines ++ line ∷ []) ≡ are.first ∷ map event_line (events ++ e ∷ []) =
     kept_push lines line is ∙ ap (λ (front : List (List ℕ)). front ++ line ∷ []) are.spelled ∙ ap (λ (back : List (List ℕ)). are.first ∷ back) (sym pushed) in
     let above = subst (λ (n : ℕ). IfSome (fork_number e) (λ number. n < number)) h.1 next.above in (
       record {
@@ -174,10 +177,10 @@ stands_event lines line m events last e is next h =
     )
 
 stands_kept : (lines : List (List ℕ)) (line : List ℕ) (machine : Option Machine) (events : List Event) (last : ℕ) (t : SoFar) → is_skipped line ≡ false
-    → with_kept (record { machine = machine; events = events; last = last }) line machine ≡ Some t → StandsBy lines machine events last → Stands (lines ++ line ∷ []) t
+    → with_kept_line (record { machine = machine; events = events; last = last }) line machine ≡ Some t → StandsBy lines machine events last → Stands (lines ++ line ∷ []) t
 stands_kept lines line None events last t is h stands =
-    let m = bind_some (machine_of line) _ t h in
-    subst (Stands (lines ++ line ∷ [])) (some_is _ t m.2) (stands_machine lines line m.0 events last is (machine_of_takes line m.0 m.1) stands)
+    let m = bind_some (spelled_machine line) _ t h in
+    subst (Stands (lines ++ line ∷ [])) (some_is _ t m.2) (stands_machine lines line m.0 events last is (spelled_machine_takes line m.0 m.1) stands)
 stands_kept lines line (Some m) events last t is h stands =
     let e = bind_some (next_event last line) _ t h in
     subst (Stands (lines ++ line ∷ [])) (some_is _ t e.2) (stands_event lines line m events last e.0 is (next_event_takes last line e.0 e.1) stands)
@@ -186,9 +189,9 @@ stands_line : (lines : List (List ℕ)) (at : ℕ) (s : SoFar) (line : List ℕ)
 unfolding line_taken
 stands_line lines at s line t h stands = by (is_skipped line) refl h
   where
-    by : (skipped : Bool) → is_skipped line ≡ skipped → cond skipped (fine s) (ok_or (with_kept s line s.machine) at) ≡ Ok t → Stands (lines ++ line ∷ []) t
+    by : (skipped : Bool) → is_skipped line ≡ skipped → cond skipped (fine s) (ok_or (with_kept_line s line s.machine) at) ≡ Ok t → Stands (lines ++ line ∷ []) t
     by true is e = subst (Stands (lines ++ line ∷ [])) (ok_is s t e) (stands_skip lines line s.machine s.events s.last is stands)
-    by false is e = stands_kept lines line s.machine s.events s.last t is (ok_or_some (with_kept s line s.machine) at t e) stands
+    by false is e = stands_kept lines line s.machine s.events s.last t is (ok_or_some (with_kept_line s line s.machine) at t e) stands
 
 -- what was read of lines stands for them
 pub stands_lines : (lines : List (List ℕ)) (at : ℕ) (s : SoFar) (more : List (List ℕ)) (t : SoFar) → lines_taken at s more ≡ Ok t → Stands lines s → Stands (lines ++ more) t
@@ -205,7 +208,7 @@ taken_skip : (at : ℕ) (s : SoFar) (line : List ℕ) → is_skipped line ≡ tr
 unfolding line_taken
 taken_skip at s line is = rw is refl
 
-taken_machine : (at : ℕ) (line : List ℕ) (m : Machine) → is_skipped line ≡ false → machine_of line ≡ Some m → line_taken at nothing_read line ≡ Ok (with_machine nothing_read m)
+taken_machine : (at : ℕ) (line : List ℕ) (m : Machine) → is_skipped line ≡ false → spelled_machine line ≡ Some m → line_taken at no_lines_read line ≡ Ok (with_machine no_lines_read m)
 unfolding line_taken
 taken_machine at line m is read = rw (is, read) refl
 
@@ -222,12 +225,12 @@ taken_first : (at : ℕ) (s t : SoFar) (line : List ℕ) (lines : List (List ℕ
 taken_first at s t line lines e = rw e refl
 
 -- lines that say nothing change nothing
-pub none_again : (lines : List (List ℕ)) (at : ℕ) (s : SoFar) → kept lines ≡ [] → lines_taken at s lines ≡ Ok s
+pub none_again : (lines : List (List ℕ)) (at : ℕ) (s : SoFar) → kept_lines lines ≡ [] → lines_taken at s lines ≡ Ok s
 none_again [] at s e = refl
 none_again (line ∷ lines) at s e = by (λ others. none_again lines (suc at) s others) (is_skipped line) refl e
   where
-    by : (kept lines ≡ [] → lines_taken (suc at) s lines ≡ Ok s) → (skipped : Bool) → is_skipped line ≡ skipped
-        → cond skipped (kept lines) (line ∷ kept lines) ≡ [] → lines_taken at s (line ∷ lines) ≡ Ok s
+    by : (kept_lines lines ≡ [] → lines_taken (suc at) s lines ≡ Ok s) → (skipped : Bool) → is_skipped line ≡ skipped
+        → cond skipped (kept_lines lines) (line ∷ kept_lines lines) ≡ [] → lines_taken at s (line ∷ lines) ≡ Ok s
     by others true is e = taken_first at s s line lines (taken_skip at s line is) ∙ others e
     by others false is e = absurd cc
 
@@ -238,24 +241,25 @@ tail_is : (x y : List ℕ) (xs ys : List (List ℕ)) → x ∷ xs ≡ y ∷ ys �
 tail_is x y xs ys e = cc
 
 -- the lines of events
-events_again : (lines : List (List ℕ)) (at : ℕ) (m : Machine) (before : List Event) (last : ℕ) (events : List Event) → kept lines ≡ map event_line events
+events_again : (lines : List (List ℕ)) (at : ℕ) (m : Machine) (before : List Event) (last : ℕ) (events : List Event) → kept_lines lines ≡ map event_line events
     → AllByRecursion IsWithinBounds events → AreForksRising last events → lines_taken at (begun m before last) lines ≡ Ok (begun m (before ++ events) (last_of last events))
 events_again [] at m before last [] spelled within rising = ap (λ (es : List Event). fine (begun m es last)) (sym (append-nil before))
 events_again [] at m before last (e ∷ events) spelled within rising = absurd cc
 events_again (line ∷ lines) at m before last events spelled within rising =
     by (λ b n es e w r. events_again lines (suc at) m b n es e w r) (is_skipped line) events refl spelled within rising
   where
-    by : ((b : List Event) (n : ℕ) (es : List Event) → kept lines ≡ map event_line es → AllByRecursion IsWithinBounds es → AreForksRising n es
+    by : ((b : List Event) (n : ℕ) (es : List Event) → kept_lines lines ≡ map event_line es → AllByRecursion IsWithinBounds es → AreForksRising n es
         → lines_taken (suc at) (begun m b n) lines ≡ Ok (begun m (b ++ es) (last_of n es)))
-        → (skipped : Bool) (events : List Event) → is_skipped line ≡ skipped → cond skipped (kept lines) (line ∷ kept lines) ≡ map event_line events
+        → (skipped : Bool) (events : List Event) → is_skipped line ≡ skipped → cond skipped (kept_lines lines) (line ∷ kept_lines lines) ≡ map event_line events
         → AllByRecursion IsWithinBounds events → AreForksRising last events → lines_taken at (begun m before last) (line ∷ lines) ≡ Ok (begun m (before ++ events) (last_of last events))
     by more true events is spelled within rising =
         taken_first at (begun m before last) (begun m before last) line lines (taken_skip at (begun m before last) line is)
         ∙ more before last events spelled within rising
     by more false [] is spelled within rising = absurd cc
     by more false (e ∷ events) is spelled within rising =
-        let first : line ≡ event_line e = head_is line (event_line e) (kept lines) (map event_line events) spelled in
-        let others : kept lines ≡ map event_line events = tail_is line (event_line e) (kept lines) (map event_line events) spelled in
+        let first : line ≡ event_line e = head_is line (event_line e) (kept_lines lines) (map event_line events) spelled in
+        let others : kept_lines lines ≡ map event_line events =
+        tail_is line (event_line e) (kept_lines lines) (map event_line events) spelled in
         let next = ap (next_event last) first ∙ next_event_again last e within.0 rising.0 in
         let last-is : ℕ = unwrap_or (fork_number e) last in
         taken_first at (begun m before last) (begun m (before ++ e ∷ []) last-is) line lines (taken_event at m before last line e is next)
@@ -272,20 +276,21 @@ whole script = record {
 
 -- the lines of a script
 pub script_again : (lines : List (List ℕ)) (at : ℕ) (first : List ℕ) (script : ScriptParts) → IsMachineLine first script.frames script.cells → IsWithin script.frames script.cells
-    → kept lines ≡ first ∷ map event_line script.events → AllByRecursion IsWithinBounds script.events → AreForksRising 0 script.events → lines_taken at nothing_read lines ≡ Ok (whole script)
+    → kept_lines lines ≡ first ∷ map event_line script.events → AllByRecursion IsWithinBounds script.events → AreForksRising 0 script.events → lines_taken at no_lines_read lines ≡ Ok (whole script)
 script_again [] at first script machine within spelled bounds rising = absurd cc
 script_again (line ∷ lines) at first script machine within spelled bounds rising =
     by (λ e. script_again lines (suc at) first script machine within e bounds rising) (is_skipped line) refl spelled
   where
-    by : (kept lines ≡ first ∷ map event_line script.events → lines_taken (suc at) nothing_read lines ≡ Ok (whole script)) → (skipped : Bool) → is_skipped line ≡ skipped → cond skipped (kept lines) (line ∷ kept lines) ≡ first ∷ map event_line script.events
-        → lines_taken at nothing_read (line ∷ lines) ≡ Ok (whole script)
+    by : (kept_lines lines ≡ first ∷ map event_line script.events → lines_taken (suc at) no_lines_read lines ≡ Ok (whole script)) → (skipped : Bool) → is_skipped line ≡ skipped → cond skipped (kept_lines lines) (line ∷ kept_lines lines) ≡ first ∷ map event_line script.events
+        → lines_taken at no_lines_read (line ∷ lines) ≡ Ok (whole script)
     by more true is spelled =
-        taken_first at nothing_read nothing_read line lines (taken_skip at nothing_read line is)
+        taken_first at no_lines_read no_lines_read line lines (taken_skip at no_lines_read line is)
         ∙ more spelled
     by more false is spelled =
-        let same : line ≡ first = head_is line first (kept lines) (map event_line script.events) spelled in
-        let others : kept lines ≡ map event_line script.events = tail_is line first (kept lines) (map event_line script.events) spelled in
+        let same : line ≡ first = head_is line first (kept_lines lines) (map event_line script.events) spelled in
+        let others : kept_lines lines ≡ map event_line script.events =
+        tail_is line first (kept_lines lines) (map event_line script.events) spelled in
         let m : Machine = record { frames = script.frames; cells = script.cells } in
-        let read = ap machine_of same ∙ machine_of_again first script.frames script.cells machine within in
-        taken_first at nothing_read (begun m [] 0) line lines (taken_machine at line m is read)
+        let read = ap spelled_machine same ∙ spelled_machine_again first script.frames script.cells machine within in
+        taken_first at no_lines_read (begun m [] 0) line lines (taken_machine at line m is read)
         ∙ events_again lines (suc at) m [] 0 script.events others bounds rising

@@ -9,11 +9,11 @@ use Rattle.vm_base.specs.declared.permission.Perm.TheVariants.{ReadWrite as read
 use Rattle.vm_base.specs.declared.fork_mode.Mode.{Mode}
 use Rattle.vm_base.specs.declared.fork_mode.Mode.TheVariants.{Eager, OnDemand, Async}
 use Rattle.trace_text.specs.ScriptGrammar.{hexadecimal, perm_text, mode_text}
-use Rattle.trace_text.specs.ScriptReading.{parts_at, number_of, count_of, perm_of, mode_of, page_at, range_of}
+use Rattle.trace_text.specs.ScriptReading.{parts_at, spelled_number, count_of, perm_of, mode_of, page_at, range_of}
 use Rattle.trace_text.proofs.Digits.{base_10, base_16}
 use Rattle.trace_text.proofs.Parts.{parts_at_again, parts_at_takes}
 use Rattle.trace_text.proofs.Steps.{bind_some, only_if_some, some_is}
-use Rattle.trace_text.proofs.NumberLaws.{number_of_again, number_of_takes, number_lacks}
+use Rattle.trace_text.proofs.NumberLaws.{spelled_number_again, spelled_number_takes, number_lacks}
 
 -- ---- words
 
@@ -65,17 +65,17 @@ mode_again Async = refl
 pub page_takes : (token : List ℕ) (page : ℕ) → page_at token ≡ Some page → token ≡ hexadecimal (page * 4096)
 unfolding page_at
 page_takes token page e =
-    let b = bind_some (number_of 16 token) _ page e in
+    let b = bind_some (spelled_number 16 token) _ page e in
     let g = only_if_some (b.0 % 4096 == 0) (b.0 / 4096) page b.2 in
     let whole = eqb-true (b.0 % 4096) 0 g.0 in
     let quotient = g.1 in
     let address : b.0 ≡ page * 4096 = omega arith in
-    (number_of_takes 16 token b.0 base_16 b.1).spelled ∙ ap hexadecimal address
+    (spelled_number_takes 16 token b.0 base_16 b.1).spelled ∙ ap hexadecimal address
 
 pub page_again : (page : ℕ) → page < 2 ^ 36 → page_at (hexadecimal (page * 4096)) ≡ Some page
 unfolding page_at
 page_again page small =
-    let read = number_of_again 16 (page * 4096) base_16 (omega arith) in
+    let read = spelled_number_again 16 (page * 4096) base_16 (omega arith) in
     let whole : eqb (page * 4096 % 4096) 0 ≡ true = eq-eqb _ 0 (omega arith) in
     let quotient : page * 4096 / 4096 ≡ page = omega arith in
     rw (read, whole, quotient) refl
@@ -83,13 +83,13 @@ page_again page small =
 pub count_takes : (token : List ℕ) (n : ℕ) → count_of token ≡ Some n → token ≡ decimal n
 unfolding count_of
 count_takes token n e =
-    let b = bind_some (number_of 10 token) _ n e in
+    let b = bind_some (spelled_number 10 token) _ n e in
     let g = only_if_some (ltb b.0 (2 ^ 32)) b.0 n b.2 in
-    (number_of_takes 10 token b.0 base_10 b.1).spelled ∙ ap decimal g.1
+    (spelled_number_takes 10 token b.0 base_10 b.1).spelled ∙ ap decimal g.1
 
 pub count_again : (n : ℕ) → n < 2 ^ 32 → count_of (decimal n) ≡ Some n
 unfolding count_of
-count_again n small = rw (number_of_again 10 n base_10 (omega arith), lt-ltb n (2 ^ 32) small) refl
+count_again n small = rw (spelled_number_again 10 n base_10 (omega arith), lt-ltb n (2 ^ 32) small) refl
 
 -- the two fields of a range
 abbrev pub range_fields : ℕ → ℕ → List ℕ
@@ -99,10 +99,10 @@ pub range_takes : (fields : List ℕ) (range : ℕ × ℕ) → range_of fields �
 unfolding range_of
 range_takes fields range e =
     let parts = bind_some (parts_at 32 fields) _ range e in
-    let addr = bind_some (number_of 16 parts.0.0) _ range parts.2 in
+    let addr = bind_some (spelled_number 16 parts.0.0) _ range parts.2 in
     let len = bind_some (count_of parts.0.1) _ range addr.2 in
     let is = some_is (addr.0, len.0) range len.2 in
-    let front = (number_of_takes 16 parts.0.0 addr.0 base_16 addr.1).spelled in
+    let front = (spelled_number_takes 16 parts.0.0 addr.0 base_16 addr.1).spelled in
     let back = count_takes parts.0.1 len.0 len.1 in
     let spelled : fields ≡ hexadecimal addr.0 ++ 32 ∷ decimal len.0 =
     parts_at_takes 32 fields parts.0 parts.1 ∙ rw (← front, ← back) refl in
@@ -112,4 +112,4 @@ pub range_again : (addr len : ℕ) → addr < 2 ^ 48 → len < 2 ^ 32 → range_
 unfolding range_of
 range_again addr len below few =
     let lacks = number_lacks 32 16 addr refl base_16 below in
-    rw (parts_at_again 32 (hexadecimal addr) (decimal len) lacks, number_of_again 16 addr base_16 below, count_again len few) refl
+    rw (parts_at_again 32 (hexadecimal addr) (decimal len) lacks, spelled_number_again 16 addr base_16 below, count_again len few) refl

@@ -8,7 +8,7 @@ use Rattle.trace_events.specs.declared.event.Event.{Event}
 use Rattle.trace_events.specs.declared.event.Event.TheVariants.{Map, Read, Fork, Frames}
 use Rattle.trace_events.specs.EventBounds.{IsWithinBounds}
 use Rattle.trace_text.specs.ScriptGrammar.{ScriptParts, IsScript, IsFaultAt, lines_of}
-use Rattle.trace_text.specs.ScriptReading.{count_of, page_at, perm_of, mode_of, range_of, area_of, map_event, read_event, fork_event, snapshot_event, word_event, event_of, machine_fields, machine_of}
+use Rattle.trace_text.specs.ScriptReading.{count_of, page_at, perm_of, mode_of, range_of, spelled_area, map_event, read_event, fork_event, snapshot_event, word_event, event_of, machine_fields, spelled_machine}
 use Rattle.trace_text.specs.SoFar.{line_taken, next_event, script_of}
 use Rattle.trace_text.proofs.ScriptLaws.{script_of_faults}
 
@@ -87,33 +87,33 @@ one_remark = record { counted = omega arith; above = inl refl; fault = inr (refl
 -- ---- from what reading computes
 
 too_few_frames : IsFaultAt (codes "machine 7") 1
-unfolding script_of line_taken machine_of machine_fields count_of
+unfolding script_of line_taken spelled_machine machine_fields count_of
 too_few_frames = script_of_faults (codes "machine 7") 1 refl
 
 a_leading_zero : IsFaultAt (codes "\nmachine 08\n") 2
-unfolding script_of line_taken machine_of machine_fields count_of
+unfolding script_of line_taken spelled_machine machine_fields count_of
 a_leading_zero = script_of_faults (codes "\nmachine 08\n") 2 refl
 
 two_machines : IsFaultAt (codes "machine 8\nmachine 8") 2
-unfolding script_of line_taken machine_of machine_fields count_of next_event event_of word_event snapshot_event
+unfolding script_of line_taken spelled_machine machine_fields count_of next_event event_of word_event snapshot_event
 two_machines = script_of_faults (codes "machine 8\nmachine 8") 2 refl
 
 a_space_at_the_end : IsFaultAt (codes "machine 8\nframes \n") 2
-unfolding script_of line_taken machine_of machine_fields count_of next_event event_of word_event snapshot_event
+unfolding script_of line_taken spelled_machine machine_fields count_of next_event event_of word_event snapshot_event
 a_space_at_the_end = script_of_faults (codes "machine 8\nframes \n") 2 refl
 
 a_read_of_nothing : IsFaultAt (codes "machine 8\n#\nread 0 0\nread") 3
-unfolding script_of line_taken machine_of machine_fields count_of next_event event_of word_event read_event range_of
+unfolding script_of line_taken spelled_machine machine_fields count_of next_event event_of word_event read_event range_of
 a_read_of_nothing = script_of_faults (codes "machine 8\n#\nread 0 0\nread") 3 refl
 
 a_fork_numbered_again : IsFaultAt (codes "machine 8\nfork 2 eager\n\nfork 2 eager") 4
-unfolding script_of line_taken machine_of machine_fields count_of next_event event_of word_event snapshot_event fork_event mode_of
+unfolding script_of line_taken spelled_machine machine_fields count_of next_event event_of word_event snapshot_event fork_event mode_of
 a_fork_numbered_again = script_of_faults (codes "machine 8\nfork 2 eager\n\nfork 2 eager") 4 refl
 
 a_lazy_fork : IsFaultAt (codes "machine 8\nfork 1 async") 2
-unfolding script_of line_taken machine_of machine_fields count_of next_event event_of word_event snapshot_event fork_event mode_of
+unfolding script_of line_taken spelled_machine machine_fields count_of next_event event_of word_event snapshot_event fork_event mode_of
 a_lazy_fork = script_of_faults (codes "machine 8\nfork 1 async") 2 refl
 
 past_the_last_page : IsFaultAt (codes "machine 8\nmap fffffffff000 2 rw") 2
-unfolding script_of line_taken machine_of machine_fields count_of next_event event_of word_event map_event area_of page_at perm_of
+unfolding script_of line_taken spelled_machine machine_fields count_of next_event event_of word_event map_event spelled_area page_at perm_of
 past_the_last_page = script_of_faults (codes "machine 8\nmap fffffffff000 2 rw") 2 refl

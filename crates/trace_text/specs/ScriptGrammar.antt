@@ -28,9 +28,9 @@ is_skipped [] = true
 is_skipped (c ∷ line) = c == 35
 
 -- the lines that say something
-abbrev pub kept : List (List ℕ) → List (List ℕ)
-kept [] = []
-kept (line ∷ lines) = if is_skipped line then kept lines else line ∷ kept lines
+abbrev pub kept_lines : List (List ℕ) → List (List ℕ)
+kept_lines [] = []
+kept_lines (line ∷ lines) = if is_skipped line then kept_lines lines else line ∷ kept_lines lines
 
 -- ---- the line of an event
 
@@ -98,7 +98,7 @@ IsMachineLine line frames cells =
 pub record AreLinesOf (lines : List (List ℕ)) (script : ScriptParts) : Type 0 where
   pub first : List ℕ
   pub machine : IsMachineLine first script.frames script.cells
-  pub spelled : kept lines ≡ first ∷ map event_line script.events
+  pub spelled : kept_lines lines ≡ first ∷ map event_line script.events
   pub frames_within : (8 ≤ script.frames) × (script.frames ≤ 65536)
   pub cells_within : (1 ≤ script.cells) × (script.cells ≤ 512)
   pub bounds : All IsWithinBounds script.events
@@ -112,10 +112,10 @@ IsScript text script = AreLinesOf (lines_of text) script
 
 -- the lines break no rule so far: none of them says anything, or they are those of a script
 abbrev pub MayBegin : List (List ℕ) → Type 0
-MayBegin lines = (kept lines ≡ []) ⊎ ((script : ScriptParts) × AreLinesOf lines script)
+MayBegin lines = (kept_lines lines ≡ []) ⊎ ((script : ScriptParts) × AreLinesOf lines script)
 
 -- the text is no script, and the line, counted from 1, is the first that breaks a rule, or the one that is missing behind the last: the lines above break none
 pub record IsFaultAt (text : List ℕ) (line : ℕ) : Type 0 where
   pub counted : 0 < line
   pub above : MayBegin (take (line - 1) (lines_of text))
-  pub fault : ((line ≤ length (lines_of text)) × (MayBegin (take line (lines_of text)) → ⊥)) ⊎ ((line ≡ length (lines_of text) + 1) × (kept (lines_of text) ≡ []))
+  pub fault : ((line ≤ length (lines_of text)) × (MayBegin (take line (lines_of text)) → ⊥)) ⊎ ((line ≡ length (lines_of text) + 1) × (kept_lines (lines_of text) ≡ []))

@@ -43,18 +43,19 @@ digits_read base n (c ∷ cs) = digit_of c >>= λ d.
     if nat_lt d base && nat_lt (n * base + d) (2 ^ 48) then digits_read base (n * base + d) cs else None
 
 -- the number that a token spells: it has a digit, and no zero before its other digits
-abbrev pub number_of : ℕ → List ℕ → Option ℕ
-number_of base [] = None
-number_of base (c ∷ []) = digits_read base 0 (c ∷ [])
-number_of base (c ∷ d ∷ cs) = if c == 48 then None else digits_read base 0 (c ∷ d ∷ cs)
+abbrev pub spelled_number : ℕ → List ℕ → Option ℕ
+spelled_number base [] = None
+spelled_number base (c ∷ []) = digits_read base 0 (c ∷ [])
+spelled_number base (c ∷ d ∷ cs) = if c == 48 then None else digits_read base 0 (c ∷ d ∷ cs)
 
 -- a decimal number of 32 bits
 unfoldable pub count_of : List ℕ → Option ℕ
-count_of token = number_of 10 token >>= λ number. only_if (nat_lt number (2 ^ 32)) number
+count_of token = spelled_number 10 token >>= λ number. only_if (nat_lt number (2 ^ 32)) number
 
 -- the page of a page address
 unfoldable pub page_at : List ℕ → Option ℕ
-page_at token = number_of 16 token >>= λ address. only_if (address % 4096 == 0) (address / 4096)
+page_at token =
+    spelled_number 16 token >>= λ address. only_if (address % 4096 == 0) (address / 4096)
 
 -- the byte that two digits spell
 abbrev pub byte_of : List ℕ → Option ℕ
@@ -117,7 +118,7 @@ is_within (Refuse nth) = is_counted nth
 unfoldable pub range_of : List ℕ → Option (ℕ × ℕ)
 range_of fields = do
   parts ← parts_at 32 fields
-  addr ← number_of 16 parts.0
+  addr ← spelled_number 16 parts.0
   len ← count_of parts.1
   Some (addr, len)
 
@@ -126,16 +127,16 @@ unfoldable pub unmap_event : List ℕ → Option Event
 unmap_event fields = do
   parts ← parts_at 32 fields
   first ← page_at parts.0
-  pages ← number_of 10 parts.1
+  pages ← spelled_number 10 parts.1
   Some (Unmap first pages)
 
 -- pages and a permission, behind `map ` and `protect `
-unfoldable pub area_of : List ℕ → Option (ℕ × ℕ × Perm)
-area_of fields = do
+unfoldable pub spelled_area : List ℕ → Option (ℕ × ℕ × Perm)
+spelled_area fields = do
   parts ← parts_at 32 fields
   others ← parts_at 32 parts.1
   first ← page_at parts.0
-  pages ← number_of 10 others.0
+  pages ← spelled_number 10 others.0
   perm ← perm_of others.1
   Some (first, pages, perm)
 
@@ -143,7 +144,7 @@ area_of fields = do
 unfoldable pub write_event : List ℕ → Option Event
 write_event fields = do
   parts ← parts_at 32 fields
-  addr ← number_of 16 parts.0
+  addr ← spelled_number 16 parts.0
   bytes ← bytes_of parts.1
   Some (Write addr bytes)
 
@@ -152,7 +153,7 @@ unfoldable pub fill_event : List ℕ → Option Event
 fill_event fields = do
   parts ← parts_at 32 fields
   others ← parts_at 32 parts.1
-  addr ← number_of 16 parts.0
+  addr ← spelled_number 16 parts.0
   len ← count_of others.0
   byte ← byte_of others.1
   Some (Fill addr len byte)
@@ -183,11 +184,11 @@ snap_read_event fields = do
 
 -- the event of what stands behind `map `
 unfoldable pub map_event : List ℕ → Option Event
-map_event fields = area_of fields >>= λ a. Some (Map a.0 a.1 a.2)
+map_event fields = spelled_area fields >>= λ a. Some (Map a.0 a.1 a.2)
 
 -- the event of what stands behind `protect `
 unfoldable pub protect_event : List ℕ → Option Event
-protect_event fields = area_of fields >>= λ a. Some (Protect a.0 a.1 a.2)
+protect_event fields = spelled_area fields >>= λ a. Some (Protect a.0 a.1 a.2)
 
 -- the event of what stands behind `read `
 unfoldable pub read_event : List ℕ → Option Event
@@ -251,8 +252,8 @@ abbrev pub is_machine : Machine → Bool
 is_machine m = nat_le 8 m.frames && nat_le m.frames 65536 && nat_le 1 m.cells && nat_le m.cells 512
 
 -- the frames and the slots of a machine's line
-unfoldable pub machine_of : List ℕ → Option Machine
-machine_of line = do
+unfoldable pub spelled_machine : List ℕ → Option Machine
+spelled_machine line = do
   parts ← parts_at 32 line
   machine ← (if bytes_eq parts.0 (codes "machine") then machine_fields parts.1 else None)
   only_if (is_machine machine) machine

@@ -9,7 +9,7 @@ use Rattle.trace_text.specs.declared.reader.Reading.{Reading}
 use Rattle.trace_text.specs.declared.fault.ScriptFault.{ScriptFault}
 use Rattle.trace_text.specs.declared.fault.ScriptFault.TheVariants.{Bad, NoMemory}
 use Rattle.trace_text.specs.ScriptGrammar.{ScriptParts, IsFaultAt, is_skipped, lines_of}
-use Rattle.trace_text.specs.ScriptReading.{◌>>=◌, only_if, event_of, machine_of}
+use Rattle.trace_text.specs.ScriptReading.{◌>>=◌, only_if, event_of, spelled_machine}
 
 -- what was read: the machine's line if it has come, the events, and the number of the last fork, 0 before the first
 pub record SoFar : Type 0 where
@@ -18,8 +18,8 @@ pub record SoFar : Type 0 where
   pub last : ℕ
 
 -- nothing was read
-abbrev pub nothing_read : SoFar
-nothing_read = record { machine = None; events = []; last = 0 }
+abbrev pub no_lines_read : SoFar
+no_lines_read = record { machine = None; events = []; last = 0 }
 
 -- the number lies above the last one
 abbrev pub is_above : ℕ → Option ℕ → Bool
@@ -40,14 +40,15 @@ with_event so_far event =
     record so_far { events = so_far.events ++ event ∷ []; last = unwrap_or (fork_number event) so_far.last }
 
 -- what was read, with a line that is not skipped: the machine's, where that has not come, and otherwise an event's
-abbrev pub with_kept : SoFar → List ℕ → Option Machine → Option SoFar
-with_kept so_far line None = machine_of line >>= λ machine. Some (with_machine so_far machine)
-with_kept so_far line (Some machine) = next_event so_far.last line >>= λ event. Some (with_event so_far event)
+abbrev pub with_kept_line : SoFar → List ℕ → Option Machine → Option SoFar
+with_kept_line so_far line None =
+    spelled_machine line >>= λ machine. Some (with_machine so_far machine)
+with_kept_line so_far line (Some machine) = next_event so_far.last line >>= λ event. Some (with_event so_far event)
 
 -- what was read, with one line more, or that this line is at fault
 unfoldable pub line_taken : ℕ → SoFar → List ℕ → Result SoFar ℕ
 line_taken at so_far line =
-    if is_skipped line then Ok so_far else ok_or (with_kept so_far line so_far.machine) at
+    if is_skipped line then Ok so_far else ok_or (with_kept_line so_far line so_far.machine) at
 
 -- the next step, where the step before it found no fault
 abbrev pub and_then : {A B : Type 0} → Result A ℕ → (A → Result B ℕ) → Result B ℕ
@@ -70,7 +71,7 @@ ended at so_far = ok_or (option_map (λ machine. said machine so_far.events) so_
 -- what the text says, or the first line at fault
 unfoldable pub script_of : List ℕ → Result ScriptParts ℕ
 script_of text =
-    and_then (lines_taken 1 nothing_read (lines_of text)) (λ so_far. ended (suc (length (lines_of text))) so_far)
+    and_then (lines_taken 1 no_lines_read (lines_of text)) (λ so_far. ended (suc (length (lines_of text))) so_far)
 
 -- ---- what the code has
 
@@ -79,8 +80,8 @@ abbrev pub so_far : Reading → SoFar
 so_far reading = record { machine = reading.machine; events = reading.events.items; last = reading.last_fork }
 
 -- what a script says
-abbrev pub parts_of : Script → ScriptParts
-parts_of script = said script.machine script.events.items
+abbrev pub script_parts : Script → ScriptParts
+script_parts script = said script.machine script.events.items
 
 -- a fault is the one that was found; want of memory is free
 abbrev pub Faults : {Y : Type 0} → ScriptFault → Result Y ℕ → Type 0
@@ -88,11 +89,11 @@ Faults (Bad line) found = found ≡ Err line
 Faults NoMemory found = Unit {0}
 
 -- the answer is what was found
-abbrev pub Gives : {X Y : Type 0} → (X → Y) → Result X ScriptFault → Result Y ℕ → Type 0
-Gives view (Ok x) found = found ≡ Ok (view x)
-Gives view (Err fault) found = Faults fault found
+abbrev pub GivesFound : {X Y : Type 0} → (X → Y) → Result X ScriptFault → Result Y ℕ → Type 0
+GivesFound view (Ok x) found = found ≡ Ok (view x)
+GivesFound view (Err fault) found = Faults fault found
 
 -- why a text is no script; want of memory is free
-abbrev pub Refuses : List ℕ → ScriptFault → Type 0
-Refuses text (Bad line) = IsFaultAt text line
-Refuses text NoMemory = Unit {0}
+abbrev pub RefusesText : List ℕ → ScriptFault → Type 0
+RefusesText text (Bad line) = IsFaultAt text line
+RefusesText text NoMemory = Unit {0}

@@ -1,7 +1,7 @@
 //! The lines of a script, without their line feeds: one function for each kind of fields.
 ghost use Rattle.std.specs.Prelude.{◌≡◌, ◌↔◌, IfOk, IsTrue, Some, None};
 ghost use Rattle.trace_events.specs.EventBounds.{IsWithinBounds};
-ghost use Rattle.trace_text.specs.ScriptReading.{area_of, copy_event, drop_event, event_of, fill_event, fork_event, is_within, lone_event, map_event, only_if, protect_event, read_event, refuse_event, snap_read_event, snapshot_event, unmap_event, word_event, write_event};
+ghost use Rattle.trace_text.specs.ScriptReading.{spelled_area, copy_event, drop_event, event_of, fill_event, fork_event, is_within, lone_event, map_event, only_if, protect_event, read_event, refuse_event, snap_read_event, snapshot_event, unmap_event, word_event, write_event};
 
 use crate::number::{byte, count, number};
 use crate::tokens::{bytes_of, mode, page_at, parts_at, permission, range};
@@ -86,9 +86,9 @@ fn lone_event(line: &[u8]) -> Option<Event>
     }
 }
 
-#[tactic(auto, unfolding(crate::specs::ScriptReading::area_of))]
+#[tactic(auto, unfolding(crate::specs::ScriptReading::spelled_area))]
 fn area(fields: &[u8]) -> Option<(u64, u64, Perm)>
-    ensures { result ≡ area_of fields.now }
+    ensures { result ≡ spelled_area fields.now }
 {
     let (address, others) = parts_at(fields, b' ')?;
     let (pages, perm) = parts_at(others, b' ')?;

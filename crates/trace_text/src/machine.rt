@@ -1,6 +1,6 @@
 //! The machine that a script asks for.
 ghost use Rattle.std.specs.Prelude.{◌≡◌};
-ghost use Rattle.trace_text.specs.ScriptReading.{is_machine, machine_fields, machine_of};
+ghost use Rattle.trace_text.specs.ScriptReading.{is_machine, machine_fields, spelled_machine};
 
 use crate::number::count;
 use crate::tokens::parts_at;
@@ -16,9 +16,9 @@ pub(crate) struct Machine {
 }
 
 /// The machine of its line.
-#[tactic(auto, unfolding(crate::specs::ScriptReading::machine_of))]
+#[tactic(auto, unfolding(crate::specs::ScriptReading::spelled_machine))]
 pub(crate) fn machine_of(line: &[u8]) -> Option<Machine>
-    ensures { result ≡ machine_of line.now }
+    ensures { result ≡ spelled_machine line.now }
 {
     let (word, fields) = parts_at(line, b' ')?;
     if word != b"machine".as_slice() {

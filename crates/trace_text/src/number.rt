@@ -1,6 +1,6 @@
 //! Numbers as a script spells them: digits of lower case, without a leading zero.
 ghost use Rattle.std.specs.Prelude.{◌≡◌, ◌<◌, ◌≤◌, ◌^◌, [], ◌∷◌, IfSome, IsSome, Some, is_some};
-ghost use Rattle.trace_text.specs.ScriptReading.{byte_of, count_of, digit_of, digits_read, number_of};
+ghost use Rattle.trace_text.specs.ScriptReading.{byte_of, count_of, digit_of, digits_read, spelled_number};
 
 // Every address lies below it, and all other numbers of a script are smaller.
 const NUMBER_LIMIT: u64 = 0x1_0000_0000_0000;
@@ -8,7 +8,7 @@ const NUMBER_LIMIT: u64 = 0x1_0000_0000_0000;
 /// The number that the token spells in a base of at most 16. It lies below 2 ^ 48.
 pub(crate) fn number(token: &[u8], base: u64) -> Option<u64>
     requires { base ≤ 16 }
-    ensures value { result ≡ number_of base token.now }
+    ensures value { result ≡ spelled_number base token.now }
     ensures below { IfSome result (λ number. number < 2 ^ 48) }
 {
     match token {

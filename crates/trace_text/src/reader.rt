@@ -3,7 +3,7 @@ ghost use Rattle.std.specs.Prelude.{◌≡◌, ◌∷◌, ◌+◌, ◌<◌, ◌^
 ghost use Rattle.trace_events.specs.declared.event.Event.{Event};
 ghost use Rattle.trace_events.specs.EventBounds.{fork_number};
 ghost use Rattle.trace_text.specs.ScriptGrammar.{IsScript, is_skipped, lines_of};
-ghost use Rattle.trace_text.specs.SoFar.{Gives, Refuses, ended, is_above, line_taken, next_event, nothing_read, parts_of, script_of, so_far, with_kept};
+ghost use Rattle.trace_text.specs.SoFar.{GivesFound, RefusesText, ended, is_above, line_taken, next_event, no_lines_read, script_parts, script_of, so_far, with_kept_line};
 ghost use Rattle.trace_text.specs.ScriptReading.{only_if};
 
 use crate::fault::ScriptFault;
@@ -17,15 +17,15 @@ use vm_base::NoMemory;
 
 /// The script that the text spells, all of the text.
 pub fn read_script(alloc: Global, text: &[u8]) -> Result<Script, ScriptFault>
-    ensures found { IfOk result (λ script. IsScript text.now (parts_of script)) }
-    ensures refused { IfErr result (λ fault. Refuses text.now fault) }
+    ensures found { IfOk result (λ script. IsScript text.now (script_parts script)) }
+    ensures refused { IfErr result (λ fault. RefusesText text.now fault) }
 {
     script_of(alloc, text)
 }
 
 #[tactic(auto, unfolding(crate::specs::SoFar::script_of))]
 fn script_of(alloc: Global, text: &[u8]) -> Result<Script, ScriptFault>
-    ensures { Gives parts_of result (script_of text.now) }
+    ensures { GivesFound script_parts result (script_of text.now) }
 {
     let mut reading = Reading::new(alloc);
     let mut rest = text;
@@ -68,7 +68,7 @@ struct Reading {
 
 impl Reading {
     fn new(alloc: Global) -> Reading
-        ensures { so_far result ≡ nothing_read }
+        ensures { so_far result ≡ no_lines_read }
     {
         Reading {
             machine: None,
@@ -80,7 +80,8 @@ impl Reading {
     // Takes a line, which has the number `at`.
     #[tactic(auto, unfolding(crate::specs::SoFar::line_taken))]
     fn take_line(&mut self, alloc: Global, at: u64, line: &[u8]) -> Result<(), ScriptFault>
-        ensures { Gives (λ _. so_far self.new) result (line_taken at (so_far self.old) line.now) }
+        ensures { GivesFound (λ _. so_far self.new) result
+            (line_taken at (so_far self.old) line.now) }
     {
         if is_skipped(line) {
             return Ok(());
@@ -92,7 +93,7 @@ impl Reading {
     }
 
     fn take_machine(&mut self, at: u64, line: &[u8]) -> Result<(), ScriptFault>
-        ensures { Gives (λ _. so_far self.new) result (ok_or (with_kept (so_far self.old) line.now None) at) }
+        ensures { GivesFound (λ _. so_far self.new) result (ok_or (with_kept_line (so_far self.old) line.now None) at) }
     {
         let Some(machine) = machine_of(line) else {
             return Err(ScriptFault::Bad { line: at });
@@ -103,8 +104,8 @@ impl Reading {
 
     fn take_event(&mut self, alloc: Global, at: u64, line: &[u8]) -> Result<(), ScriptFault>
         requires { IsSome self.old.machine }
-        ensures { Gives (λ _. so_far self.new) result
-            (ok_or (with_kept (so_far self.old) line.now self.old.machine) at) }
+        ensures { GivesFound (λ _. so_far self.new) result
+            (ok_or (with_kept_line (so_far self.old) line.now self.old.machine) at) }
     {
         let Some(event) = next_event(alloc, self.last_fork, line)? else {
             return Err(ScriptFault::Bad { line: at });
@@ -116,7 +117,7 @@ impl Reading {
 
     // Ends behind the last line, where a line of the number `at` would come.
     fn end(self, at: u64) -> Result<Script, ScriptFault>
-        ensures { Gives parts_of result (ended at (so_far self)) }
+        ensures { GivesFound script_parts result (ended at (so_far self)) }
     {
         match self.machine {
             Some(machine) => Ok(Script::new(machine, self.events)),

@@ -1,6 +1,6 @@
 //! A script that was read.
 ghost use Rattle.std.specs.Prelude.{◌≡◌, ◌<◌, length, get_or};
-ghost use Rattle.trace_text.specs.SoFar.{parts_of, said};
+ghost use Rattle.trace_text.specs.SoFar.{script_parts, said};
 
 use crate::machine::Machine;
 use trace_events::Event;
@@ -14,36 +14,36 @@ pub struct Script {
 
 impl Script {
     pub(crate) fn new(machine: Machine, events: Vec<Event>) -> Script
-        ensures { parts_of result ≡ said machine events.items }
+        ensures { script_parts result ≡ said machine events.items }
     {
         Script { machine, events }
     }
 
     /// The frames of the machine.
     pub fn frames(&self) -> u32
-        ensures { result ≡ (parts_of self.now).frames }
+        ensures { result ≡ (script_parts self.now).frames }
     {
         self.machine.frames
     }
 
     /// The slots for cells.
     pub fn cells(&self) -> u32
-        ensures { result ≡ (parts_of self.now).cells }
+        ensures { result ≡ (script_parts self.now).cells }
     {
         self.machine.cells
     }
 
     /// The number of events.
     pub fn len(&self) -> usize
-        ensures { result ≡ length (parts_of self.now).events }
+        ensures { result ≡ length (script_parts self.now).events }
     {
         self.events.len()
     }
 
     /// The event at a place, counted from 0.
     pub fn event(&self, place: usize) -> &Event
-        requires { place < length (parts_of self.now).events }
-        ensures { result.now ≡ get_or (parts_of self.now).events place result.now }
+        requires { place < length (script_parts self.now).events }
+        ensures { result.now ≡ get_or (script_parts self.now).events place result.now }
     {
         &self.events[place]
     }

@@ -13,8 +13,8 @@ use Rattle.turn_cell.specs.Lists.{list_id, list_slots, slot_at, IsList, IsNew, I
 use Rattle.turn_counter.specs.declared.counter.Addition.{Addition}
 use Rattle.turn_counter.specs.declared.counter.Counter.{Counter}
 use Rattle.turn_counter.specs.declared.race.Job.{Job}
-use Rattle.turn_counter.specs.Additions.{made_by, StandsFor, Counts}
-use Rattle.turn_counter.specs.Jobs.{HaveMade, HasRun}
+use Rattle.turn_counter.specs.Additions.{made_by, IsSumOf, CountsTurns}
+use Rattle.turn_counter.specs.Jobs.{HaveMade, HasMadeAdditions}
 
 abbrev Adder : Type 0
 Adder = Seat Counter Addition
@@ -134,7 +134,7 @@ some_job (j ∷ js) n h = j
 
 -- every seat is back, and each has made what its job had
 pub handed_in : (c : CellId Counter) (jobs0 jobs : List Job) (l : Adders) (count0 : ℕ) → Handed c jobs0 l jobs → length jobs ≡ 0 → HaveMade c count0 jobs0
-    → IsWhole l × ((count : ℕ) → HaveMade c count jobs0 → HasRun l count)
+    → IsWhole l × ((count : ℕ) → HaveMade c count jobs0 → HasMadeAdditions l count)
 handed_in c jobs0 jobs l count0 r none have0 =
     let seats : (list_id l).seats ≡ c.seats = ap (λ (z : CellId Counter). z.seats) r.same in
     let all = have0.long in (
@@ -148,8 +148,8 @@ handed_in c jobs0 jobs l count0 r none have0 =
     )
 
 -- what the value at the end stands for, by counts
-pub counted : (l : Adders) (turns seats : ℕ) (v : Counter) → IsWhole l → HasRun l turns → (list_id l).seats ≡ seats → (first : Counter) → (list_id l).first ≡ Some first → first.sum ≡ 0
-    → IsWholeHistory (λ (z : Counter). z.sum) StandsFor made_by l v → Counts seats turns v.sum
+pub counted : (l : Adders) (turns seats : ℕ) (v : Counter) → IsWhole l → HasMadeAdditions l turns → (list_id l).seats ≡ seats → (first : Counter) → (list_id l).first ≡ Some first → first.sum ≡ 0
+    → IsWholeHistory (λ (z : Counter). z.sum) IsSumOf made_by l v → CountsTurns seats turns v.sum
 counted l turns seats v whole run count first is zero h = record {
   log = h.log;
   sum_is = h.means first is ∙ ap (λ (n : ℕ). n % 2 ^ 64) (let z : first.sum ≡ 0 = zero in omega arith);

@@ -14,12 +14,12 @@ total [] = 0
 total (a ∷ rest) = a.amount + total rest
 
 -- the sum is what was there at first and the additions, modulo 2 ^ 64
-abbrev pub StandsFor : ℕ → List Addition → Counter → Type 0
-StandsFor first log c = c.sum ≡ (first + total log) % 2 ^ 64
+abbrev pub IsSumOf : ℕ → List Addition → Counter → Type 0
+IsSumOf first log c = c.sum ≡ (first + total log) % 2 ^ 64
 
 -- There is one history with this sum, in which each of the seats has as many entries, and no one
 -- else has any
-pub record Counts (seats turns sum : ℕ) : Type 0 where
+pub record CountsTurns (seats turns sum : ℕ) : Type 0 where
   pub log : List Addition
   pub sum_is : sum ≡ total log % 2 ^ 64
   pub each : (n : ℕ) → n < seats → length (entries_of made_by n log) ≡ turns

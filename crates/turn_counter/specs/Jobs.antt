@@ -18,6 +18,6 @@ pub record HaveMade (c : CellId Counter) (count : ℕ) (jobs : List Job) : Type 
       × (length (mine (slice_index_or jobs n d).seat) ≡ count)
 
 -- each seat in the list has made as many additions
-abbrev pub HasRun : SeatList Counter Addition → ℕ → Type 0
-HasRun l count =
+abbrev pub HasMadeAdditions : SeatList Counter Addition → ℕ → Type 0
+HasMadeAdditions l count =
     (n : ℕ) (s : Seat Counter Addition) → slot_at l n ≡ Some s → length (mine s) ≡ count

@@ -22,7 +22,7 @@ pub struct Counter {
 
 impl Told for Counter {
     ghost use Rattle.std.specs.Prelude.{ℕ};
-    ghost use Rattle.turn_counter.specs.Additions.{made_by, StandsFor};
+    ghost use Rattle.turn_counter.specs.Additions.{made_by, IsSumOf};
 
     type Entry = Addition;
 
@@ -30,7 +30,7 @@ impl Told for Counter {
 
     ghost opening = { λ c. c.sum };
 
-    ghost stands = { StandsFor };
+    ghost stands = { IsSumOf };
 
     ghost seat_of = { made_by };
 }

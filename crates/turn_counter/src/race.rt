@@ -3,8 +3,8 @@ ghost use Rattle.std.specs.Prelude.{◌≡◌, ℕ, ◌+◌, ◌%◌, ◌^◌, �
 ghost use Rattle.turn_cell.specs.Seats.{CellId, IsSeatOf, IsSameSeat, cell_id, mine};
 ghost use Rattle.turn_cell.specs.Lists.{IsList, IsNewList, IsWhole, list_id};
 ghost use Rattle.turn_cell.specs.History.{entries_of};
-ghost use Rattle.turn_counter.specs.Additions.{made_by, Counts};
-ghost use Rattle.turn_counter.specs.Jobs.{HaveMade, HasRun};
+ghost use Rattle.turn_counter.specs.Additions.{made_by, CountsTurns};
+ghost use Rattle.turn_counter.specs.Jobs.{HaveMade, HasMadeAdditions};
 
 use crate::counter::{Counter, add};
 use std::alloc::Global;
@@ -66,7 +66,7 @@ fn hand_in(seats: &mut SeatList<Counter>, mut jobs: Vec<Job>) -> bool
     ensures cell { list_id seats.new ≡ list_id seats.old }
     ensures whole { IsWhole seats.new }
     ensures made { (count : ℕ) → HaveMade (list_id seats.old) count jobs.items
-        → HasRun seats.new count }
+        → HasMadeAdditions seats.new count }
 {
     let mut rising = true;
     while let Some(job) = jobs.pop() {
@@ -86,7 +86,7 @@ pub fn race<R: Threads + Wait + Sync>(
     turns: u32,
 ) -> Option<(u64, bool)>
     requires { 0 < threads }
-    ensures { IfSome result (λ r. Counts threads turns r.0) }
+    ensures { IfSome result (λ r. CountsTurns threads turns r.0) }
 {
     let Ok(mut jobs) = Vec::with_capacity(alloc, threads as usize) else {
         return None;

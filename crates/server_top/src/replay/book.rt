@@ -2,7 +2,7 @@
 ghost use Rattle.std.specs.Prelude.{◌≡◌, ◌^◌, ◌<◌, [], drop, length, IfOk, OnErr, None};
 ghost use Rattle.std.specs.FinMap.{empty};
 ghost use Rattle.service_meaning.specs.MapMachine.{answer, get_answer, save_answer, set_answer};
-ghost use Rattle.server_top.specs.ReplayRun.{kept_in, AreStorable, Gives, IsServable};
+ghost use Rattle.server_top.specs.ReplayRun.{book_state, AreStorable, GivesReply, IsServable};
 
 use crate::replay::pairs::{copy_pairs, set_pair, value_of};
 use image_text::PairList;
@@ -33,7 +33,7 @@ pub(crate) struct Book {
 impl Book {
     /// A book without pairs, before the first snapshot.
     pub(crate) fn new(alloc: Global) -> Self
-        ensures pairs { kept_in result ≡ record {
+        ensures pairs { book_state result ≡ record {
           service = record { pairs = empty; live = []; last = 0; limit = 1 };
           snapshot = None;
         } }
@@ -48,10 +48,10 @@ impl Book {
     /// Answers a request. After `NoMemory` the book is as it was.
     pub(crate) fn execute(&mut self, alloc: Global, request: &Request) -> Result<Reply, NoMemory>
         requires servable { IsServable request.now }
-        requires storable { AreStorable (2 ^ 28) (kept_in self.old).service.pairs }
-        ensures given { IfOk result (λ reply. let old = kept_in self.old in
-            Gives old (answer old.service request.now) reply (kept_in self.new)) }
-        ensures no_memory { OnErr result (kept_in self.new ≡ kept_in self.old) }
+        requires storable { AreStorable (2 ^ 28) (book_state self.old).service.pairs }
+        ensures given { IfOk result (λ reply. let old = book_state self.old in
+            GivesReply old (answer old.service request.now) reply (book_state self.new)) }
+        ensures no_memory { OnErr result (book_state self.new ≡ book_state self.old) }
     {
         let name = request.word(0);
         if name.eq_ignore_ascii_case(b"set") {
@@ -68,9 +68,10 @@ impl Book {
 
     /// SET: the second word stands for the third.
     fn set(&mut self, alloc: Global, request: &Request) -> Result<Reply, NoMemory>
-        ensures given { IfOk result (λ reply. let old = kept_in self.old in
-            Gives old (set_answer old.service (drop 1 request.now)) reply (kept_in self.new)) }
-        ensures no_memory { OnErr result (kept_in self.new ≡ kept_in self.old) }
+        ensures given { IfOk result (λ reply. let old = book_state self.old in
+            GivesReply old (set_answer old.service (drop 1 request.now))
+            reply (book_state self.new)) }
+        ensures no_memory { OnErr result (book_state self.new ≡ book_state self.old) }
     {
         if request.len() != 3 {
             return Ok(Reply::Error(ErrorKind::Arity));
@@ -85,8 +86,8 @@ impl Book {
 
     /// GET: what the second word stands for.
     fn get(&self, alloc: Global, request: &Request) -> Result<Reply, NoMemory>
-        ensures { IfOk result (λ reply. let kept = kept_in self.now in
-            Gives kept (get_answer kept.service (drop 1 request.now)) reply kept) }
+        ensures { IfOk result (λ reply. let kept = book_state self.now in
+            GivesReply kept (get_answer kept.service (drop 1 request.now)) reply kept) }
     {
         if request.len() != 2 {
             return Ok(Reply::Error(ErrorKind::Arity));
@@ -104,10 +105,11 @@ impl Book {
     /// BGSAVE: a snapshot with the next number is started.
     fn save(&mut self, alloc: Global, request: &Request) -> Result<Reply, NoMemory>
         requires some { 0 < length request.now }
-        requires storable { AreStorable (2 ^ 28) (kept_in self.old).service.pairs }
-        ensures given { IfOk result (λ reply. let old = kept_in self.old in
-            Gives old (save_answer old.service (drop 1 request.now)) reply (kept_in self.new)) }
-        ensures no_memory { OnErr result (kept_in self.new ≡ kept_in self.old) }
+        requires storable { AreStorable (2 ^ 28) (book_state self.old).service.pairs }
+        ensures given { IfOk result (λ reply. let old = book_state self.old in
+            GivesReply old (save_answer old.service (drop 1 request.now))
+            reply (book_state self.new)) }
+        ensures no_memory { OnErr result (book_state self.new ≡ book_state self.old) }
     {
         if request.len() != 1 {
             return Ok(Reply::Error(ErrorKind::Arity));

@@ -2,7 +2,7 @@
 ghost use Rattle.std.specs.Prelude.{◌≡◌, ◌≤◌, ◌^◌, IfOk, OnOk, OnErr};
 ghost use Rattle.std.specs.Option.{option_map};
 ghost use Rattle.std.specs.FinMap.{entries, get, insert};
-ghost use Rattle.server_top.specs.ReplayRun.{stored, AreStorable};
+ghost use Rattle.server_top.specs.ReplayRun.{stored_pairs, AreStorable};
 
 use image_text::PairList;
 use std::alloc::Global;
@@ -15,7 +15,7 @@ pub(crate) fn value_of(
     pairs: &BTreeMap<Vec<u8>, Vec<u8>>,
     key: &[u8],
 ) -> Result<Option<Bytes>, NoMemory>
-    ensures { IfOk result (λ value. value ≡ get (stored pairs.now.entries) key.now) }
+    ensures { IfOk result (λ value. value ≡ get (stored_pairs pairs.now.entries) key.now) }
 {
     let Some(found) = pairs.get(key) else {
         return Ok(None);
@@ -33,8 +33,10 @@ pub(crate) fn set_pair(
     value: &[u8],
 ) -> Result<(), NoMemory>
     ensures ok { OnOk result
-        (stored pairs.new.entries ≡ insert (stored pairs.old.entries) key.now value.now) }
-    ensures no_memory { OnErr result (stored pairs.new.entries ≡ stored pairs.old.entries) }
+        (stored_pairs pairs.new.entries
+        ≡ insert (stored_pairs pairs.old.entries) key.now value.now) }
+    ensures no_memory { OnErr result
+        (stored_pairs pairs.new.entries ≡ stored_pairs pairs.old.entries) }
 {
     let key = Vec::from_slice(alloc, key)?;
     let value = Vec::from_slice(alloc, value)?;
@@ -49,8 +51,8 @@ pub(crate) fn copy_pairs(
     alloc: Global,
     pairs: &BTreeMap<Vec<u8>, Vec<u8>>,
 ) -> Result<PairList, NoMemory>
-    requires { AreStorable (2 ^ 28) (stored pairs.now.entries) }
-    ensures { IfOk result (λ list. list ≡ entries (stored pairs.now.entries)) }
+    requires { AreStorable (2 ^ 28) (stored_pairs pairs.now.entries) }
+    ensures { IfOk result (λ list. list ≡ entries (stored_pairs pairs.now.entries)) }
 {
     let mut list = PairList::new(alloc);
     for (key, value) in pairs {

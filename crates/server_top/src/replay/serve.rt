@@ -3,8 +3,8 @@ ghost use Rattle.std.specs.Prelude.{◌≡◌, ◌+◌, ◌≤◌, ◌^◌, ◌+
 ghost use Rattle.std.specs.List.{AllByRecursion};
 ghost use Rattle.io_face.specs.Faults.{Rose};
 ghost use Rattle.io_face.specs.Told.{Adds, AddsPrefix};
-ghost use Rattle.resp_text.specs.Replies.{text_of};
-ghost use Rattle.server_top.specs.ReplayRun.{kept_after, kept_behind, kept_in, replies_from, reply_to, AreStorable, IsServable};
+ghost use Rattle.resp_text.specs.Replies.{text_of_reply};
+ghost use Rattle.server_top.specs.ReplayRun.{kept_after, kept_behind, book_state, replies_from, reply_to, AreStorable, IsServable};
 ghost use Rattle.std.specs.FinMap.{len};
 
 use crate::replay::book::Book;
@@ -23,14 +23,14 @@ pub(crate) fn serve<O: Sink>(
     output: &mut O,
 ) -> Result<(), RunError>
     requires servable { AllByRecursion IsServable requests.old.waiting }
-    requires storable { AreStorable (2 ^ 28) (kept_in book.old).service.pairs }
-    requires few { len (kept_in book.old).service.pairs + length requests.old.waiting ≤ 2 ^ 28 }
+    requires storable { AreStorable (2 ^ 28) (book_state book.old).service.pairs }
+    requires few { len (book_state book.old).service.pairs + length requests.old.waiting ≤ 2 ^ 28 }
     ensures ok { OnOk result (Adds (O.written output.old) (O.written output.new)
-        (replies_from (kept_in book.old) requests.old.waiting)) }
+        (replies_from (book_state book.old) requests.old.waiting)) }
     ensures kept { OnOk result
-        (kept_in book.new ≡ kept_behind (kept_in book.old) requests.old.waiting) }
+        (book_state book.new ≡ kept_behind (book_state book.old) requests.old.waiting) }
     ensures err { OnErr result (AddsPrefix (O.written output.old) (O.written output.new)
-        (replies_from (kept_in book.old) requests.old.waiting)) }
+        (replies_from (book_state book.old) requests.old.waiting)) }
     ensures faults { O.faults output.old ≤ O.faults output.new }
     ensures cause { IsErrOf result RunError.WriteFault
         → Rose (O.faults output.old) (O.faults output.new) }
@@ -54,10 +54,11 @@ fn push_reply(
     replies: &mut Bytes,
 ) -> Result<(), RunError>
     requires servable { IsServable request.now }
-    requires storable { AreStorable (2 ^ 28) (kept_in book.old).service.pairs }
-    ensures kept { OnOk result (kept_in book.new ≡ kept_after (kept_in book.old) request.now) }
+    requires storable { AreStorable (2 ^ 28) (book_state book.old).service.pairs }
+    ensures kept { OnOk result
+        (book_state book.new ≡ kept_after (book_state book.old) request.now) }
     ensures text { OnOk result
-        (replies.new ≡ replies.old ++ text_of (reply_to (kept_in book.old) request.now)) }
+        (replies.new ≡ replies.old ++ text_of_reply (reply_to (book_state book.old) request.now)) }
     ensures no_memory { IfErr result (λ error. error ≡ RunError.NoMemory) }
 {
     let reply = book.execute(alloc, request)?;

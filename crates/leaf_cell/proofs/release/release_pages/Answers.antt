@@ -1,24 +1,14 @@
-use Rattle.std.proofs.Common.{◌∙◌, ◌<◌, sym, arith}
-use Rattle.kernel_meaning.specs.Leaves.{version_at}
-use Rattle.leaf_cell.specs.Inside.{table_places, IsPlaceOf}
-use Rattle.leaf_cell.proofs.PutPage.{place_room}
-use Rattle.leaf_cell.proofs.Releases.{releasing-more, released-as}
+use Rattle.std.proofs.Common.{◌∙◌, arith}
+use Rattle.leaf_cell.specs.Inside.{table_places}
+use Rattle.leaf_cell.proofs.Releases.{releasing-more}
 use Rattle.leaf_cell.proofs.release.release_pages.Goals as goal
-
-pub release_page-requires-clause-room : goal.release_page-requires-clause-room
-release_page-requires-clause-room g c = λ q named.
-    let home : (c.loop-page.page < 512) × IsPlaceOf c.loop-page.page q = c.requires.home c.loop-page.page q (sym c.get.ensures ∙ named) in
-    place_room c.loop-page.page q home.0 home.1
 
 pub loop-page-preserved : goal.loop-page-preserved
 loop-page-preserved g c = record {
-  released = releasing-more g.A.Allot.goes (g.A.Allot.state c.args.allot.now) (g.A.Allot.state c.loop-page.allot) (g.A.Allot.state c.release_page.new.allot)
-      c.args.table.now.places (table_places c.args.other.now) c.args.frames.now.items c.loop-page.frames.items c.release_page.new.frames.items 0 c.loop-page.page
-      c.loop-page-test.true (omega arith) c.requires.size c.requires.home c.requires.others c.loop-page.invariant.released
-      (released-as g.A.Allot.goes (g.A.Allot.state c.loop-page.allot) (g.A.Allot.state c.release_page.new.allot)
-      c.get.result (version_at c.args.table.now.places c.loop-page.page) c.place_in.result (version_at (table_places c.args.other.now) c.loop-page.page)
-      c.loop-page.frames.items c.release_page.new.frames.items c.get.ensures c.place_in.ensures c.release_page.ensures.released);
-  out = omega (arith, c.loop-page.invariant.out, c.release_page.ensures.out);
-  untold = c.release_page.ensures.untold;
-  unrefused = c.release_page.ensures.unrefused ∙ c.loop-page.invariant.unrefused;
+  released = releasing-more g.A.Allot.goes (g.A.Allot.state c.args.allot.now) (g.A.Allot.state c.loop-page.allot) (g.A.Allot.state c.release_entry.new.allot)
+      c.args.table.now.places (table_places c.args.other.now) c.args.frames.now c.loop-page.frames c.release_entry.new.frames 0 c.loop-page.page
+      c.loop-page-test.true (omega arith) c.requires.size c.requires.home c.requires.others c.loop-page.invariant.released c.release_entry.ensures.released;
+  out = omega (arith, c.loop-page.invariant.out, c.release_entry.ensures.out);
+  untold = c.release_entry.ensures.untold;
+  unrefused = c.release_entry.ensures.unrefused ∙ c.loop-page.invariant.unrefused;
 }

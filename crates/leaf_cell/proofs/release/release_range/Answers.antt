@@ -13,11 +13,11 @@ release_page-requires-clause-room g c = λ q named.
 pub loop-page-preserved : goal.loop-page-preserved
 loop-page-preserved g c = record {
   released = releasing-more g.A.Allot.goes (g.A.Allot.state c.args.allot.now) (g.A.Allot.state c.loop-page.allot) (g.A.Allot.state c.release_page.new.allot)
-      (table_places c.args.parent.now) (own_places c.args.snapshot.now) c.args.frames.now.items c.loop-page.frames.items c.release_page.new.frames.items c.args.first c.loop-page.page
+      (table_places c.args.parent.now) (own_places c.args.snapshot.now) c.args.frames.now c.loop-page.frames c.release_page.new.frames c.args.first c.loop-page.page
       (omega arith) (omega arith) c.requires.size c.requires.home c.requires.others c.loop-page.invariant.released
       (released-as g.A.Allot.goes (g.A.Allot.state c.loop-page.allot) (g.A.Allot.state c.release_page.new.allot)
       c.place_in.result (version_at (table_places c.args.parent.now) c.loop-page.page) c.own_place.result (version_at (own_places c.args.snapshot.now) c.loop-page.page)
-      c.loop-page.frames.items c.release_page.new.frames.items c.place_in.ensures c.own_place.ensures c.release_page.ensures.released);
+      c.loop-page.frames c.release_page.new.frames c.place_in.ensures c.own_place.ensures c.release_page.ensures.released);
   out = omega (arith, c.loop-page.invariant.out, c.release_page.ensures.out);
   untold = c.release_page.ensures.untold;
   unrefused = c.release_page.ensures.unrefused ∙ c.loop-page.invariant.unrefused;

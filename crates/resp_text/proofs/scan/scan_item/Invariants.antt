@@ -1,5 +1,5 @@
 use Rattle.std.proofs.Common.{◌-◌, ◌≤◌, length, take}
-use Rattle.resp_text.specs.Residual.{IsSound, Leads, ReadsOn}
+use Rattle.resp_text.specs.Residual.{IsSoundScan, LeadsOn, ReadsOn}
 use Rattle.resp_text.proofs.scan.scan_item.Given as goal
 
 abbrev pub decreases-loop-at : goal.decreases-loop-at
@@ -8,7 +8,7 @@ decreases-loop-at l = length l.bytes - l.at
 abbrev pub invariant-loop-at : goal.invariant-loop-at
 invariant-loop-at l = record {
   within : l.at ≤ length l.bytes;
-  sound : IsSound l.scan;
-  leads : Leads l.fn.scan (take l.at l.bytes) l.scan;
+  sound : IsSoundScan l.scan;
+  leads : LeadsOn l.fn.scan (take l.at l.bytes) l.scan;
   reads : ReadsOn l.fn.scan (take l.at l.bytes) l.scan;
 }

@@ -3,7 +3,7 @@ use Rattle.std.proofs.Common.{◌^◌, refl, sym, ap, subst, arith, List, ℕ}
 use Rattle.std.specs.FinMap.{len, len-empty}
 use Rattle.io_face.specs.Told.{Adds, AddsPrefix}
 use Rattle.image_text.specs.Image.{bytes_cmp}
-use Rattle.server_top.specs.ReplayRun.{kept_in, replies_from, AreStorable}
+use Rattle.server_top.specs.ReplayRun.{book_state, replies_from, AreStorable}
 use Rattle.server_top.proofs.Replays.{lives_in, none_lives, opening_storable, served_all_alone, served_all_saved, served_some_alone, served_some_saved}
 use Rattle.server_top.proofs.Written.{on_err, on_err_then, on_ok_then}
 use Rattle.server_top.proofs.replay.replay_requests.Goals as goal
@@ -22,14 +22,14 @@ returns-in_err-serve-clause-some g c =
 
 pub returns-in-Some-clause-all : goal.returns-in-Some-clause-all
 returns-in-Some-clause-all g c =
-    let lives = lives_in c.serve.new.book (kept_in c.new-book.result) c.args.requests.now.waiting c.in-Some.snapshot c.requires.servable c.new-book.ensures.pairs c.in_ok-serve.ensures.kept c.in-Some.is in
+    let lives = lives_in c.serve.new.book (book_state c.new-book.result) c.args.requests.now.waiting c.in-Some.snapshot c.requires.servable c.new-book.ensures.pairs c.in_ok-serve.ensures.kept c.in-Some.is in
     let replies = subst (λ kept. Adds (g.O.Sink.written c.args.output.now) (g.O.Sink.written c.serve.new.output) (replies_from kept c.args.requests.now.waiting)) c.new-book.ensures.pairs c.in_ok-serve.ensures.ok in
     on_ok_then _ _ _ c.report_save.ensures.all (λ reports. served_all_saved _ _ _ _ reports.0 lives
     (record { saves = reports.1.0.saves; faults = reports.1.0.faults; cause = reports.1.0.cause }) replies reports.1.1)
 
 pub returns-in-Some-clause-some : goal.returns-in-Some-clause-some
 returns-in-Some-clause-some g c =
-    let lives = lives_in c.serve.new.book (kept_in c.new-book.result) c.args.requests.now.waiting c.in-Some.snapshot c.requires.servable c.new-book.ensures.pairs c.in_ok-serve.ensures.kept c.in-Some.is in
+    let lives = lives_in c.serve.new.book (book_state c.new-book.result) c.args.requests.now.waiting c.in-Some.snapshot c.requires.servable c.new-book.ensures.pairs c.in_ok-serve.ensures.kept c.in-Some.is in
     let replies = subst (λ kept. Adds (g.O.Sink.written c.args.output.now) (g.O.Sink.written c.serve.new.output) (replies_from kept c.args.requests.now.waiting)) c.new-book.ensures.pairs c.in_ok-serve.ensures.ok in
     on_err_then _ _ _ c.report_save.ensures.some (λ reports. served_some_saved _ _ _ _ reports.0 lives
     (record { saves = reports.1.0.saves; faults = reports.1.0.faults; cause = reports.1.0.cause }) replies reports.1.1)
@@ -37,5 +37,5 @@ returns-in-Some-clause-some g c =
 pub returns-clause-all : goal.returns-clause-all
 returns-clause-all g c =
     served_all_alone _ _ c.requires.servable (record { files = refl; faults = omega arith })
-    (none_lives c.serve.new.book (kept_in c.new-book.result) c.args.requests.now.waiting c.new-book.ensures.pairs c.in_ok-serve.ensures.kept c.in-None.is)
+    (none_lives c.serve.new.book (book_state c.new-book.result) c.args.requests.now.waiting c.new-book.ensures.pairs c.in_ok-serve.ensures.kept c.in-None.is)
     (subst (λ kept. Adds (g.O.Sink.written c.args.output.now) (g.O.Sink.written c.serve.new.output) (replies_from kept c.args.requests.now.waiting)) c.new-book.ensures.pairs c.in_ok-serve.ensures.ok)

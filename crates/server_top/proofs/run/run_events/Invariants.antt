@@ -1,9 +1,9 @@
 -- The kernel has run the events so far, and of their lines those that are there wait; the forks to come rise above its last number.
 use Rattle.std.proofs.Common.{◌≤◌, map, take, drop}
 use Rattle.trace_text.specs.ScriptGrammar.{AreForksRising}
-use Rattle.trace_text.specs.SoFar.{parts_of}
+use Rattle.trace_text.specs.SoFar.{script_parts}
 use Rattle.trace_core.specs.SupplyState.{state_of}
-use Rattle.server_top.specs.RunPromise.{machine_of}
+use Rattle.server_top.specs.RunPromise.{script_machine}
 use Rattle.server_top.proofs.Lines.{HasGoneOn}
 use Rattle.server_top.proofs.run.run_events.Given as goal
 
@@ -34,7 +34,7 @@ invariant-loop-place g l = record {
         snapshot = l.kernel.parts.snapshot;
         last = l.kernel.parts.last;
       })
-      (machine_of (parts_of l.script)) (take l.place (parts_of l.script).events) (g.O.Sink.written l.fn.output) (g.O.Sink.written l.output) l.lines;
-  rising : AreForksRising l.kernel.parts.last (drop l.place (parts_of l.script).events);
+      (script_machine (script_parts l.script)) (take l.place (script_parts l.script).events) (g.O.Sink.written l.fn.output) (g.O.Sink.written l.output) l.lines;
+  rising : AreForksRising l.kernel.parts.last (drop l.place (script_parts l.script).events);
   faults : g.O.Sink.faults l.fn.output ≤ g.O.Sink.faults l.output;
 }

@@ -17,5 +17,6 @@ invariant-loop-i g l =
       granted : LeadsAlong allot.goes old (granted (replicate taken l.want)) now;
       out : allot.out now ≡ allot.out old + taken;
       unrefused : allot.refused now ≡ allot.refused old;
+      copied : l.copied ≡ taken;
       untold : allot.grants l.allot ≡ allot.grants l.fn.allot;
     }

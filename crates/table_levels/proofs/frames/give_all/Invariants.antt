@@ -17,5 +17,6 @@ invariant-loop-i g l =
       given : LeadsAlong allot.goes old (returned (tables_at (take l.i places))) now;
       out : allot.out now + tables_at (take l.i places) ≡ allot.out old;
       unrefused : allot.refused now ≡ allot.refused old;
+      count : l.given ≡ tables_at (take l.i places);
       untold : allot.grants l.allot ≡ allot.grants l.fn.allot;
     }

@@ -1,7 +1,9 @@
 -- With a middle table on the way the slot is named in it, else the fresh tables are linked.
-use Rattle.std.proofs.Common.{◌≡◌, ◌/◌, ◌^◌, ◌<◌, Some, sym, ◌∙◌, ap, subst, arith}
+use Rattle.std.proofs.Common.{◌≡◌, ◌/◌, ◌^◌, ◌<◌, Some, refl, sym, ◌∙◌, ap, subst, arith}
+use Rattle.std.specs.Prelude.{IsSome}
 use Rattle.table_levels.specs.Walks.{levels_of, middle_of, middle_at, NamesUppers}
-use Rattle.table_levels.proofs.Linked.{slot_linked}
+use Rattle.table_levels.proofs.Linked.{slot_linked, unwanted_upper}
+use Rattle.table_levels.proofs.Sharing.{upper_of_middle}
 use Rattle.table_levels.proofs.linking.link.Goals as goal
 
 pub place_of-requires-clause-there : goal.place_of-requires-clause-there
@@ -22,4 +24,8 @@ returns-in-Some c =
     record {
       linked = slot_linked c.args.top.now c.args.uppers.now.items c.args.middles.now.items c.link_middle.new.middles.items c.args.cell c.args.slot c.in-Some.middle
           c.requires.cell c.requires.directory there c.requires.absent c.link_middle.ensures.put c.link_middle.ensures.places c.link_middle.ensures.counted;
+      upper_counted =
+          let levels = levels_of c.args.top.now c.args.uppers.now.items c.args.middles.now.items in
+          let upper = upper_of_middle levels (c.args.cell / 512) (subst IsSome (sym there) refl) in
+          omega (arith, unwanted_upper levels c.args.cell c.args.fresh upper c.requires.fresh);
     }

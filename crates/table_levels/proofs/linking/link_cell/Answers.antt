@@ -13,5 +13,6 @@ returns c =
     record {
       linked = cell_linked c.args.top.now c.link_upper.new.top c.args.uppers.now.items c.link_upper.new.uppers.items middles c.link_middle.new.middles.items
           c.args.cell c.args.slot free c.args.fresh c.requires.cell c.requires.directory c.requires.absent c.requires.fresh inside is_free
-          c.link_upper.ensures.added c.link_upper.ensures.places c.link_upper.ensures.counted c.link_middle.ensures.put c.link_middle.ensures.places c.link_middle.ensures.counted;
+          c.link_upper.ensures.added c.link_upper.ensures.places c.link_upper.ensures.counted.all c.link_middle.ensures.put c.link_middle.ensures.places c.link_middle.ensures.counted;
+      upper_counted = c.link_upper.ensures.counted.uppers;
     }

@@ -1,8 +1,8 @@
 -- The upper tables on the way are there and named.
-use Rattle.std.proofs.Common.{◌≡◌, ◌/◌, ◌%◌, ◌<◌, Some, length, sym, ◌∙◌, ap, subst, arith, refl}
+use Rattle.std.proofs.Common.{◌≡◌, ◌/◌, ◌%◌, ◌+◌, ◌<◌, ◌∷◌, [], Some, length, sym, ◌∙◌, ap, subst, arith, refl}
 use Rattle.std.specs.Option.{option_or}
 use Rattle.std.specs.Prelude.{IsSome}
-use Rattle.table_levels.specs.Walks.{table_at, entry_in}
+use Rattle.table_levels.specs.Walks.{table_at, tables_at, entry_in}
 use Rattle.std.proofs.Math.ListN.{set, length-set}
 use Rattle.table_levels.specs.Links.{SetsIn}
 use Rattle.table_levels.proofs.Walking.{table_at-get}
@@ -24,14 +24,20 @@ returns-clause-added c =
 
 pub returns-clause-counted : goal.returns-clause-counted
 returns-clause-counted c =
+    let top = c.args.top.now in
     let uppers = c.args.uppers.now.items in
+    let fresh = c.args.fresh_upper in
     let i = c.args.index / 512 in
     let below : i < 512 = omega (arith, c.requires.index) in
     let inside : i < length uppers = omega (arith, c.requires.index, c.requires.places) in
-    let put : c.put_if_some-2.new.place ≡ option_or c.args.fresh_upper (table_at uppers i) =
-    c.put_if_some-2.ensures ∙ ap (option_or c.args.fresh_upper) (c.index_mut.ensures.value ∙ sym (table_at-get uppers i c.index_mut.result.now inside)) in
+    let was = c.index_mut.ensures.value ∙ sym (table_at-get uppers i c.index_mut.result.now inside) in
+    let put : c.put_if_some-2.new.place ≡ option_or fresh (table_at uppers i) = c.put_if_some-2.ensures ∙ ap (option_or fresh) was in
     let there : IsSome c.put_if_some-2.new.place =
-    subst IsSome (sym put) (fresh_there c.args.top.now uppers i c.args.fresh_upper (entry_in c.args.top.now i) below c.requires.names refl c.requires.upper_fresh) in
-    top_counted c.args.top.now c.set_in.new.place c.args.fresh_top c.args.fresh_upper uppers _ c.set_in.ensures.there c.requires.top_fresh
-    (put_counted uppers i c.args.fresh_upper c.put_if_some-2.new.place c.set_in-2.new.place inside put there c.set_in-2.ensures.there
-    (fresh_free c.args.top.now uppers i c.args.fresh_upper c.requires.named c.requires.upper_fresh))
+    subst IsSome (sym put) (fresh_there top uppers i fresh (entry_in top i) below c.requires.names refl c.requires.upper_fresh) in
+    let more : tables_at (set (set uppers i c.put_if_some-2.new.place) i c.set_in-2.new.place) ≡ tables_at uppers + tables_at (fresh ∷ []) =
+    put_counted uppers i fresh c.put_if_some-2.new.place c.set_in-2.new.place inside put there c.set_in-2.ensures.there
+    (fresh_free top uppers i fresh c.requires.named c.requires.upper_fresh) in
+    record {
+      all = top_counted top c.set_in.new.place c.args.fresh_top fresh uppers _ c.set_in.ensures.there c.requires.top_fresh more;
+      uppers = more;
+    }

@@ -2,7 +2,7 @@
 use Rattle.std.proofs.Common.{◌≡◌, ◌+◌, ◌/◌, ◌%◌, ◌^◌, ◌<◌, ◌∷◌, [], None, Some, sym, ◌∙◌, ap, subst, arith}
 use Rattle.std.proofs.Math.ListN.{set}
 use Rattle.std.specs.Prelude.{IsSome}
-use Rattle.table_levels.specs.Walks.{levels_of, middle_of, middle_at, slot_of, table_at, tables_at, NamesUppers}
+use Rattle.table_levels.specs.Walks.{Place, levels_of, middle_of, middle_at, slot_of, table_at, tables_at, NamesUppers}
 use Rattle.table_levels.specs.Links.{SetsIn, UnlinksCell}
 use Rattle.table_levels.proofs.Walking.{table_at-get}
 use Rattle.table_levels.proofs.Unlinked.{counted_there, counted_none}
@@ -52,7 +52,8 @@ returns-in-Some-take_entry c =
           (cell_unlinked top c.unlink_middle-top.new.top uppers c.unlink_middle-top.new.uppers.items middles c.take_entry.new.place c.args.cell slot.0 c.in-Some.place unused
           c.requires.cell c.requires.directory there slot.1 (subst (λ p. SetsIn p c.take_entry.new.place (c.args.cell % 512) None) was c.take_entry.ensures.taken)
           (counted_none c.take_entry.new.place (omega arith)) c.unlink_middle-top.ensures.dropped c.unlink_middle-top.ensures.places
-          c.unlink_middle-top.ensures.counted c.unlink_middle-top.ensures.unused);
+          (sym c.unlink_middle-top.ensures.counted.all) c.unlink_middle-top.ensures.unused);
+      upper_counted = c.unlink_middle-top.ensures.counted.uppers;
     }
 
 pub returns-in-None : goal.returns-in-None
@@ -69,8 +70,12 @@ returns-in-None c =
     let slot = some_is (slot_of (levels_of top uppers middles) c.args.cell) c.requires.there in
     let one : tables_at (c.take_entry.new.place ∷ []) + 0 ≡ 1 = c.in-None.ensures.counted in
     record {
-      unlinked = subst (λ n. UnlinksCell (levels_of top uppers middles) (levels_of top uppers (set middles c.in-Some.place c.take_entry.new.place)) c.args.cell n) (sym c.none-in-None.ensures)
+      unlinked = subst (λ n. UnlinksCell (levels_of top uppers middles) (levels_of top uppers (set middles c.in-Some.place c.take_entry.new.place)) c.args.cell n)
+          (sym c.none-in-None.ensures.tables)
           (slot_unlinked top uppers middles c.take_entry.new.place c.args.cell slot.0 c.in-Some.place
           c.requires.cell c.requires.directory there slot.1 (subst (λ p. SetsIn p c.take_entry.new.place (c.args.cell % 512) None) was c.take_entry.ensures.taken)
           c.take_entry.ensures.used (counted_there c.take_entry.new.place (omega arith)));
+      upper_counted =
+          let none = ap (λ (p : Place). tables_at (p ∷ [])) c.none-in-None.ensures.upper in
+          omega (arith, none);
     }

@@ -30,17 +30,21 @@ returns-in-Some-clause-counted c =
     let one : tables_at (c.take_entry.new.place ∷ []) + 1 ≡ 1 = c.in-Some.ensures.counted in
     let upper = some_counts (table_at uppers i) (upper_there c.args.top.now uppers c.args.index c.requires.index c.requires.names c.requires.there) in
     let top = some_counts c.args.top.now (top_there c.args.top.now uppers c.args.index c.requires.there) in
-    omega (
-      arith,
-      one,
-      upper,
-      top,
-      c.take_entry-in-Some.ensures.counted,
-      tables_at-set uppers i c.take_entry.new.place inside,
-      tables_at-cons c.args.top.now uppers,
-      tables_at-cons c.take_entry-in-Some.new.place (set uppers i c.take_entry.new.place),
-      tables_at-cons c.take_entry-in-Some.result (Some c.in-Some.unused ∷ []),
-    )
+    let less = tables_at-set uppers i c.take_entry.new.place inside in
+    record {
+      all = omega (
+        arith,
+        one,
+        upper,
+        top,
+        c.take_entry-in-Some.ensures.counted,
+        less,
+        tables_at-cons c.args.top.now uppers,
+        tables_at-cons c.take_entry-in-Some.new.place (set uppers i c.take_entry.new.place),
+        tables_at-cons c.take_entry-in-Some.result (Some c.in-Some.unused ∷ []),
+      );
+      uppers = omega (arith, one, upper, less);
+    }
 
 pub returns-in-None-clause-dropped : goal.returns-in-None-clause-dropped
 returns-in-None-clause-dropped c =
@@ -63,11 +67,9 @@ returns-in-None-clause-counted c =
     let inside : i < length uppers = omega (arith, c.requires.index, c.requires.places) in
     let one : tables_at (c.take_entry.new.place ∷ []) + 0 ≡ 1 = c.in-None.ensures.counted in
     let upper = some_counts (table_at uppers i) (upper_there c.args.top.now uppers c.args.index c.requires.index c.requires.names c.requires.there) in
-    omega (
-      arith,
-      one,
-      upper,
-      tables_at-set uppers i c.take_entry.new.place inside,
-      tables_at-cons c.args.top.now uppers,
-      tables_at-cons c.args.top.now (set uppers i c.take_entry.new.place),
-    )
+    let less = tables_at-set uppers i c.take_entry.new.place inside in
+    let before = tables_at-cons c.args.top.now uppers in
+    record {
+      all = omega (arith, one, upper, less, before, tables_at-cons c.args.top.now (set uppers i c.take_entry.new.place));
+      uppers = omega (arith, one, upper, less);
+    }

@@ -1,7 +1,7 @@
 -- The pages of an area are passed over.
 use Rattle.std.proofs.Common.{◌+◌, sym, ◌∙◌, subst}
 use Rattle.area_list.specs.AreaList.{IsFound}
-use Rattle.trace_core.proofs.AreaSteps.{outside-behind}
+use Rattle.trace_core.proofs.events.AreaSteps.{outside-behind}
 use Rattle.trace_core.proofs.writing.first_outside.Goals as goal
 
 pub loop-page-preserved : goal.loop-page-preserved

@@ -4,7 +4,7 @@ use Rattle.vm_base.specs.FlatMemory.{area_of}
 use Rattle.vm_base.specs.FlatStep.{is_read_only}
 use Rattle.vm_base.proofs.Ranges.{lowest_above}
 use Rattle.area_list.specs.AreaList.{IsFound}
-use Rattle.trace_core.proofs.AreaSteps.{unwritable-behind}
+use Rattle.trace_core.proofs.events.AreaSteps.{unwritable-behind}
 use Rattle.trace_core.proofs.writing.first_read_only.Goals as goal
 
 pub loop-page-preserved-in-Some : goal.loop-page-preserved-in-Some

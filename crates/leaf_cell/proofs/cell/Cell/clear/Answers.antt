@@ -22,4 +22,4 @@ returns-else-covers_in-clause-cleared g c =
 pub returns-else-covers_in-clause-writable : goal.returns-else-covers_in-clause-writable
 returns-else-covers_in-clause-writable g c =
     subst (λ view. view.writable ≡ without_writable c.args.first c.args.pages view.writable) c.self.view_is
-    (nothing-writable c.self.inside.parent c.self.inside.snapshot c.self.inside.frames.items c.self.invariant c.args.first c.args.pages (sym c.covers_in.ensures ∙ c.if-covers_in.false))
+    (nothing-writable c.self.inside.parent c.self.inside.snapshot c.self.inside.frames c.self.invariant c.args.first c.args.pages (sym c.covers_in.ensures ∙ c.if-covers_in.false))

@@ -16,11 +16,11 @@ returns-clause-account c = λ account stands. c.covers_in.ensures
 
 pub returns-clause-filled : goal.returns-clause-filled
 returns-clause-filled c = subst (λ view. (p : ℕ) → is_some (parent_page view p) ≡ is_some (version_at view.leaves.parent p)) c.self.view_is
-    (λ p. page-filled c.self.inside.parent c.self.inside.snapshot c.self.inside.frames.items c.self.invariant p)
+    (λ p. page-filled c.self.inside.parent c.self.inside.snapshot c.self.inside.frames c.self.invariant p)
 
 pub returns-clause-unshared : goal.returns-clause-unshared
 returns-clause-unshared c = subst (λ view. (p : ℕ) → writable_at view.writable p ≡ true → is_unshared view.leaves p ≡ true) c.self.view_is
-    (λ p may. unshared-apart c.self.inside.parent c.self.inside.snapshot c.self.inside.frames.items p ∙ c.self.invariant.writable.apart p may)
+    (λ p may. unshared-apart c.self.inside.parent c.self.inside.snapshot c.self.inside.frames p ∙ c.self.invariant.writable.apart p may)
 
 pub returns-clause-alone : goal.returns-clause-alone
 returns-clause-alone c = λ unjoined p may. alone-unshared c.args.self.now.leaves p unjoined (returns-clause-unshared c p may)

@@ -5,7 +5,7 @@ use Rattle.leaf_cell.proofs.TouchActs.{meant-pages}
 use Rattle.leaf_cell.proofs.cell.Cell.has_pages.Goals as goal
 
 pub returns-clause-pages : goal.returns-clause-pages
-returns-clause-pages c = c.is_some.ensures ∙ sym (old-leaf c.self.inside.parent c.self.inside.snapshot c.self.inside.frames.items c.self.invariant)
+returns-clause-pages c = c.is_some.ensures ∙ sym (old-leaf c.self.inside.parent c.self.inside.snapshot c.self.inside.frames c.self.invariant)
     ∙ ap (λ view. has_pages view.leaves.parent) c.self.view_is
 
 pub returns-clause-account : goal.returns-clause-account

@@ -14,30 +14,30 @@ use Rattle.leaf_cell.proofs.cell.Cell.lose.Goals as goal
 
 pub invariant_of-self : goal.invariant_of-self
 invariant_of-self g c =
-    subst (λ it. AreInside c.self.inside.parent it c.lose_leaf.new.frames.items) (sym c.lose_leaf.ensures.lost.becomes)
-    (inside-lost g.A.Allot.goes (g.A.Allot.state c.args.allot.now) (g.A.Allot.state c.lose_leaf.new.allot) c.self.inside.parent c.lose_leaf.ensures.lost.it c.self.inside.frames.items c.lose_leaf.new.frames.items c.args.at
-    (subst (λ it. AreInside c.self.inside.parent it c.self.inside.frames.items) c.lose_leaf.ensures.lost.was c.self.invariant) c.lose_leaf.ensures.lost.released)
+    subst (λ it. AreInside c.self.inside.parent it c.lose_leaf.new.frames) (sym c.lose_leaf.ensures.lost.becomes)
+    (inside-lost g.A.Allot.goes (g.A.Allot.state c.args.allot.now) (g.A.Allot.state c.lose_leaf.new.allot) c.self.inside.parent c.lose_leaf.ensures.lost.it c.self.inside.frames c.lose_leaf.new.frames c.args.at
+    (subst (λ it. AreInside c.self.inside.parent it c.self.inside.frames) c.lose_leaf.ensures.lost.was c.self.invariant) c.lose_leaf.ensures.lost.released)
 
 pub returns-then-is_snapshot-clause-made : goal.returns-then-is_snapshot-clause-made
 returns-then-is_snapshot-clause-made g c =
     let it : Snapshot = c.lose_leaf.ensures.lost.it in
-    let was : cell_value c.self.inside.parent (Some it) c.self.inside.frames.items ≡ c.args.self.now =
-    ap (λ s. cell_value c.self.inside.parent s c.self.inside.frames.items) (sym c.lose_leaf.ensures.lost.was) ∙ c.self.view_is in
+    let was : cell_value c.self.inside.parent (Some it) c.self.inside.frames ≡ c.args.self.now =
+    ap (λ s. cell_value c.self.inside.parent s c.self.inside.frames) (sym c.lose_leaf.ensures.lost.was) ∙ c.self.view_is in
     subst (λ old. MadePart g.A.Allot.goes (g.A.Allot.state c.args.allot.now) (g.A.Allot.state c.lose_leaf.new.allot) (leaf_copy_answered c.args.number (No c.args.at)) old
-    (cell_value c.self.inside.parent c.lose_leaf.new.snapshot c.lose_leaf.new.frames.items)) was
+    (cell_value c.self.inside.parent c.lose_leaf.new.snapshot c.lose_leaf.new.frames)) was
     (subst (λ s. MadePart g.A.Allot.goes (g.A.Allot.state c.args.allot.now) (g.A.Allot.state c.lose_leaf.new.allot) (leaf_copy_answered c.args.number (No c.args.at))
-    (cell_value c.self.inside.parent (Some it) c.self.inside.frames.items) (cell_value c.self.inside.parent s c.lose_leaf.new.frames.items)) (sym c.lose_leaf.ensures.lost.becomes)
-    (made-leaf_lost g.A.Allot.goes (g.A.Allot.state c.args.allot.now) (g.A.Allot.state c.lose_leaf.new.allot) c.self.inside.parent it c.self.inside.frames.items c.lose_leaf.new.frames.items c.args.at
-    (subst (λ s. AreInside c.self.inside.parent s c.self.inside.frames.items) c.lose_leaf.ensures.lost.was c.self.invariant) c.lose_leaf.ensures.lost.released c.args.number
+    (cell_value c.self.inside.parent (Some it) c.self.inside.frames) (cell_value c.self.inside.parent s c.lose_leaf.new.frames)) (sym c.lose_leaf.ensures.lost.becomes)
+    (made-leaf_lost g.A.Allot.goes (g.A.Allot.state c.args.allot.now) (g.A.Allot.state c.lose_leaf.new.allot) c.self.inside.parent it c.self.inside.frames c.lose_leaf.new.frames c.args.at
+    (subst (λ s. AreInside c.self.inside.parent s c.self.inside.frames) c.lose_leaf.ensures.lost.was c.self.invariant) c.lose_leaf.ensures.lost.released c.args.number
     (number-of it c.args.number (ap (λ s. is_some (kept_by (kept_values no_versions s) c.args.number)) (sym c.lose_leaf.ensures.lost.was) ∙ sym c.is_snapshot.ensures ∙ c.if-is_snapshot.true))))
 
 pub returns-then-is_snapshot-clause-lost : goal.returns-then-is_snapshot-clause-lost
 returns-then-is_snapshot-clause-lost g c =
     let it : Snapshot = c.lose_leaf.ensures.lost.it in
-    let was : cell_value c.self.inside.parent (Some it) c.self.inside.frames.items ≡ c.args.self.now =
-    ap (λ s. cell_value c.self.inside.parent s c.self.inside.frames.items) (sym c.lose_leaf.ensures.lost.was) ∙ c.self.view_is in
-    subst (λ old. IsLost c.args.number c.args.at old (cell_value c.self.inside.parent c.lose_leaf.new.snapshot c.lose_leaf.new.frames.items)) was
-    (subst (λ s. IsLost c.args.number c.args.at (cell_value c.self.inside.parent (Some it) c.self.inside.frames.items) (cell_value c.self.inside.parent s c.lose_leaf.new.frames.items)) (sym c.lose_leaf.ensures.lost.becomes)
-    (is-lost g.A.Allot.goes (g.A.Allot.state c.args.allot.now) (g.A.Allot.state c.lose_leaf.new.allot) c.self.inside.parent it c.self.inside.frames.items c.lose_leaf.new.frames.items c.args.at
-    (subst (λ s. AreInside c.self.inside.parent s c.self.inside.frames.items) c.lose_leaf.ensures.lost.was c.self.invariant) c.lose_leaf.ensures.lost.released c.args.number
+    let was : cell_value c.self.inside.parent (Some it) c.self.inside.frames ≡ c.args.self.now =
+    ap (λ s. cell_value c.self.inside.parent s c.self.inside.frames) (sym c.lose_leaf.ensures.lost.was) ∙ c.self.view_is in
+    subst (λ old. IsLost c.args.number c.args.at old (cell_value c.self.inside.parent c.lose_leaf.new.snapshot c.lose_leaf.new.frames)) was
+    (subst (λ s. IsLost c.args.number c.args.at (cell_value c.self.inside.parent (Some it) c.self.inside.frames) (cell_value c.self.inside.parent s c.lose_leaf.new.frames)) (sym c.lose_leaf.ensures.lost.becomes)
+    (is-lost g.A.Allot.goes (g.A.Allot.state c.args.allot.now) (g.A.Allot.state c.lose_leaf.new.allot) c.self.inside.parent it c.self.inside.frames c.lose_leaf.new.frames c.args.at
+    (subst (λ s. AreInside c.self.inside.parent s c.self.inside.frames) c.lose_leaf.ensures.lost.was c.self.invariant) c.lose_leaf.ensures.lost.released c.args.number
     (number-of it c.args.number (ap (λ s. is_some (kept_by (kept_values no_versions s) c.args.number)) (sym c.lose_leaf.ensures.lost.was) ∙ sym c.is_snapshot.ensures ∙ c.if-is_snapshot.true))))

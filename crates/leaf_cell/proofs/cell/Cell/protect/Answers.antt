@@ -10,16 +10,16 @@ use Rattle.leaf_cell.proofs.WritableViews.{made-writable}
 use Rattle.leaf_cell.proofs.cell.Cell.protect.Goals as goal
 
 pub invariant_of-self : goal.invariant_of-self
-invariant_of-self g c = subst (λ parent. AreInside parent c.self.inside.snapshot c.self.inside.frames.items) (sym c.allow_range.ensures)
-    (inside-allowed c.eq-is_writable.result c.args.first c.args.pages c.self.inside.parent c.self.inside.snapshot c.self.inside.frames.items c.self.invariant)
+invariant_of-self g c = subst (λ parent. AreInside parent c.self.inside.snapshot c.self.inside.frames) (sym c.allow_range.ensures)
+    (inside-allowed c.eq-is_writable.result c.args.first c.args.pages c.self.inside.parent c.self.inside.snapshot c.self.inside.frames c.self.invariant)
 
 pub returns-clause-cell : goal.returns-clause-cell
 returns-clause-cell g c =
-    let old : CellView = cell_value c.self.inside.parent c.self.inside.snapshot c.self.inside.frames.items in
-    ap (λ parent. cell_value parent c.self.inside.snapshot c.self.inside.frames.items) c.allow_range.ensures
-    ∙ view-allowed c.eq-is_writable.result (own_places c.self.inside.snapshot) c.args.first c.args.pages c.self.inside.parent c.self.inside.snapshot c.self.inside.frames.items
+    let old : CellView = cell_value c.self.inside.parent c.self.inside.snapshot c.self.inside.frames in
+    ap (λ parent. cell_value parent c.self.inside.snapshot c.self.inside.frames) c.allow_range.ensures
+    ∙ view-allowed c.eq-is_writable.result (own_places c.self.inside.snapshot) c.args.first c.args.pages c.self.inside.parent c.self.inside.snapshot c.self.inside.frames
     (allowed c.args.perm c.args.first c.args.pages old)
-    (permission-writable c.eq-is_writable.result c.args.perm (search rules) c.args.first c.args.pages c.self.inside.parent c.self.inside.snapshot c.self.inside.frames.items)
+    (permission-writable c.eq-is_writable.result c.args.perm (search rules) c.args.first c.args.pages c.self.inside.parent c.self.inside.snapshot c.self.inside.frames)
     ∙ ap {A = CellView} (λ view. record view { writable = allowed c.args.perm c.args.first c.args.pages view }) c.self.view_is
 
 pub returns-clause-made : goal.returns-clause-made

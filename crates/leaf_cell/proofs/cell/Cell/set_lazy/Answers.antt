@@ -8,12 +8,12 @@ use Rattle.leaf_cell.proofs.ForkMade.{inside-lazy, fork-lazy}
 use Rattle.leaf_cell.proofs.cell.Cell.set_lazy.Goals as goal
 
 pub invariant_of-self : goal.invariant_of-self
-invariant_of-self c = inside-lazy c.self.inside.parent c.self.inside.snapshot c.self.inside.frames.items c.args.number c.args.mode c.self.invariant
+invariant_of-self c = inside-lazy c.self.inside.parent c.self.inside.snapshot c.self.inside.frames c.args.number c.args.mode c.self.invariant
     (ap (λ view. view.leaves.kept) c.self.view_is ∙ c.requires.alone)
 
 pub returns-clause-forked : goal.returns-clause-forked
 returns-clause-forked c =
-    let new : CellView = cell_value c.self.inside.parent (Some (record { number = c.args.number; mode = c.args.mode; leaf = code.Joined })) c.self.inside.frames.items in
+    let new : CellView = cell_value c.self.inside.parent (Some (record { number = c.args.number; mode = c.args.mode; leaf = code.Joined })) c.self.inside.frames in
     subst (λ old. (seat : ℕ) (account : CellAccount) → StandsFor old account → TakesAccount (Fork c.args.number c.args.mode seat) old new [] None account) c.self.view_is
-    (λ seat account stands. fork-lazy (cell_value c.self.inside.parent c.self.inside.snapshot c.self.inside.frames.items) account stands c.args.number
+    (λ seat account stands. fork-lazy (cell_value c.self.inside.parent c.self.inside.snapshot c.self.inside.frames) account stands c.args.number
     (ap (λ view. view.leaves.kept) c.self.view_is ∙ c.requires.alone) c.args.mode c.requires.lazy seat)

@@ -6,5 +6,5 @@ use Rattle.leaf_cell.proofs.cell.Cell.tell_share.Goals as goal
 
 pub returns : goal.returns
 returns c = λ account stands.
-    subst (λ view. held_of view ≡ share view.leaves) c.self.view_is (held_of-share c.self.inside.parent c.self.inside.snapshot c.self.inside.frames.items c.self.invariant)
+    subst (λ view. held_of view ≡ share view.leaves) c.self.view_is (held_of-share c.self.inside.parent c.self.inside.snapshot c.self.inside.frames c.self.invariant)
     ∙ share-stands c.args.self.now account stands

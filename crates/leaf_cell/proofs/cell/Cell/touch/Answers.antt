@@ -19,11 +19,11 @@ pub returns-in-Some-clause-made : goal.returns-in-Some-clause-made
 returns-in-Some-clause-made g c =
     let there : version_at (table_places c.self.inside.parent) c.args.page ≡ Some c.in-Some.field-0 = sym c.place_in.ensures ∙ c.in-Some.is in
     subst (λ view. MadeAct g.A.Allot.goes (g.A.Allot.state c.args.allot.now) (g.A.Allot.state c.args.allot.now) (Touch c.args.page) view view None) c.self.view_is
-    (made-in_place g.A.Allot.goes (g.A.Allot.state c.args.allot.now) (cell_value c.self.inside.parent c.self.inside.snapshot c.self.inside.frames.items) c.args.page c.in-Some.field-0 c.requires.page there
+    (made-in_place g.A.Allot.goes (g.A.Allot.state c.args.allot.now) (cell_value c.self.inside.parent c.self.inside.snapshot c.self.inside.frames) c.args.page c.in-Some.field-0 c.requires.page there
     (subst (λ view. AreUnjoined view.leaves.kept) (sym c.self.view_is) c.requires.unjoined)
-    (writable-unnamed c.self.inside.parent c.self.inside.snapshot c.self.inside.frames.items c.self.invariant c.args.page c.in-Some.field-0 there (sym c.may_write_in.ensures ∙ c.if-may_write_in.true))
-    (some_bytes (slice_index_or c.self.inside.frames.items c.in-Some.field-0 None)
-    ∙ parent_filled c.self.inside.parent c.self.inside.snapshot c.self.inside.frames.items c.self.invariant c.args.page c.in-Some.field-0 there))
+    (writable-unnamed c.self.inside.parent c.self.inside.snapshot c.self.inside.frames c.self.invariant c.args.page c.in-Some.field-0 there (sym c.may_write_in.ensures ∙ c.if-may_write_in.true))
+    (some_bytes (slice_index_or c.self.inside.frames c.in-Some.field-0 None)
+    ∙ parent_filled c.self.inside.parent c.self.inside.snapshot c.self.inside.frames c.self.invariant c.args.page c.in-Some.field-0 there))
 
 pub returns-in-Some-clause-touched : goal.returns-in-Some-clause-touched
 returns-in-Some-clause-touched g c =
@@ -31,7 +31,7 @@ returns-in-Some-clause-touched g c =
     touched-in_place c.args.self.now c.args.page c.in-Some.field-0 (g.A.Allot.refused (g.A.Allot.state c.args.allot.now)) c.requires.unjoined
     (ap (λ view. version_at view.leaves.parent c.args.page) (sym c.self.view_is) ∙ there)
     (ap (λ view. is_named view.leaves c.args.page c.in-Some.field-0) (sym c.self.view_is)
-    ∙ writable-unnamed c.self.inside.parent c.self.inside.snapshot c.self.inside.frames.items c.self.invariant c.args.page c.in-Some.field-0 there (sym c.may_write_in.ensures ∙ c.if-may_write_in.true))
+    ∙ writable-unnamed c.self.inside.parent c.self.inside.snapshot c.self.inside.frames c.self.invariant c.args.page c.in-Some.field-0 there (sym c.may_write_in.ensures ∙ c.if-may_write_in.true))
 
 pub returns-in-Some-clause-writable : goal.returns-in-Some-clause-writable
 returns-in-Some-clause-writable g c = set-same c.args.self.now.writable c.args.page

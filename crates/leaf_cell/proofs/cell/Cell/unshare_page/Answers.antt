@@ -16,11 +16,11 @@ use Rattle.leaf_cell.proofs.Touched.{touched-put, touched-lost}
 use Rattle.leaf_cell.proofs.cell.Cell.unshare_page.Goals as goal
 
 pub invariant_of-self : goal.invariant_of-self
-invariant_of-self g c = inside-copied c.self.inside.parent c.self.inside.snapshot c.self.inside.frames.items c.self.invariant c.args.page c.args.place c.requires.page
+invariant_of-self g c = inside-copied c.self.inside.parent c.self.inside.snapshot c.self.inside.frames c.self.invariant c.args.page c.args.place c.requires.page
     (ap (λ view. version_at view.leaves.parent c.args.page) c.self.view_is ∙ c.requires.there)
     (ap (λ view. is_named view.leaves c.args.page c.args.place) c.self.view_is ∙ c.requires.named)
     (subst (λ view. AreUnjoined view.leaves.kept) (sym c.self.view_is) c.requires.unjoined)
-    c.put_copy.new.parent c.put_copy.new.frames.items c.put_copy.ensures.put c.put_copy.ensures.table c.put_copy.ensures.writable
+    c.put_copy.new.parent c.put_copy.new.frames c.put_copy.ensures.put c.put_copy.ensures.table c.put_copy.ensures.writable
 
 pub returns-in-Ok-clause-writable : goal.returns-in-Ok-clause-writable
 returns-in-Ok-clause-writable g c =
@@ -30,55 +30,55 @@ returns-in-Ok-clause-writable g c =
 pub returns-in-Ok-clause-made : goal.returns-in-Ok-clause-made
 returns-in-Ok-clause-made g c =
     subst (λ old. MadeAct g.A.Allot.goes (g.A.Allot.state c.args.allot.now) (g.A.Allot.state c.take.new.self) (Touch c.args.page) old
-    (cell_value c.put_copy.new.parent c.self.inside.snapshot c.put_copy.new.frames.items) None) c.self.view_is
-    (made-copied c.self.inside.parent c.self.inside.snapshot c.self.inside.frames.items c.self.invariant c.args.page c.args.place c.requires.page
+    (cell_value c.put_copy.new.parent c.self.inside.snapshot c.put_copy.new.frames) None) c.self.view_is
+    (made-copied c.self.inside.parent c.self.inside.snapshot c.self.inside.frames c.self.invariant c.args.page c.args.place c.requires.page
     (ap (λ view. version_at view.leaves.parent c.args.page) c.self.view_is ∙ c.requires.there)
     (ap (λ view. is_named view.leaves c.args.page c.args.place) c.self.view_is ∙ c.requires.named)
     (subst (λ view. AreUnjoined view.leaves.kept) (sym c.self.view_is) c.requires.unjoined)
-    c.put_copy.new.parent c.put_copy.new.frames.items c.put_copy.ensures.put c.put_copy.ensures.table
+    c.put_copy.new.parent c.put_copy.new.frames c.put_copy.ensures.put c.put_copy.ensures.table
     g.A.Allot.goes (g.A.Allot.state c.args.allot.now) (g.A.Allot.state c.take.new.self) (Granted want.Page ∷ []) (g.A.Allot.state c.take.new.self, (c.in-Ok.ensures.granted, refl)) refl)
 
 pub returns-in-Ok-clause-held : goal.returns-in-Ok-clause-held
 returns-in-Ok-clause-held g c =
     ap (λ view. g.A.Allot.out (g.A.Allot.state c.take.new.self) + held_of view) (sym c.self.view_is)
-    ∙ held-copied c.self.inside.parent c.self.inside.snapshot c.self.inside.frames.items c.self.invariant c.args.page c.args.place c.requires.page
+    ∙ held-copied c.self.inside.parent c.self.inside.snapshot c.self.inside.frames c.self.invariant c.args.page c.args.place c.requires.page
     (ap (λ view. version_at view.leaves.parent c.args.page) c.self.view_is ∙ c.requires.there)
     (ap (λ view. is_named view.leaves c.args.page c.args.place) c.self.view_is ∙ c.requires.named)
     (subst (λ view. AreUnjoined view.leaves.kept) (sym c.self.view_is) c.requires.unjoined)
-    c.put_copy.new.parent c.put_copy.new.frames.items c.put_copy.ensures.put c.put_copy.ensures.table
+    c.put_copy.new.parent c.put_copy.new.frames c.put_copy.ensures.put c.put_copy.ensures.table
     (g.A.Allot.out (g.A.Allot.state c.args.allot.now)) (g.A.Allot.out (g.A.Allot.state c.take.new.self)) c.in-Ok.ensures.taken
 
 pub returns-in-Ok-clause-touched : goal.returns-in-Ok-clause-touched
 returns-in-Ok-clause-touched g c =
     let there : version_at (table_places c.self.inside.parent) c.args.page ≡ Some c.args.place = ap (λ view. version_at view.leaves.parent c.args.page) c.self.view_is ∙ c.requires.there in
-    let unjoined : AreUnjoined (cell_value c.self.inside.parent c.self.inside.snapshot c.self.inside.frames.items).leaves.kept = subst (λ view. AreUnjoined view.leaves.kept) (sym c.self.view_is) c.requires.unjoined in
+    let unjoined : AreUnjoined (cell_value c.self.inside.parent c.self.inside.snapshot c.self.inside.frames).leaves.kept = subst (λ view. AreUnjoined view.leaves.kept) (sym c.self.view_is) c.requires.unjoined in
     subst (λ old. IsTouched c.args.page (g.A.Allot.refused (g.A.Allot.state c.args.allot.now)) (g.A.Allot.refused (g.A.Allot.state c.take.new.self)) old
-    (cell_value c.put_copy.new.parent c.self.inside.snapshot c.put_copy.new.frames.items)) c.self.view_is
-    (touched-put c.self.inside.parent c.self.inside.snapshot c.self.inside.frames.items c.self.invariant
-    c.put_copy.new.parent c.put_copy.new.frames.items _ c.args.page c.requires.page c.put_copy.ensures.put c.put_copy.ensures.table
-    (left c.self.inside.parent c.self.inside.snapshot c.self.inside.frames.items c.self.invariant c.args.page c.args.place c.requires.page there
+    (cell_value c.put_copy.new.parent c.self.inside.snapshot c.put_copy.new.frames)) c.self.view_is
+    (touched-put c.self.inside.parent c.self.inside.snapshot c.self.inside.frames c.self.invariant
+    c.put_copy.new.parent c.put_copy.new.frames _ c.args.page c.requires.page c.put_copy.ensures.put c.put_copy.ensures.table
+    (left c.self.inside.parent c.self.inside.snapshot c.self.inside.frames c.self.invariant c.args.page c.args.place c.requires.page there
     (ap (λ view. is_named view.leaves c.args.page c.args.place) c.self.view_is ∙ c.requires.named) unjoined
-    c.put_copy.new.parent c.put_copy.new.frames.items c.put_copy.ensures.put c.put_copy.ensures.table)
-    unjoined (ap (λ o. page_or_zeros (bytes_in c.self.inside.frames.items o)) there)
+    c.put_copy.new.parent c.put_copy.new.frames c.put_copy.ensures.put c.put_copy.ensures.table)
+    unjoined (ap (λ o. page_or_zeros (bytes_in c.self.inside.frames o)) there)
     (g.A.Allot.refused (g.A.Allot.state c.args.allot.now)) (g.A.Allot.refused (g.A.Allot.state c.take.new.self)) c.in-Ok.ensures.unrefused)
 
 pub invariant_of-self-in-Err : goal.invariant_of-self-in-Err
 invariant_of-self-in-Err g c =
-    subst (λ it. AreInside c.self.inside.parent it c.lose_leaf.new.frames.items) (sym c.lose_leaf.ensures.lost.becomes)
-    (inside-lost g.A.Allot.goes (g.A.Allot.state c.take.new.self) (g.A.Allot.state c.lose_leaf.new.allot) c.self.inside.parent c.lose_leaf.ensures.lost.it c.self.inside.frames.items c.lose_leaf.new.frames.items c.in-Err.refused.at
-    (subst (λ it. AreInside c.self.inside.parent it c.self.inside.frames.items) c.lose_leaf.ensures.lost.was c.self.invariant) c.lose_leaf.ensures.lost.released)
+    subst (λ it. AreInside c.self.inside.parent it c.lose_leaf.new.frames) (sym c.lose_leaf.ensures.lost.becomes)
+    (inside-lost g.A.Allot.goes (g.A.Allot.state c.take.new.self) (g.A.Allot.state c.lose_leaf.new.allot) c.self.inside.parent c.lose_leaf.ensures.lost.it c.self.inside.frames c.lose_leaf.new.frames c.in-Err.refused.at
+    (subst (λ it. AreInside c.self.inside.parent it c.self.inside.frames) c.lose_leaf.ensures.lost.was c.self.invariant) c.lose_leaf.ensures.lost.released)
 
 pub returns-in-Err-clause-made : goal.returns-in-Err-clause-made
 returns-in-Err-clause-made g c =
     let it : Snapshot = c.lose_leaf.ensures.lost.it in
-    let was : cell_value c.self.inside.parent (Some it) c.self.inside.frames.items ≡ c.args.self.now =
-    ap (λ s. cell_value c.self.inside.parent s c.self.inside.frames.items) (sym c.lose_leaf.ensures.lost.was) ∙ c.self.view_is in
+    let was : cell_value c.self.inside.parent (Some it) c.self.inside.frames ≡ c.args.self.now =
+    ap (λ s. cell_value c.self.inside.parent s c.self.inside.frames) (sym c.lose_leaf.ensures.lost.was) ∙ c.self.view_is in
     subst (λ old. MadeAct g.A.Allot.goes (g.A.Allot.state c.args.allot.now) (g.A.Allot.state c.lose_leaf.new.allot) (Touch c.args.page) old
-    (cell_value c.self.inside.parent c.lose_leaf.new.snapshot c.lose_leaf.new.frames.items) None) was
+    (cell_value c.self.inside.parent c.lose_leaf.new.snapshot c.lose_leaf.new.frames) None) was
     (subst (λ s. MadeAct g.A.Allot.goes (g.A.Allot.state c.args.allot.now) (g.A.Allot.state c.lose_leaf.new.allot) (Touch c.args.page)
-    (cell_value c.self.inside.parent (Some it) c.self.inside.frames.items) (cell_value c.self.inside.parent s c.lose_leaf.new.frames.items) None) (sym c.lose_leaf.ensures.lost.becomes)
-    (made-lost g.A.Allot.goes (g.A.Allot.state c.take.new.self) (g.A.Allot.state c.lose_leaf.new.allot) c.self.inside.parent it c.self.inside.frames.items c.lose_leaf.new.frames.items c.in-Err.refused.at
-    (subst (λ s. AreInside c.self.inside.parent s c.self.inside.frames.items) c.lose_leaf.ensures.lost.was c.self.invariant) c.lose_leaf.ensures.lost.released
+    (cell_value c.self.inside.parent (Some it) c.self.inside.frames) (cell_value c.self.inside.parent s c.lose_leaf.new.frames) None) (sym c.lose_leaf.ensures.lost.becomes)
+    (made-lost g.A.Allot.goes (g.A.Allot.state c.take.new.self) (g.A.Allot.state c.lose_leaf.new.allot) c.self.inside.parent it c.self.inside.frames c.lose_leaf.new.frames c.in-Err.refused.at
+    (subst (λ s. AreInside c.self.inside.parent s c.self.inside.frames) c.lose_leaf.ensures.lost.was c.self.invariant) c.lose_leaf.ensures.lost.released
     c.args.page c.args.place c.requires.page (ap (λ view. version_at view.leaves.parent c.args.page) was ∙ c.requires.there)
     (ap (λ view. is_named view.leaves c.args.page c.args.place) was ∙ c.requires.named)
     (subst (λ view. AreUnjoined view.leaves.kept) (sym was) c.requires.unjoined)
@@ -87,13 +87,13 @@ returns-in-Err-clause-made g c =
 pub returns-in-Err-clause-touched : goal.returns-in-Err-clause-touched
 returns-in-Err-clause-touched g c =
     let it : Snapshot = c.lose_leaf.ensures.lost.it in
-    let was : cell_value c.self.inside.parent (Some it) c.self.inside.frames.items ≡ c.args.self.now =
-    ap (λ s. cell_value c.self.inside.parent s c.self.inside.frames.items) (sym c.lose_leaf.ensures.lost.was) ∙ c.self.view_is in
+    let was : cell_value c.self.inside.parent (Some it) c.self.inside.frames ≡ c.args.self.now =
+    ap (λ s. cell_value c.self.inside.parent s c.self.inside.frames) (sym c.lose_leaf.ensures.lost.was) ∙ c.self.view_is in
     let count : ℕ = g.A.Allot.refused (g.A.Allot.state c.args.allot.now) in
     let then : ℕ = g.A.Allot.refused (g.A.Allot.state c.lose_leaf.new.allot) in
-    subst (λ old. IsTouched c.args.page count then old (cell_value c.self.inside.parent c.lose_leaf.new.snapshot c.lose_leaf.new.frames.items)) was
-    (subst (λ s. IsTouched c.args.page count then (cell_value c.self.inside.parent (Some it) c.self.inside.frames.items) (cell_value c.self.inside.parent s c.lose_leaf.new.frames.items)) (sym c.lose_leaf.ensures.lost.becomes)
-    (touched-lost g.A.Allot.goes (g.A.Allot.state c.take.new.self) (g.A.Allot.state c.lose_leaf.new.allot) c.self.inside.parent it c.self.inside.frames.items c.lose_leaf.new.frames.items
+    subst (λ old. IsTouched c.args.page count then old (cell_value c.self.inside.parent c.lose_leaf.new.snapshot c.lose_leaf.new.frames)) was
+    (subst (λ s. IsTouched c.args.page count then (cell_value c.self.inside.parent (Some it) c.self.inside.frames) (cell_value c.self.inside.parent s c.lose_leaf.new.frames)) (sym c.lose_leaf.ensures.lost.becomes)
+    (touched-lost g.A.Allot.goes (g.A.Allot.state c.take.new.self) (g.A.Allot.state c.lose_leaf.new.allot) c.self.inside.parent it c.self.inside.frames c.lose_leaf.new.frames
     _ c.args.page c.args.place c.in-Err.refused.at count then c.lose_leaf.ensures.lost.released
     (ap (λ view. version_at view.leaves.parent c.args.page) was ∙ c.requires.there)
     (ap (λ view. is_named view.leaves c.args.page c.args.place) was ∙ c.requires.named)

@@ -1,5 +1,5 @@
 use Rattle.std.proofs.Common.{◌+◌, refl, sym, ap, subst, ◌∙◌, Some}
-use Rattle.resp_text.specs.Reading.{Reading, StandsFor}
+use Rattle.resp_text.specs.Reading.{Reading, StandsForBytes}
 use Rattle.resp_text.specs.declared.fault.FeedFault.TheVariants.{Protocol}
 use Rattle.resp_text.proofs.Feeds.{Follows, stands_for, stands_for_all, breaks_at}
 use Rattle.resp_text.proofs.requests.Requests.feed.Goals as goal
@@ -29,7 +29,7 @@ returns-in-None-clause-fed c taken given sound stands =
       before = refl;
     } in (
       stands_for_all old new taken c.args.piece.now given c.in-Ok.reached c.in-None.is follows
-          (subst (λ (r : Reading). StandsFor r taken given) (sym c.self.view_is) stands),
+          (subst (λ (r : Reading). StandsForBytes r taken given) (sym c.self.view_is) stands),
       ap (λ (r : Reading). r.fault) c.self.view_is ∙ sound,
     )
 
@@ -58,7 +58,7 @@ returns-in-Some-kind-clause-fed c taken given sound stands =
       rest = c.in-Ok.ensures.kept;
       before = refl;
     } in
-    let before = subst (λ (r : Reading). StandsFor r taken given) (sym c.self.view_is) stands in (
+    let before = subst (λ (r : Reading). StandsForBytes r taken given) (sym c.self.view_is) stands in (
       breaks_at old new taken c.args.piece.now given c.in-Ok.reached c.in-Some-kind.kind
           c.in-Some-kind.is follows before,
       stands_for old new taken c.args.piece.now given c.in-Ok.reached follows before,

@@ -3,14 +3,14 @@ use Rattle.std.proofs.Common.{◌≡◌, List, ℕ, [], ◌∷◌, ◌++◌, sym
 use Rattle.std.proofs.lemmas.List.{append-nil}
 use Rattle.image_text.specs.Image.{IsBehind}
 use Rattle.server_top.specs.ReplayRun.{pairs_in}
-use Rattle.server_top.proofs.StoredPairs.{ComesNext, comes_next, entries-stored, image-stored}
+use Rattle.server_top.proofs.StoredPairs.{ComesNext, comes_next, entries-stored_pairs, image-stored_pairs}
 use Rattle.server_top.proofs.replay.pairs.copy_pairs.Goals as goal
 
 pub loop-key-init : goal.loop-key-init
 loop-key-init c = record {
   copied = ap (λ (list : List (List ℕ × List ℕ)). list ++ pairs_in c.into_iter-key-iterator.result) c.new-list.ensures
       ∙ ap pairs_in c.into_iter-key-iterator.ensures.into_iter_gives.0;
-  image = image-stored _ c.into_iter-key-iterator.ensures.into_iter_gives.5 c.requires;
+  image = image-stored_pairs _ c.into_iter-key-iterator.ensures.into_iter_gives.5 c.requires;
 }
 
 next : (c : goal.After-deref-in-loop-key) → ComesNext c.loop-key.list (c.in-Some.key.now.items, c.in-Some.value.now.items)
@@ -48,4 +48,4 @@ loop-key-preserved c =
 pub returns : goal.returns
 returns c =
     sym (append-nil c.loop-key.list) ∙ ap (λ rest. c.loop-key.list ++ pairs_in rest) (sym c.in-None.ensures.steps.0)
-    ∙ c.loop-key.invariant.copied ∙ sym (entries-stored _ c.into_iter-key-iterator.ensures.into_iter_gives.5)
+    ∙ c.loop-key.invariant.copied ∙ sym (entries-stored_pairs _ c.into_iter-key-iterator.ensures.into_iter_gives.5)

@@ -3,18 +3,18 @@ use Rattle.std.proofs.Common.{◌≡◌, ◌≤◌, ◌+◌, ◌^◌, length}
 use Rattle.std.specs.List.{AllByRecursion}
 use Rattle.std.specs.FinMap.{entries, len}
 use Rattle.image_text.specs.Image.{FitsImage}
-use Rattle.server_top.specs.ReplayRun.{kept_behind, kept_in, replies_from, IsServable}
+use Rattle.server_top.specs.ReplayRun.{kept_behind, book_state, replies_from, IsServable}
 use Rattle.server_top.proofs.Written.{Writing}
 use Rattle.server_top.proofs.replay.serve.serve.Given as goal
 
 abbrev pub invariant-loop-request : goal.invariant-loop-request
 invariant-loop-request g l = record {
   servable : AllByRecursion IsServable l.requests.waiting;
-  few : len (kept_in l.book).service.pairs + length l.requests.waiting ≤ 2 ^ 28;
-  each : AllByRecursion FitsImage (entries (kept_in l.book).service.pairs);
+  few : len (book_state l.book).service.pairs + length l.requests.waiting ≤ 2 ^ 28;
+  each : AllByRecursion FitsImage (entries (book_state l.book).service.pairs);
   writing : Writing (g.O.Sink.written l.fn.output) (g.O.Sink.written l.output) l.replies
-      (replies_from (kept_in l.book) l.requests.waiting) (replies_from (kept_in l.fn.book) l.fn.requests.waiting);
-  kept : kept_behind (kept_in l.book) l.requests.waiting ≡ kept_behind (kept_in l.fn.book) l.fn.requests.waiting;
+      (replies_from (book_state l.book) l.requests.waiting) (replies_from (book_state l.fn.book) l.fn.requests.waiting);
+  kept : kept_behind (book_state l.book) l.requests.waiting ≡ kept_behind (book_state l.fn.book) l.fn.requests.waiting;
   faults : g.O.Sink.faults l.fn.output ≤ g.O.Sink.faults l.output;
 }
 

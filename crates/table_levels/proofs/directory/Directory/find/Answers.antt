@@ -11,7 +11,8 @@ index-requires c =
     let there : middle_of levels (c.args.cell / 512) ≡ Some c.in_ok-middle.middle =
     ap (λ l. middle_at c.self.inside.top l (c.args.cell / 512)) (sym c.deref.ensures.value) ∙ sym c.place_of.ensures ∙ c.in_ok-middle.was in
     let below : c.args.cell / 512 < 2 ^ 18 = omega (arith, c.requires) in
-    omega (arith, (c.self.invariant.middle_there (c.args.cell / 512) c.in_ok-middle.middle below there).0, c.self.invariant.middles)
+    let directory = c.self.invariant.directory in
+    omega (arith, (directory.middle_there (c.args.cell / 512) c.in_ok-middle.middle below there).0, directory.middles)
 
 pub returns : goal.returns
 returns c =
@@ -19,8 +20,9 @@ returns c =
     let there : middle_of levels (c.args.cell / 512) ≡ Some c.in_ok-middle.middle =
     ap (λ l. middle_at c.self.inside.top l (c.args.cell / 512)) (sym c.deref.ensures.value) ∙ sym c.place_of.ensures ∙ c.in_ok-middle.was in
     let below : c.args.cell / 512 < 2 ^ 18 = omega (arith, c.requires) in
-    let inside = (c.self.invariant.middle_there (c.args.cell / 512) c.in_ok-middle.middle below there).0 in
-    let table = c.index.ensures ∙ sym (table_at-get levels.middles c.in_ok-middle.middle c.index.result.now (omega (arith, inside, c.self.invariant.middles))) in
+    let inside = (c.self.invariant.directory.middle_there (c.args.cell / 512) c.in_ok-middle.middle below there).0 in
+    let size = c.self.invariant.directory.middles in
+    let table = c.index.ensures ∙ sym (table_at-get levels.middles c.in_ok-middle.middle c.index.result.now (omega (arith, inside, size))) in
     c.named_by.ensures ∙ ap (λ t. entry_in t (c.args.cell % 512)) table
     ∙ sym (slot_there levels c.args.cell c.in_ok-middle.middle there) ∙ sym (get-cells_of levels c.args.cell c.requires) ∙ ap (λ m. get m c.args.cell) c.self.view_is
 

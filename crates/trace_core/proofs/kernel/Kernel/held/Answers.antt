@@ -1,5 +1,5 @@
-use Rattle.trace_core.proofs.SoundSteps.{noted-under}
-use Rattle.trace_core.proofs.HeldAlone.{held-alone, none-alive}
+use Rattle.trace_core.proofs.memories.StepSoundness.{noted-under}
+use Rattle.trace_core.proofs.enough.ParentAlone.{held-alone, none-alive}
 use Rattle.trace_core.specs.KernelSeen.{notes_of}
 use Rattle.trace_core.proofs.kernel.Kernel.held.Goals as goal
 

@@ -2,11 +2,11 @@ use Rattle.std.proofs.Common.{◌+◌, ◌≤◌, ◌∙◌, ap, subst, sym, len
 use Rattle.std.specs.Option.{ForSome}
 use Rattle.trace_core.specs.KernelState.{opening_state}
 use Rattle.trace_core.specs.KernelSeen.{parts_of, notes_of, opening_memory, enough_of}
-use Rattle.trace_core.proofs.Stood.{stands-under}
-use Rattle.trace_core.proofs.SoundEvents.{opening-sound}
-use Rattle.trace_core.proofs.HeldNotes.{opening-holds, enough-of, holds-under}
-use Rattle.trace_core.proofs.NewKernels.{opening-seen, none-stand, plain-when-told}
-use Rattle.trace_core.proofs.UsedCells.{used-there}
+use Rattle.trace_core.proofs.supplies.Policies.{stands-under}
+use Rattle.trace_core.proofs.memories.EventSoundness.{opening-sound}
+use Rattle.trace_core.proofs.processes.NoteCalls.{opening-holds, enough-of, holds-under}
+use Rattle.trace_core.proofs.memories.NewKernels.{opening-seen, none-stand, plain-when-told}
+use Rattle.trace_core.proofs.memories.SlotUsers.{used-there}
 use Rattle.trace_core.proofs.kernel.Kernel.new.Goals as goal
 
 pub invariant_of-result-clause-stood : goal.invariant_of-result-clause-stood

@@ -1,15 +1,15 @@
 use Rattle.trace_core.specs.KernelSeen.{parts_of, notes_of}
-use Rattle.trace_core.proofs.Stood.{known-under}
-use Rattle.trace_core.proofs.LastNumbers.{last-if-ok}
-use Rattle.trace_core.proofs.SeenTables.{seen-pages}
-use Rattle.trace_core.proofs.SoundSteps.{known-noted, noted-under, sound-step, err-seen}
-use Rattle.trace_core.proofs.HeldNotes.{holds-under, under-holds}
-use Rattle.trace_core.proofs.HeldEvents.{holds-step}
-use Rattle.trace_core.proofs.FilledCells.{cells-filled, filled-step}
-use Rattle.trace_core.proofs.PlainPools.{step-empty, step-told, plain-still, plain-empty}
-use Rattle.trace_core.proofs.ReachedEvents.{reached-step}
-use Rattle.trace_core.proofs.UsedCells.{used-there, kept-used}
-use Rattle.trace_core.proofs.KernelProcesses.{known-given}
+use Rattle.trace_core.proofs.supplies.Policies.{known-under}
+use Rattle.trace_core.proofs.runs.LastNumbers.{last-if-ok}
+use Rattle.page_tables.proofs.view.ViewSides.{seen-pages}
+use Rattle.trace_core.proofs.memories.StepSoundness.{known-noted, noted-under, sound-step, err-seen}
+use Rattle.trace_core.proofs.processes.NoteCalls.{holds-under, under-holds}
+use Rattle.trace_core.proofs.processes.NoteEvents.{holds-step}
+use Rattle.trace_core.proofs.memories.ParentCells.{cells-filled, filled-step}
+use Rattle.trace_core.proofs.enough.PlainPools.{step-empty, step-told, plain-still, plain-empty}
+use Rattle.trace_core.proofs.enough.EventReach.{reached-step}
+use Rattle.trace_core.proofs.memories.SlotUsers.{used-there, kept-used}
+use Rattle.trace_core.proofs.processes.KernelProcesses.{known-given}
 use Rattle.trace_core.proofs.kernel.Kernel.step.Goals as goal
 
 pub step-answer-requires-clause-stands : goal.step-answer-requires-clause-stands

@@ -1,15 +1,15 @@
 use Rattle.std.proofs.Common.{ap, arith, refl}
-use Rattle.trace_core.proofs.Stood.{known-under}
-use Rattle.trace_core.proofs.SoundSteps.{known-noted, noted-under}
+use Rattle.trace_core.proofs.supplies.Policies.{known-under}
+use Rattle.trace_core.proofs.memories.StepSoundness.{known-noted, noted-under}
 use Rattle.trace_core.specs.CallAnswers.{area_outcome}
 use Rattle.trace_core.specs.KernelSeen.{notes_of}
-use Rattle.trace_core.proofs.HeldNotes.{map-holds, holds-under, under-holds}
-use Rattle.trace_core.proofs.ReachedEvents.{map-reached}
-use Rattle.trace_core.proofs.PlainPools.{ran-empty, plain-still, plain-empty}
-use Rattle.trace_core.proofs.AreaCalls.{unless-done, map-known, map-granted, map-refused, map-keeps}
-use Rattle.trace_core.proofs.UsedCells.{used-there, kept-used}
-use Rattle.trace_core.proofs.WentCalls.{map-went}
-use Rattle.trace_core.proofs.KernelProcesses.{known-given}
+use Rattle.trace_core.proofs.processes.NoteCalls.{map-holds, holds-under, under-holds}
+use Rattle.trace_core.proofs.enough.EventReach.{map-reached}
+use Rattle.trace_core.proofs.enough.PlainPools.{ran-empty, plain-still, plain-empty}
+use Rattle.trace_core.proofs.memories.AreaCalls.{unless-done, map-known, map-granted, map-refused, map-keeps}
+use Rattle.trace_core.proofs.memories.SlotUsers.{used-there, kept-used}
+use Rattle.trace_core.proofs.processes.CallCourses.{map-went}
+use Rattle.trace_core.proofs.processes.KernelProcesses.{known-given}
 use Rattle.trace_core.proofs.memory.KernelMemory.map.Goals as goal
 
 pub invariant_of-self-clause-stood : goal.invariant_of-self-clause-stood

@@ -1,15 +1,15 @@
 use Rattle.std.proofs.Common.{arith, refl}
-use Rattle.trace_core.proofs.Stood.{known-under}
-use Rattle.trace_core.proofs.SoundSteps.{known-noted, noted-under}
+use Rattle.trace_core.proofs.supplies.Policies.{known-under}
+use Rattle.trace_core.proofs.memories.StepSoundness.{known-noted, noted-under}
 use Rattle.trace_core.specs.CallAnswers.{area_outcome}
 use Rattle.trace_core.specs.KernelSeen.{notes_of}
-use Rattle.trace_core.proofs.HeldNotes.{protect-holds, holds-under, under-holds}
-use Rattle.trace_core.proofs.ReachedEvents.{protect-reached}
-use Rattle.trace_core.proofs.PlainPools.{ran-empty, plain-still, plain-empty}
-use Rattle.trace_core.proofs.AreaCalls.{unless-done, protect-known, protect-granted, protect-refused, protect-keeps}
-use Rattle.trace_core.proofs.UsedCells.{used-there, kept-used}
-use Rattle.trace_core.proofs.WentCalls.{protect-went}
-use Rattle.trace_core.proofs.KernelProcesses.{known-given}
+use Rattle.trace_core.proofs.processes.NoteCalls.{protect-holds, holds-under, under-holds}
+use Rattle.trace_core.proofs.enough.EventReach.{protect-reached}
+use Rattle.trace_core.proofs.enough.PlainPools.{ran-empty, plain-still, plain-empty}
+use Rattle.trace_core.proofs.memories.AreaCalls.{unless-done, protect-known, protect-granted, protect-refused, protect-keeps}
+use Rattle.trace_core.proofs.memories.SlotUsers.{used-there, kept-used}
+use Rattle.trace_core.proofs.processes.CallCourses.{protect-went}
+use Rattle.trace_core.proofs.processes.KernelProcesses.{known-given}
 use Rattle.trace_core.proofs.memory.KernelMemory.protect.Goals as goal
 
 pub protect-requires-clause-stands : goal.protect-requires-clause-stands

@@ -1,10 +1,10 @@
 use Rattle.std.proofs.Common.{length, arith, Ok, Err}
 use Rattle.vm_base.specs.FlatStep.{OutsideAreas}
-use Rattle.trace_core.proofs.Stood.{known-under}
-use Rattle.trace_core.proofs.SoundSteps.{known-noted, noted-under}
-use Rattle.trace_core.proofs.KernelMemories.{known-memory}
-use Rattle.trace_core.proofs.ToldMemories.{told-memory}
-use Rattle.trace_core.proofs.SeenReads.{read-seen}
+use Rattle.trace_core.proofs.supplies.Policies.{known-under}
+use Rattle.trace_core.proofs.memories.StepSoundness.{known-noted, noted-under}
+use Rattle.trace_core.proofs.memories.KernelMemories.{known-memory}
+use Rattle.trace_core.proofs.memories.WithEnough.{told-memory}
+use Rattle.trace_core.proofs.memories.Reads.{read-seen}
 use Rattle.trace_core.specs.WentOn.{went-none}
 use Rattle.trace_core.proofs.memory.KernelMemory.read.Goals as goal
 

@@ -1,13 +1,13 @@
 use Rattle.std.proofs.Common.{◌<◌, sym, ap, subst, arith}
 use Rattle.std.specs.Prelude.{IsTrue}
-use Rattle.trace_core.proofs.SoundSteps.{noted-under}
+use Rattle.trace_core.proofs.memories.StepSoundness.{noted-under}
 use Rattle.trace_core.specs.KernelSeen.{notes_of}
-use Rattle.trace_core.proofs.HeldNotes.{store-holds, holds-under, under-holds}
-use Rattle.trace_core.proofs.PlainPools.{plain-still}
-use Rattle.trace_core.proofs.KernelTouches.{bytes-fit, known-ready, known-stored, store-stores, store-kept}
-use Rattle.trace_core.proofs.UsedCells.{used-there, kept-used}
-use Rattle.trace_core.proofs.WentCalls.{store-went}
-use Rattle.trace_core.proofs.KernelProcesses.{known-given}
+use Rattle.trace_core.proofs.processes.NoteCalls.{store-holds, holds-under, under-holds}
+use Rattle.trace_core.proofs.enough.PlainPools.{plain-still}
+use Rattle.trace_core.proofs.memories.TouchCalls.{bytes-fit, known-ready, known-stored, store-stores, store-kept}
+use Rattle.trace_core.proofs.memories.SlotUsers.{used-there, kept-used}
+use Rattle.trace_core.proofs.processes.CallCourses.{store-went}
+use Rattle.trace_core.proofs.processes.KernelProcesses.{known-given}
 use Rattle.trace_core.proofs.memory.KernelMemory.store.Goals as goal
 
 -- src/memory.rt:65:9

@@ -1,18 +1,18 @@
 use Rattle.std.proofs.Common.{refl, sym, ◌∙◌, ap, arith}
 use Rattle.trace_core.specs.TouchAnswers.{touch_outcome}
 use Rattle.trace_core.specs.KernelSeen.{notes_of, most_behind_touch}
-use Rattle.trace_core.proofs.Stood.{known-under}
-use Rattle.trace_core.proofs.SoundSteps.{known-noted, noted-under}
-use Rattle.trace_core.proofs.KernelMemories.{known-memory}
-use Rattle.trace_core.proofs.HeldNotes.{touch-holds, holds-under, under-holds}
-use Rattle.trace_core.proofs.ReachedEvents.{touch-reached}
-use Rattle.trace_core.proofs.PlainPools.{ran-empty, plain-still, plain-empty}
-use Rattle.trace_core.proofs.ToldMemories.{told-memory, told-kept}
-use Rattle.trace_core.proofs.KernelTouches.{touches-none, kept-same, known-touched, touch-touches, touch-fails, touch-kept}
-use Rattle.trace_core.proofs.UsedCells.{used-there, kept-used}
+use Rattle.trace_core.proofs.supplies.Policies.{known-under}
+use Rattle.trace_core.proofs.memories.StepSoundness.{known-noted, noted-under}
+use Rattle.trace_core.proofs.memories.KernelMemories.{known-memory}
+use Rattle.trace_core.proofs.processes.NoteCalls.{touch-holds, holds-under, under-holds}
+use Rattle.trace_core.proofs.enough.EventReach.{touch-reached}
+use Rattle.trace_core.proofs.enough.PlainPools.{ran-empty, plain-still, plain-empty}
+use Rattle.trace_core.proofs.memories.WithEnough.{told-memory, told-kept}
+use Rattle.trace_core.proofs.memories.TouchCalls.{touches-none, kept-same, known-touched, touch-touches, touch-fails, touch-kept}
+use Rattle.trace_core.proofs.memories.SlotUsers.{used-there, kept-used}
 use Rattle.trace_core.specs.WentOn.{went-none}
-use Rattle.trace_core.proofs.WentCalls.{touch-went}
-use Rattle.trace_core.proofs.KernelProcesses.{known-given}
+use Rattle.trace_core.proofs.processes.CallCourses.{touch-went}
+use Rattle.trace_core.proofs.processes.KernelProcesses.{known-given}
 use Rattle.trace_core.proofs.memory.KernelMemory.touch.Goals as goal
 
 -- src/memory.rt:56:13

@@ -1,15 +1,15 @@
 use Rattle.std.proofs.Common.{arith, refl}
-use Rattle.trace_core.proofs.Stood.{known-under}
-use Rattle.trace_core.proofs.SoundSteps.{known-noted, noted-under}
+use Rattle.trace_core.proofs.supplies.Policies.{known-under}
+use Rattle.trace_core.proofs.memories.StepSoundness.{known-noted, noted-under}
 use Rattle.trace_core.specs.CallAnswers.{area_outcome}
 use Rattle.trace_core.specs.KernelSeen.{notes_of}
-use Rattle.trace_core.proofs.HeldNotes.{unmap-holds, holds-under, under-holds}
-use Rattle.trace_core.proofs.ReachedEvents.{unmap-reached}
-use Rattle.trace_core.proofs.PlainPools.{ran-empty, plain-still, plain-empty}
-use Rattle.trace_core.proofs.AreaCalls.{unless-done, unmap-known, unmap-granted, unmap-refused, unmap-keeps}
-use Rattle.trace_core.proofs.UsedCells.{used-there, kept-used}
-use Rattle.trace_core.proofs.WentCalls.{unmap-went}
-use Rattle.trace_core.proofs.KernelProcesses.{known-given}
+use Rattle.trace_core.proofs.processes.NoteCalls.{unmap-holds, holds-under, under-holds}
+use Rattle.trace_core.proofs.enough.EventReach.{unmap-reached}
+use Rattle.trace_core.proofs.enough.PlainPools.{ran-empty, plain-still, plain-empty}
+use Rattle.trace_core.proofs.memories.AreaCalls.{unless-done, unmap-known, unmap-granted, unmap-refused, unmap-keeps}
+use Rattle.trace_core.proofs.memories.SlotUsers.{used-there, kept-used}
+use Rattle.trace_core.proofs.processes.CallCourses.{unmap-went}
+use Rattle.trace_core.proofs.processes.KernelProcesses.{known-given}
 use Rattle.trace_core.proofs.memory.KernelMemory.unmap.Goals as goal
 
 pub unmap-requires-clause-stands : goal.unmap-requires-clause-stands

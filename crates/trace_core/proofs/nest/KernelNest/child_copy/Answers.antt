@@ -1,7 +1,7 @@
 use Rattle.std.proofs.Common.{refl}
 use Rattle.trace_core.specs.KernelSeen.{parts_of, notes_of}
-use Rattle.trace_core.proofs.Waiting.{all-copied}
-use Rattle.trace_core.proofs.SeenNests.{copy-lost, copy-lowest, copy-none, nest-keeps}
+use Rattle.trace_core.proofs.processes.Waits.{all-copied}
+use Rattle.trace_core.proofs.processes.Nests.{copy-lost, copy-lowest, copy-none, nest-keeps}
 use Rattle.trace_core.specs.WentOn.{went-none}
 use Rattle.trace_core.proofs.nest.KernelNest.child_copy.Goals as goal
 

@@ -1,8 +1,8 @@
 use Rattle.std.proofs.Common.{length, refl, ap, Ok, Err}
 use Rattle.trace_core.specs.KernelSeen.{parts_of, notes_of}
-use Rattle.trace_core.proofs.Stood.{known-under}
-use Rattle.trace_core.proofs.SoundSteps.{known-noted, noted-under}
-use Rattle.trace_core.proofs.SeenNests.{read-bytes, read-outside, read-lost, read-lives, nest-keeps}
+use Rattle.trace_core.proofs.supplies.Policies.{known-under}
+use Rattle.trace_core.proofs.memories.StepSoundness.{known-noted, noted-under}
+use Rattle.trace_core.proofs.processes.Nests.{read-bytes, read-outside, read-lost, read-lives, nest-keeps}
 use Rattle.trace_core.specs.WentOn.{went-none}
 use Rattle.trace_core.proofs.nest.KernelNest.child_read.Goals as goal
 

@@ -1,7 +1,7 @@
 use Rattle.std.proofs.Common.{refl, sym, ◌∙◌, ap}
 use Rattle.trace_core.specs.KernelStanding.{sides_of}
-use Rattle.trace_core.proofs.Copies.{ran-uncopied, ran-copy, state_outcome, nothing-unlost}
-use Rattle.trace_core.proofs.Known.{known-tables}
+use Rattle.trace_core.proofs.events.Copies.{ran-uncopied, ran-copy, state_outcome, nothing-unlost}
+use Rattle.trace_core.proofs.events.KernelFacts.{known-tables}
 use Rattle.trace_core.proofs.parts.Parts.copy.Goals as goal
 
 pub state-requires-clause-stands : goal.state-requires-clause-stands

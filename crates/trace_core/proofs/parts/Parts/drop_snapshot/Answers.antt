@@ -1,9 +1,10 @@
 use Rattle.std.proofs.Common.{refl, sym, ◌∙◌}
 use Rattle.trace_core.specs.KernelStanding.{sides_of}
-use Rattle.trace_core.proofs.Drops.{ran-undropped, ran-dropped}
-use Rattle.trace_core.proofs.OneSnapshot.{number-is}
-use Rattle.trace_core.proofs.Writes.{moved-alike, moved-even}
-use Rattle.trace_core.proofs.Known.{known-tables, known-lent}
+use Rattle.trace_core.proofs.events.Drops.{ran-undropped, ran-dropped}
+use Rattle.trace_core.proofs.events.OneSnapshot.{number-is}
+use Rattle.trace_core.proofs.events.Writes.{moved-alike}
+use Rattle.page_tables.proofs.view.TablesShown.{even-moved}
+use Rattle.trace_core.proofs.events.KernelFacts.{known-tables, known-lent}
 use Rattle.trace_core.proofs.parts.Parts.drop_snapshot.Goals as goal
 
 pub drop_snapshot-requires-clause-stands : goal.drop_snapshot-requires-clause-stands
@@ -23,7 +24,7 @@ returns g c = record {
       let live = sym c.is_live.ensures ∙ c.if-not-is_live.false in
       let made = c.drop_snapshot.ensures.made c.args.number (st.number ∙ number-is _ c.args.number live) in
       ran-dropped _ machine state st c.args.number live c.drop_snapshot.new.self made.deals (made.follows (sides_of state st.pages) st.tables) _ made.led
-      (moved-even _ _ _ _ c.drop_snapshot.ensures.even st.even)
+      (even-moved c.args.self.now.tables c.drop_snapshot.new.self c.drop_snapshot.ensures.even st.even)
       (moved-alike _ _ _ _ c.drop_snapshot.ensures.held st.out)
       c.drop_snapshot.ensures.gone
       (c.drop_snapshot.ensures.slots ∙ st.slots);

@@ -1,7 +1,7 @@
 use Rattle.std.proofs.Common.{◌≡◌, length, ◌∙◌, ap, subst}
 use Rattle.std.proofs.lemmas.List.{length-replicate}
 use Rattle.trace_core.specs.Writing.{WritesAfterWrite}
-use Rattle.trace_core.proofs.RunSteps.{written-alike}
+use Rattle.trace_core.proofs.runs.RunSteps.{written-alike}
 use Rattle.trace_core.proofs.parts.Parts.fill.Goals as goal
 
 pub returns-clause-ran : goal.returns-clause-ran

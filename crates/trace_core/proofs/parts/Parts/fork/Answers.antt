@@ -4,16 +4,17 @@ use Rattle.kernel_meaning.specs.EventRequests.{FrameRefusal}
 use Rattle.std.specs.Prelude.{None}
 use Rattle.trace_core.specs.CallAnswers.{fork_outcome}
 use Rattle.trace_core.specs.KernelStanding.{kept_number, sides_of}
-use Rattle.trace_core.proofs.Forks.{ran-too-many, ran-unforked, ran-forked}
-use Rattle.trace_core.proofs.OneSnapshot.{nothing-there}
-use Rattle.trace_core.proofs.SeenForks.{is_too_many}
-use Rattle.trace_core.proofs.Writes.{moved-alike, moved-even}
-use Rattle.trace_core.proofs.Known.{none-numbered, known-snapshot, known-tables, known-lent}
+use Rattle.trace_core.proofs.events.Forks.{ran-too-many, ran-unforked, ran-forked}
+use Rattle.trace_core.proofs.events.OneSnapshot.{nothing-there}
+use Rattle.trace_core.proofs.processes.Children.{is_too_many}
+use Rattle.trace_core.proofs.events.Writes.{moved-alike}
+use Rattle.trace_core.proofs.events.KernelFacts.{known-snapshot, known-tables, known-lent}
+use Rattle.page_tables.proofs.view.TablesShown.{number-lacks, even-moved}
 use Rattle.trace_core.proofs.parts.Parts.fork.Goals as goal
 
 pub fork-requires-clause-alone : goal.fork-requires-clause-alone
 fork-requires-clause-alone g c =
-    none-numbered c.args.self.now.tables.snapshot (known-snapshot _ c.requires.stands
+    number-lacks c.args.self.now.tables (known-snapshot _ c.requires.stands
     ∙ ap kept_number (nothing-there c.args.self.now.snapshot (sym c.is_some.ensures ∙ c.if-is_some.false)))
 
 pub fork-requires-clause-stands : goal.fork-requires-clause-stands
@@ -37,7 +38,7 @@ returns-in-Ok g c = record {
       let made = c.in-Ok.ensures.made in
       ran-forked _ machine state st c.args.number (nothing-there c.args.self.now.snapshot (sym c.is_some.ensures ∙ c.if-is_some.false)) c.fork.new.self made.deals
       (made.follows (sides_of state st.pages) st.tables) _ made.led
-      (moved-even _ _ _ _ c.fork.ensures.even st.even)
+      (even-moved c.args.self.now.tables c.fork.new.self c.fork.ensures.even st.even)
       (moved-alike _ _ _ _ c.fork.ensures.held st.out)
       (c.fork.ensures.slots ∙ st.slots)
       c.in-Ok.ensures.lives c.copy.result c.copy.ensures;
@@ -53,7 +54,7 @@ returns-in-Err g c = record {
       let refusal : FrameRefusal = record { at = c.in-Err.refused.at; page = None } in
       ran-unforked _ machine state st c.args.number (nothing-there c.args.self.now.snapshot (sym c.is_some.ensures ∙ c.if-is_some.false)) c.fork.new.self made.deals refusal
       (made.follows (sides_of state st.pages) st.tables) _ made.led
-      (moved-even _ _ _ _ c.fork.ensures.even st.even)
+      (even-moved c.args.self.now.tables c.fork.new.self c.fork.ensures.even st.even)
       (moved-alike _ _ _ _ c.fork.ensures.held st.out)
       (c.fork.ensures.slots ∙ st.slots)
       c.in-Err.ensures.kept;

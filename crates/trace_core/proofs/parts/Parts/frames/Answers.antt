@@ -1,6 +1,6 @@
 use Rattle.std.proofs.Common.{refl}
 use Rattle.trace_events.specs.declared.event.Event.TheVariants.{Frames}
-use Rattle.trace_core.proofs.RunSteps.{told-follows, frames-told}
+use Rattle.trace_core.proofs.runs.RunSteps.{told-follows, frames-told}
 use Rattle.trace_core.proofs.parts.Parts.frames.Goals as goal
 
 pub returns : goal.returns

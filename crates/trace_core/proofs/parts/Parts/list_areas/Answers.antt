@@ -2,7 +2,7 @@ use Rattle.std.proofs.Common.{refl, sym, ◌∙◌, ap}
 use Rattle.trace_events.specs.declared.event.Event.TheVariants.{ListAreas}
 use Rattle.trace_events.specs.declared.outcome.Outcome.TheVariants.{AreaRow}
 use Rattle.trace_core.specs.EventMeaning.{only_answers}
-use Rattle.trace_core.proofs.RunSteps.{told-follows}
+use Rattle.trace_core.proofs.runs.RunSteps.{told-follows}
 use Rattle.trace_core.proofs.parts.Parts.list_areas.Goals as goal
 
 pub returns : goal.returns

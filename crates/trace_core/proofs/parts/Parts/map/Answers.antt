@@ -1,4 +1,4 @@
-use Rattle.trace_core.proofs.AreaChanges.{ran-map, refused-same}
+use Rattle.trace_core.proofs.events.AreaChanges.{ran-map, refused-same}
 use Rattle.trace_core.proofs.parts.Parts.map.Goals as goal
 
 -- src/writing.rt:23:5

@@ -1,6 +1,6 @@
 use Rattle.std.proofs.Common.{ap, refl}
-use Rattle.trace_core.proofs.Writes.{opening-stands}
-use Rattle.trace_core.proofs.RunSteps.{run-opens}
+use Rattle.trace_core.proofs.events.Writes.{opening-stands}
+use Rattle.trace_core.proofs.runs.RunSteps.{run-opens}
 use Rattle.trace_core.proofs.parts.Parts.new.Goals as goal
 
 pub returns : goal.returns

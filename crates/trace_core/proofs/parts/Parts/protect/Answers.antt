@@ -2,8 +2,8 @@ use Rattle.std.proofs.Common.{◌∙◌, ap, Err}
 use Rattle.std.proofs.lemmas.Result.{err_from_is_err_and}
 use Rattle.area_list.specs.Answers.{refusal_of}
 use Rattle.trace_core.specs.CallAnswers.{area_outcome}
-use Rattle.trace_core.proofs.AreaChanges.{ran-protect_refused, ran-protected_entries}
-use Rattle.trace_core.proofs.Known.{known-tables}
+use Rattle.trace_core.proofs.events.AreaChanges.{ran-protect_refused, ran-protected_entries}
+use Rattle.trace_core.proofs.events.KernelFacts.{known-tables}
 use Rattle.trace_core.proofs.parts.Parts.protect.Goals as goal
 
 pub protect-requires-2-clause-stands : goal.protect-requires-2-clause-stands

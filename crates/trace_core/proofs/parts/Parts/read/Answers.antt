@@ -2,8 +2,8 @@ use Rattle.std.proofs.Common.{length, ◌/◌}
 use Rattle.vm_base.specs.FlatStep.{outside}
 use Rattle.std.proofs.Common.{Ok, sym, ◌∙◌, ap}
 use Rattle.trace_core.specs.KernelStanding.{sides_of}
-use Rattle.trace_core.proofs.Writes.{read-granted}
-use Rattle.trace_core.proofs.Known.{known-tables}
+use Rattle.trace_core.proofs.events.Writes.{read-granted}
+use Rattle.trace_core.proofs.events.KernelFacts.{known-tables}
 use Rattle.trace_core.proofs.parts.Parts.read.Goals as goal
 
 pub read-requires-clause-stands : goal.read-requires-clause-stands

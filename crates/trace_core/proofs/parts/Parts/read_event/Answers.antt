@@ -5,7 +5,7 @@ use Rattle.trace_events.specs.declared.outcome.Outcome.TheVariants.{Bytes}
 use Rattle.trace_core.specs.EventMeaning.{read_outcome}
 use Rattle.vm_base.specs.FlatStep.{read_of}
 use Rattle.trace_core.specs.KernelStanding.{read_answer}
-use Rattle.trace_core.proofs.RunSteps.{read-follows, bytes-if-ok}
+use Rattle.trace_core.proofs.runs.RunSteps.{read-follows, bytes-if-ok}
 use Rattle.trace_core.proofs.parts.Parts.read_event.Goals as goal
 
 pub returns-in-Ok : goal.returns-in-Ok

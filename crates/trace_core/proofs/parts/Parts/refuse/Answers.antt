@@ -1,5 +1,5 @@
 use Rattle.std.proofs.Common.{refl}
-use Rattle.trace_core.proofs.RunSteps.{refuse-ran}
+use Rattle.trace_core.proofs.runs.RunSteps.{refuse-ran}
 use Rattle.trace_core.proofs.parts.Parts.refuse.Goals as goal
 
 pub returns : goal.returns

@@ -2,7 +2,7 @@ use Rattle.std.proofs.Common.{refl, sym, ◌∙◌, ap, subst}
 use Rattle.trace_events.specs.declared.event.Event.TheVariants.{Map, Unmap, Protect, Write, Fill, Fork, Copy, Drop, Frames, Refuse}
 use Rattle.vm_base.specs.declared.fork_mode.Mode.TheVariants.{Eager}
 use Rattle.trace_events.specs.EventBounds.{IsWithinBounds}
-use Rattle.trace_core.proofs.RunSteps.{HasEnded, ran-same, ran-parent, ran-if-ok, only-eager, copy-follows}
+use Rattle.trace_core.proofs.runs.RunSteps.{HasEnded, ran-same, ran-parent, ran-if-ok, only-eager, copy-follows}
 use Rattle.trace_core.proofs.parts.Parts.run_event.Goals as goal
 
 pub returns-in-Map-clause-ran : goal.returns-in-Map-clause-ran

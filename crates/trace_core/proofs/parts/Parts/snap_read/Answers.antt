@@ -1,8 +1,8 @@
 use Rattle.std.proofs.Common.{length, ◌/◌, sym, ◌∙◌, ap}
 use Rattle.vm_base.specs.FlatStep.{outside}
 use Rattle.trace_core.specs.KernelStanding.{sides_of}
-use Rattle.trace_core.proofs.SnapshotReads.{unread-none, unread-other, unread-outside, unread-lost, read-whole}
-use Rattle.trace_core.proofs.Known.{known-tables}
+use Rattle.trace_core.proofs.events.SnapshotReads.{unread-none, unread-other, unread-outside, unread-lost, read-whole}
+use Rattle.trace_core.proofs.events.KernelFacts.{known-tables}
 use Rattle.trace_core.proofs.parts.Parts.snap_read.Goals as goal
 
 pub snap_read-requires-clause-stands : goal.snap_read-requires-clause-stands

@@ -5,7 +5,7 @@ use Rattle.trace_events.specs.declared.outcome.Outcome.TheVariants.{Bytes}
 use Rattle.trace_core.specs.EventMeaning.{snap_read_outcome}
 use Rattle.vm_base.specs.TwoSides.{snap_read_of}
 use Rattle.trace_core.specs.SnapshotAnswers.{snap_read_answer}
-use Rattle.trace_core.proofs.RunSteps.{snap_read-follows, bytes-if-ok}
+use Rattle.trace_core.proofs.runs.RunSteps.{snap_read-follows, bytes-if-ok}
 use Rattle.trace_core.proofs.parts.Parts.snap_read_event.Goals as goal
 
 pub returns-in-Ok : goal.returns-in-Ok

@@ -1,4 +1,4 @@
-use Rattle.trace_core.proofs.RunSteps.{run-if-ok}
+use Rattle.trace_core.proofs.runs.RunSteps.{run-if-ok}
 use Rattle.trace_core.proofs.parts.Parts.step.Goals as goal
 
 pub returns-clause-run : goal.returns-clause-run

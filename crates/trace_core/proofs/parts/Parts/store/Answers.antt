@@ -2,8 +2,9 @@ use Rattle.std.proofs.Common.{length, refl, sym, ◌∙◌}
 use Rattle.std.proofs.Math.Logic.{∥∥₁_map}
 use Rattle.vm_base.specs.Places.{page_count}
 use Rattle.trace_core.specs.KernelStanding.{sides_of}
-use Rattle.trace_core.proofs.Writes.{page-within}
-use Rattle.trace_core.proofs.Stores.{stored-stands, stands-unstored, some-bytes, no-bytes}
+use Rattle.trace_core.proofs.events.Writes.{page-within}
+use Rattle.trace_core.proofs.events.Stores.{stored-stands, stands-unstored, some-bytes, no-bytes}
+use Rattle.page_tables.proofs.view.TablesShown.{even-alike}
 use Rattle.trace_core.proofs.parts.Parts.store.Goals as goal
 
 -- src/writing.rt:104:13
@@ -29,4 +30,4 @@ store-requires-clause-stands g c = ∥∥₁_map c.requires.ready (λ it. (
 pub returns-clause-stored : goal.returns-clause-stored
 returns-clause-stored g c = λ machine state st.
     stored-stands _ machine state c.args.addr c.args.bytes.now c.store.new.self st
-    c.store.ensures.stored c.store.ensures.held c.store.ensures.cells.frames c.store.ensures.cells.shares c.store.ensures.snapshot c.store.ensures.slots
+    c.store.ensures.stored c.store.ensures.held (even-alike c.args.self.now.tables c.store.new.self c.store.ensures.cells st.even) c.store.ensures.snapshot c.store.ensures.slots

@@ -4,9 +4,9 @@ use Rattle.vm_base.specs.Places.{page_of}
 use Rattle.page_tables.specs.Ranges.{cells_of_pages}
 use Rattle.trace_core.specs.KernelStanding.{sides_of}
 use Rattle.std.proofs.Math.Logic.{∥∥₁_map}
-use Rattle.trace_core.proofs.Writes.{touch-leaves, touched-outside, touched-read_only, touched-full, touched-done, touched-no_frame, room-there}
-use Rattle.trace_core.proofs.RefusedPages.{page-lacks}
-use Rattle.trace_core.proofs.Known.{known-tables, known-lent}
+use Rattle.trace_core.proofs.events.Writes.{touch-leaves, touched-outside, touched-read_only, touched-full, touched-done, touched-no_frame, room-there}
+use Rattle.page_tables.proofs.view.RefusalPages.{page-lacks}
+use Rattle.trace_core.proofs.events.KernelFacts.{known-tables, known-lent}
 use Rattle.trace_core.proofs.parts.Parts.touch.Goals as goal
 
 pub lacks_slots-requires-clause-stands : goal.lacks_slots-requires-clause-stands

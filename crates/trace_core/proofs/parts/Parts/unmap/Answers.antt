@@ -1,12 +1,12 @@
 use Rattle.std.proofs.Common.{◌∙◌, ap, Err}
 use Rattle.std.proofs.lemmas.Result.{err_from_is_err_and}
 use Rattle.area_list.specs.Answers.{refusal_of}
-use Rattle.page_tables.specs.Standing.{number_of}
+use Rattle.page_tables.proofs.view.TablesShown.{even-moved, same-number}
 use Rattle.trace_core.specs.KernelStanding.{sides_of}
-use Rattle.trace_core.proofs.Writes.{moved-alike, moved-even}
+use Rattle.trace_core.proofs.events.Writes.{moved-alike}
 use Rattle.trace_core.specs.CallAnswers.{area_outcome}
-use Rattle.trace_core.proofs.AreaChanges.{ran-unmap_refused, ran-unmapped}
-use Rattle.trace_core.proofs.Known.{known-tables, known-lent}
+use Rattle.trace_core.proofs.events.AreaChanges.{ran-unmap_refused, ran-unmapped}
+use Rattle.trace_core.proofs.events.KernelFacts.{known-tables, known-lent}
 use Rattle.trace_core.proofs.parts.Parts.unmap.Goals as goal
 
 pub unmap-requires-2-clause-stands : goal.unmap-requires-2-clause-stands
@@ -29,7 +29,7 @@ returns-clause-ran g c = λ machine state st.
     let made = c.unmap-2.ensures.made in
     ran-unmapped _ machine state st c.args.first c.args.pages c.unmap.new.self c.in_ok-unmap.ensures.answer _ c.unmap-2.new.self made.deals made.led
     (made.follows (sides_of state st.pages) st.tables)
-    (moved-even _ _ _ _ c.unmap-2.ensures.even st.even)
+    (even-moved c.args.self.now.tables c.unmap-2.new.self c.unmap-2.ensures.even st.even)
     (moved-alike _ _ _ _ c.unmap-2.ensures.held st.out)
-    (ap number_of c.unmap-2.ensures.snapshot ∙ st.number)
+    (same-number c.args.self.now.tables c.unmap-2.new.self c.unmap-2.ensures.snapshot ∙ st.number)
     (c.unmap-2.ensures.slots ∙ st.slots)

@@ -1,7 +1,7 @@
 use Rattle.std.proofs.Common.{Ok, Err, refl, sym, subst}
 use Rattle.trace_core.specs.KernelStanding.{EventRan}
 use Rattle.std.proofs.Math.Logic.{∥∥₁_map}
-use Rattle.trace_core.proofs.Stores.{ran-stored, ran-unstored, lets-kept}
+use Rattle.trace_core.proofs.events.Stores.{ran-stored, ran-unstored, lets-kept}
 use Rattle.trace_core.proofs.parts.Parts.write.Goals as goal
 
 -- src/writing.rt:122:17

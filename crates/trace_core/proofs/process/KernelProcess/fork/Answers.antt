@@ -3,18 +3,18 @@ use Rattle.vm_base.specs.declared.fork_mode.Mode.TheVariants.{Eager}
 use Rattle.trace_core.specs.EventMeaning.{fork_end}
 use Rattle.trace_core.specs.CallAnswers.{fork_outcome}
 use Rattle.trace_core.specs.KernelSeen.{notes_of}
-use Rattle.trace_core.proofs.Stood.{known-under}
-use Rattle.trace_core.proofs.SoundSteps.{known-noted, noted-under}
-use Rattle.trace_core.proofs.KernelMemories.{known-memory}
-use Rattle.trace_core.proofs.HeldNotes.{holds-under, under-holds}
-use Rattle.trace_core.proofs.PlainPools.{ran-empty, plain-still, plain-empty}
-use Rattle.trace_core.proofs.ToldMemories.{told-kept}
-use Rattle.trace_core.proofs.KernelTouches.{kept-same}
-use Rattle.trace_core.proofs.KernelProcesses.{known-children, forked-noted, fork-copy, fork-born, fork-forked, fork-fails, fork-failed, fork-leaves, fork-kept, fork-others, fork-known, fork-holds, fork-reached}
-use Rattle.trace_core.proofs.UsedCells.{used-there, kept-used}
+use Rattle.trace_core.proofs.supplies.Policies.{known-under}
+use Rattle.trace_core.proofs.memories.StepSoundness.{known-noted, noted-under}
+use Rattle.trace_core.proofs.memories.KernelMemories.{known-memory}
+use Rattle.trace_core.proofs.processes.NoteCalls.{holds-under, under-holds}
+use Rattle.trace_core.proofs.enough.PlainPools.{ran-empty, plain-still, plain-empty}
+use Rattle.trace_core.proofs.memories.WithEnough.{told-kept}
+use Rattle.trace_core.proofs.memories.TouchCalls.{kept-same}
+use Rattle.trace_core.proofs.processes.KernelProcesses.{known-children, forked-noted, fork-copy, fork-born, fork-forked, fork-fails, fork-failed, fork-leaves, fork-kept, fork-others, fork-known, fork-holds, fork-reached}
+use Rattle.trace_core.proofs.memories.SlotUsers.{used-there, kept-used}
 use Rattle.trace_core.specs.WentOn.{went-none}
-use Rattle.trace_core.proofs.WentCalls.{fork-went}
-use Rattle.trace_core.proofs.KernelProcesses.{known-given}
+use Rattle.trace_core.proofs.processes.CallCourses.{fork-went}
+use Rattle.trace_core.proofs.processes.KernelProcesses.{known-given}
 use Rattle.trace_core.proofs.process.KernelProcess.fork.Goals as goal
 
 -- src/process.rt:52:13

@@ -1,4 +1,4 @@
-use Rattle.trace_core.proofs.KernelProcesses.{known-children}
+use Rattle.trace_core.proofs.processes.KernelProcesses.{known-children}
 use Rattle.trace_core.proofs.process.KernelProcess.last.Goals as goal
 
 -- src/process.rt:81:5

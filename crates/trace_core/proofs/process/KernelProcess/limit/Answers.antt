@@ -1,4 +1,4 @@
-use Rattle.trace_core.proofs.KernelProcesses.{known-children}
+use Rattle.trace_core.proofs.processes.KernelProcesses.{known-children}
 use Rattle.trace_core.proofs.process.KernelProcess.limit.Goals as goal
 
 -- src/process.rt:85:5

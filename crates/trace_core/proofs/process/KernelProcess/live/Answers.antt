@@ -1,4 +1,4 @@
-use Rattle.trace_core.proofs.KernelProcesses.{known-children}
+use Rattle.trace_core.proofs.processes.KernelProcesses.{known-children}
 use Rattle.trace_core.proofs.process.KernelProcess.live.Goals as goal
 
 -- src/process.rt:77:5

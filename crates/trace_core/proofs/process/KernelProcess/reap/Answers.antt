@@ -1,14 +1,14 @@
 use Rattle.std.proofs.Common.{◌<◌, refl, subst, arith}
 use Rattle.trace_core.specs.EventMeaning.{drop_end}
 use Rattle.trace_core.specs.KernelSeen.{notes_of}
-use Rattle.trace_core.proofs.Stood.{known-under}
-use Rattle.trace_core.proofs.SoundSteps.{known-noted, noted-under}
-use Rattle.trace_core.proofs.HeldNotes.{holds-under, under-holds}
-use Rattle.trace_core.proofs.PlainPools.{ran-empty, plain-still}
-use Rattle.trace_core.proofs.KernelProcesses.{known-children, no-refusal, drop-known, drop-leaves, drop-kept, drop-reaps, drop-unlisted, drop-holds}
-use Rattle.trace_core.proofs.UsedCells.{used-there, kept-used}
-use Rattle.trace_core.proofs.WentCalls.{drop-went}
-use Rattle.trace_core.proofs.KernelProcesses.{known-given}
+use Rattle.trace_core.proofs.supplies.Policies.{known-under}
+use Rattle.trace_core.proofs.memories.StepSoundness.{known-noted, noted-under}
+use Rattle.trace_core.proofs.processes.NoteCalls.{holds-under, under-holds}
+use Rattle.trace_core.proofs.enough.PlainPools.{ran-empty, plain-still}
+use Rattle.trace_core.proofs.processes.KernelProcesses.{known-children, no-refusal, drop-known, drop-leaves, drop-kept, drop-reaps, drop-unlisted, drop-holds}
+use Rattle.trace_core.proofs.memories.SlotUsers.{used-there, kept-used}
+use Rattle.trace_core.proofs.processes.CallCourses.{drop-went}
+use Rattle.trace_core.proofs.processes.KernelProcesses.{known-given}
 use Rattle.trace_core.proofs.process.KernelProcess.reap.Goals as goal
 
 -- src/process.rt:68:17

@@ -2,7 +2,7 @@ use Rattle.std.proofs.Common.{None, refl, ◌∙◌, ap}
 use Rattle.std.proofs.lemmas.List.FromFn.{length-range_with_len}
 use Rattle.vm_base.specs.declared.frame_request.Asker.TheVariants.{Parent}
 use Rattle.trace_core.specs.SupplyState.{state_of}
-use Rattle.trace_core.proofs.Writes.{opens-all}
+use Rattle.trace_core.proofs.events.Writes.{opens-all}
 use Rattle.trace_core.proofs.supply.Supply.new.Goals as goal
 
 pub returns : goal.returns

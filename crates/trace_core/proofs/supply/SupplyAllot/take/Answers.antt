@@ -1,5 +1,5 @@
 use Rattle.std.proofs.Common.{sym}
-use Rattle.trace_core.proofs.SupplyLemmas.{granted-taken, refused-by_pool}
+use Rattle.trace_core.proofs.supplies.SupplyLemmas.{granted-taken, refused-by_pool}
 use Rattle.trace_core.proofs.supply.SupplyAllot.take.Goals as goal
 
 pub returns-in-Ok-clause-granted : goal.returns-in-Ok-clause-granted

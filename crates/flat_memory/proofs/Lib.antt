@@ -1,0 +1,6 @@
+pub mod EntryLemmas
+pub mod PageLemmas
+pub mod RangeLemmas
+pub mod UsedSlots
+pub mod FlatStands
+pub mod FlatCalls
