@@ -47,10 +47,12 @@ in_order = (omega arith, omega arith, λ same. absurd (omega (arith, same)), ome
 -- no cell uses a slot where none is in use
 none_used : (state : MemoryState) → set.len state.used ≡ 0 → (cell : ℕ) → IsIn cell state.used → ⊥
 none_used state none cell there =
-    false≢true (sym (set.contains-empty nat_cmp cell) ∙ ap (λ (s : Numbers). set.contains s cell) (sym (set.empty_of_len state.used none)) ∙ there)
+    false≢true (sym (set.contains-empty nat_cmp cell) ∙ ap (λ (s : Numbers). set.contains s cell) (sym (set.empty_of_len state.used none))
+    ∙ there)
 
 -- the header is touched, for all that areas and slots say
-pub header_answer : (old : MemoryState) → MayBegin old → touch_answer (mapped_state old) header_at 4096 ≡ Ok (touched (mapped_state old).mem header_at 4096)
+pub header_answer : (old : MemoryState) → MayBegin old → touch_answer (mapped_state old) header_at 4096
+    ≡ Ok (touched (mapped_state old).mem header_at 4096)
 header_answer old may =
     let state = mapped_state old in
     let slots : is_out_of_slots state header_at 4096 ≡ false = slots-among state header_at 4096 (1 ∷ [])
@@ -66,7 +68,9 @@ no_pages present none = same_numbered _ _ (λ page. none page ∙ sym (get-empty
 header_entry : (present : PageMap) → ((page : ℕ) → get present page ≡ None) → entries (with_pages present 512 1) ≡ (512, zero_page) ∷ []
 header_entry present none =
     let absent : is_some (get present 512) ≡ false = ap is_some (none 512) in
-    let nothing = nil_from_length (entries (empty {X = List ℕ} {R = nat_cmp})) (sym (len-entries (empty {X = List ℕ} {R = nat_cmp})) ∙ len-empty nat_cmp (List ℕ)) in
+    let nothing =
+    nil_from_length (entries (empty {X = List ℕ} {R = nat_cmp})) (sym (len-entries (empty {X = List ℕ} {R = nat_cmp}))
+    ∙ len-empty nat_cmp (List ℕ)) in
     ap entries (with_page_absent present 512 absent ∙ ap (λ (p : PageMap). insert p 512 zero_page) (no_pages present none))
     ∙ entries-insert nat_cmp_total (empty {X = List ℕ} {R = nat_cmp}) 512 zero_page
     ∙ ap (put nat_cmp 512 zero_page) nothing
@@ -76,8 +80,10 @@ pub header_frames : (memory : FlatMemory) → ((page : ℕ) → get memory.prese
 header_frames memory none =
     let es = header_entry memory.present none in
     let present = with_pages memory.present 512 1 in
-    let directory : directory_frames (map cell_of (keys present)) ≡ 3 = ap (λ (e : List (ℕ × List ℕ)). directory_frames (map cell_of (map (λ p. p.0) e))) es in
-    let leaves : length (distinct (map cell_of (keys present))) ≡ 1 = ap (λ (e : List (ℕ × List ℕ)). length (distinct (map cell_of (map (λ p. p.0) e)))) es in
+    let directory : directory_frames (map cell_of (keys present)) ≡ 3 =
+    ap (λ (e : List (ℕ × List ℕ)). directory_frames (map cell_of (map (λ p. p.0) e))) es in
+    let leaves : length (distinct (map cell_of (keys present))) ≡ 1 =
+    ap (λ (e : List (ℕ × List ℕ)). length (distinct (map cell_of (map (λ p. p.0) e)))) es in
     let pages : len present ≡ 1 = len-entries present ∙ ap length es in
     omega (arith, directory, leaves, pages)
 
@@ -103,8 +109,10 @@ header_left old after AreasFull may fails = absurd fails
 header_left old after CellsFull may fails = absurd (no_fault _ _ _ (header_answer old may) fails.0)
 
 -- bytes of a memory with the header's page alone, of zeros
-zeros_there : (present : PageMap) (address n : ℕ) → ((page : ℕ) → get present page ≡ None) → bytes_at (with_pages present 512 1) address n ≡ replicate n 0
-zeros_there present address n none = bytes_at-with_pages present 512 1 address n ∙ bytes_at-none present address n (λ page inside. none page)
+zeros_there : (present : PageMap) (address n : ℕ) → ((page : ℕ) → get present page ≡ None) → bytes_at (with_pages present 512 1) address n
+    ≡ replicate n 0
+zeros_there present address n none =
+    bytes_at-with_pages present 512 1 address n ∙ bytes_at-none present address n (λ page inside. none page)
 
 -- the header was touched and the top stored: the heap begins
 pub header_begins : (old after new : MemoryState) → MayBegin old → IsMemory old → Touches (mapped_state old) after header_at 4096
@@ -112,12 +120,19 @@ pub header_begins : (old after new : MemoryState) → MayBegin old → IsMemory 
 header_begins old after new may sound touch stored after_sound kept =
     let none = no_page old sound may.empty in
     let memory : after.mem ≡ touched (mapped_state old).mem header_at 4096 = one_memory _ _ _ (header_answer old may) touch.mem in
-    let mem : new.mem ≡ record { areas = both_areas; present = with_bytes (with_pages old.mem.present 512 1) top_field (big_bytes 8 heap_at) } =
+    let mem : new.mem ≡ record {
+      areas = both_areas;
+      present =
+          with_bytes (with_pages old.mem.present 512 1) top_field (big_bytes 8 heap_at);
+    } =
     ap (λ s. s.mem) stored ∙ ap (λ (m : FlatMemory). record m { present = with_bytes m.present top_field (big_bytes 8 heap_at) }) memory in
     let begun : FlatMemory = record { areas = both_areas; present = with_pages old.mem.present 512 1 } in
-    let now : FlatMemory = record { areas = both_areas; present = with_bytes (with_pages old.mem.present 512 1) top_field (big_bytes 8 heap_at) } in
-    let ready_top : IsReady after top_field 8 = λ page inside. touch.ready page (omega (arith, inside.0, inside.1), omega (arith, inside.0, inside.1)) in
-    let full : AreFullPages begun.present top_field 8 = subst (λ (m : FlatMemory). AreFullPages m.present top_field 8) memory (full_from_ready after top_field 8 after_sound ready_top) in
+    let now : FlatMemory =
+    record { areas = both_areas; present = with_bytes (with_pages old.mem.present 512 1) top_field (big_bytes 8 heap_at) } in
+    let ready_top : IsReady after top_field 8 =
+    λ page inside. touch.ready page (omega (arith, inside.0, inside.1), omega (arith, inside.0, inside.1)) in
+    let full : AreFullPages begun.present top_field 8 =
+    subst (λ (m : FlatMemory). AreFullPages m.present top_field 8) memory (full_from_ready after top_field 8 after_sound ready_top) in
     let ready : IsReady new header_at 4096 = λ page inside. subst (λ s. IsIn page s.ready) (sym stored) (touch.ready page inside) in
     let zero_word : (class : ℕ) → Contains classes class → word_at now (list_field class) ≡ 0 = λ class in_classes.
     word_at-apart begun top_field heap_at (list_field class) (inl (omega (arith, (class_within class in_classes).0)))
@@ -142,7 +157,10 @@ header_begins old after new may sound touch stored after_sound kept =
           ∙ zeros_there old.mem.present (header_at + 8) 4088 none;
       pages = λ page there. elim (cases_eq page 512) [
         | inl here ↦ here
-        | inr apart ↦ absurd (false≢true (sym (is_some-with_bytes begun.present top_field (big_bytes 8 heap_at) (λ q inside. full_is_some (get begun.present q) (full q inside)) page
+        | inr apart ↦
+            absurd (false≢true
+            (sym (is_some-with_bytes begun.present top_field (big_bytes 8 heap_at)
+            (λ q inside. full_is_some (get begun.present q) (full q inside)) page
             ∙ ap is_some (get-with_pages_beyond old.mem.present 512 1 page (beyond page apart)) ∙ ap is_some (none page))
             ∙ ap (λ (m : FlatMemory). is_some (get m.present page)) (sym mem) ∙ there))
       ];
@@ -159,9 +177,11 @@ header_begins old after new may sound touch stored after_sound kept =
   where
     beyond : (page : ℕ) → (page ≡ 512 → ⊥) → (page < 512) ⊎ (512 + 1 ≤ page)
     beyond page apart = grind arith
+
     full_is_some : (page : Option (List ℕ)) → length (unwrap_or page []) ≡ 4096 → IsSome page
     full_is_some None full = absurd (omega (arith, full))
     full_is_some (Some bytes) full = refl
+
     first_cell : (cell : ℕ) → IsListed cell (1 ∷ []) → IsListed cell store_cells
     first_cell cell first = elim (or_cases (eqb 1 cell) false first) [
       | inl here ↦ or_left (eqb 1 cell) _ here

@@ -28,20 +28,26 @@ pub no_fault : (answer : Result FlatMemory Fault) (memory : FlatMemory) (fault :
 no_fault answer memory fault first second = false≢true (sym (ap is_ok second) ∙ ap is_ok first)
 
 -- a mapping that the flat memory answers was made
-pub mapped_by : (old new : MemoryState) (result : Result (Unit {0}) Fault) (first n : ℕ) (memory : FlatMemory) → map_of old.mem first n ReadWrite ≡ Ok memory
-    → OnOk result (Maps old new (map_answer old first n ReadWrite)) → IfErr result (λ fault. Refuses old new (map_answer old first n ReadWrite) fault)
+pub mapped_by : (old new : MemoryState) (result : Result (Unit {0}) Fault) (first n : ℕ) (memory : FlatMemory)
+    → map_of old.mem first n ReadWrite ≡ Ok memory
+    → OnOk result (Maps old new (map_answer old first n ReadWrite))
+    → IfErr result (λ fault. Refuses old new (map_answer old first n ReadWrite) fault)
     → new ≡ record old { mem = memory }
 mapped_by old new (Ok done) first n memory answer maps fails =
-    maps.1 ∙ ap (λ (m : FlatMemory). record old { mem = m }) (one_memory (map_answer old first n ReadWrite) memory new.mem (ap faulted answer) maps.0)
-mapped_by old new (Err fault) first n memory answer maps fails = absurd (no_fault (map_answer old first n ReadWrite) memory fault (ap faulted answer) fails.0)
+    maps.1 ∙ ap (λ (m : FlatMemory). record old { mem = m })
+    (one_memory (map_answer old first n ReadWrite) memory new.mem (ap faulted answer) maps.0)
+mapped_by old new (Err fault) first n memory answer maps fails =
+    absurd (no_fault (map_answer old first n ReadWrite) memory fault (ap faulted answer) fails.0)
 
 -- and so was an unmapping
-pub unmapped_by : (old new : MemoryState) (result : Result (Unit {0}) Fault) (first n : ℕ) (memory : FlatMemory) → unmap_of old.mem first n ≡ Ok memory
+pub unmapped_by : (old new : MemoryState) (result : Result (Unit {0}) Fault) (first n : ℕ) (memory : FlatMemory)
+    → unmap_of old.mem first n ≡ Ok memory
     → OnOk result (Changes old new (unmap_answer old first n)) → IfErr result (λ fault. Refuses old new (unmap_answer old first n) fault)
     → (new.mem ≡ memory) × (new.most ≡ old.most)
 unmapped_by old new (Ok done) first n memory answer changes fails =
     (one_memory (unmap_answer old first n) memory new.mem (ap faulted answer) changes.0, changes.1)
-unmapped_by old new (Err fault) first n memory answer changes fails = absurd (no_fault (unmap_answer old first n) memory fault (ap faulted answer) fails.0)
+unmapped_by old new (Err fault) first n memory answer changes fails =
+    absurd (no_fault (unmap_answer old first n) memory fault (ap faulted answer) fails.0)
 
 -- the header's area is mapped where there is none
 pub map_header : (memory : FlatMemory) → memory.areas ≡ [] → map_of memory 512 1 ReadWrite ≡ Ok (record memory { areas = header_area ∷ [] })
@@ -49,7 +55,8 @@ map_header memory none =
     ap (λ a. or_refused Taken (taken a 512 1) (at_most_128 (record memory { areas = joined (with_area header_area a) }))) none
 
 -- and the heap's behind it
-pub map_heap : (memory : FlatMemory) → memory.areas ≡ header_area ∷ [] → map_of memory 2097152 131584 ReadWrite ≡ Ok (record memory { areas = header_area ∷ heap_area ∷ [] })
+pub map_heap : (memory : FlatMemory) → memory.areas ≡ header_area ∷ []
+    → map_of memory 2097152 131584 ReadWrite ≡ Ok (record memory { areas = header_area ∷ heap_area ∷ [] })
 map_heap memory one =
     ap (λ a. or_refused Taken (taken a 2097152 131584) (at_most_128 (record memory { areas = joined (with_area heap_area a) }))) one
     ∙ ap (λ t. or_refused Taken t (at_most_128 (record memory { areas = joined (with_area heap_area (header_area ∷ [])) })))
@@ -58,9 +65,14 @@ map_heap memory one =
 
 -- the heap's area is taken out, and then the header's
 pub unmap_heap : (memory : FlatMemory) → memory.areas ≡ header_area ∷ heap_area ∷ []
-    → unmap_of memory 2097152 131584 ≡ Ok (record { areas = header_area ∷ []; present = retain_keys memory.present (is_beyond 2097152 131584) })
+    → unmap_of memory 2097152 131584
+    ≡ Ok (record { areas = header_area ∷ []; present = retain_keys memory.present (is_beyond 2097152 131584) })
 unmap_heap memory two =
-    ap (λ a. at_most_128 (record { areas = areas_without 2097152 131584 a; present = retain_keys memory.present (is_beyond 2097152 131584) })) two
+    ap (λ a. at_most_128 (record {
+      areas = areas_without 2097152 131584 a;
+      present =
+          retain_keys memory.present (is_beyond 2097152 131584);
+    })) two
 
 pub unmap_header : (memory : FlatMemory) → memory.areas ≡ header_area ∷ []
     → unmap_of memory 512 1 ≡ Ok (record { areas = []; present = retain_keys memory.present (is_beyond 512 1) })
@@ -68,7 +80,8 @@ unmap_header memory one =
     ap (λ a. at_most_128 (record { areas = areas_without 512 1 a; present = retain_keys memory.present (is_beyond 512 1) })) one
 
 -- where no page is present, none is after pages were taken out
-pub none_left : (present : PageMap) (first n : ℕ) → ((page : ℕ) → get present page ≡ None) → retain_keys present (is_beyond first n) ≡ present
+pub none_left : (present : PageMap) (first n : ℕ) → ((page : ℕ) → get present page ≡ None)
+    → retain_keys present (is_beyond first n) ≡ present
 none_left present first n none = same_numbered _ _ (λ q. get-unmapped present first n q ∙ elim (cases_Bool (is_beyond first n q)) [
   | inl out ↦ cond-true (is_beyond first n q) _ _ out
   | inr inside ↦ cond-false (is_beyond first n q) _ _ inside ∙ sym (none q)
@@ -76,7 +89,8 @@ none_left present first n none = same_numbered _ _ (λ q. get-unmapped present f
 
 -- a memory without areas has no page
 pub no_page : (state : MemoryState) → IsMemory state → state.mem.areas ≡ [] → (page : ℕ) → get state.mem.present page ≡ None
-no_page state sound none page = by (get state.mem.present page) (λ some. sym (ap (λ a. is_some (area_of a page)) none) ∙ sound.flat.in_areas page some)
+no_page state sound none page =
+    by (get state.mem.present page) (λ some. sym (ap (λ a. is_some (area_of a page)) none) ∙ sound.flat.in_areas page some)
   where
     by : (found : Option (List ℕ)) → (IsSome found → is_some (area_of [] page) ≡ true) → found ≡ None
     by None in_areas = refl

@@ -14,7 +14,8 @@ use Rattle.page_heap.specs.declared.planned.Plan.{Plan}
 abbrev pub with_areas : MemoryState → List Area → MemoryState
 with_areas state areas = record state { mem = record state.mem { areas = areas } }
 
--- the memory has the two areas and the header's page alone, with a heap without blocks; and the header may be stored to
+-- the memory has the two areas and the header's page alone, with a heap without blocks; and the
+-- header may be stored to
 pub record Begins (old new : MemoryState) : Type 0 where
   pub areas : new.mem.areas ≡ header_area ∷ heap_area ∷ []
   pub heap : IsHeap new.mem opening_heap
@@ -66,7 +67,9 @@ commit_store state plan =
     if plan.fresh then after_store state top_field (big_bytes 8 (plan.addr + 2 ^ plan.class))
     else after_store state (list_field plan.class) (big_bytes 8 (word_at state.mem plan.addr))
 
--- what giving a block back stores: the first free block of its class in it, and then the block as the first one
+-- what giving a block back stores: the first free block of its class in it, and then the block as
+-- the first one
 abbrev pub free_store : MemoryState → ℕ → ℕ → MemoryState
 free_store state at class =
-    after_store (after_store state at (big_bytes 8 (word_at state.mem (list_field class)))) (list_field class) (big_bytes 8 at)
+    after_store (after_store state at (big_bytes 8 (word_at state.mem (list_field class))))
+    (list_field class) (big_bytes 8 at)

@@ -43,7 +43,8 @@ pub fn commit<M: Memory>(m: &mut M, plan: &Plan)
     requires planned { IsPlanned (M.state m.old) plan.now }
     requires header { IsReady (M.state m.old) header_at 4096 }
     requires half { IsReady (M.state m.old) plan.now.addr (2 ^ (plan.now.class - 1)) }
-    ensures heap { (heap : Heap) → IsHeap (M.state m.old).mem heap → IsHeap (M.state m.new).mem (committed heap plan.now.class) }
+    ensures heap { (heap : Heap) → IsHeap (M.state m.old).mem heap
+        → IsHeap (M.state m.new).mem (committed heap plan.now.class) }
     ensures stored { M.state m.new ≡ commit_store (M.state m.old) plan.now }
     ensures keeps { IsKept (M.state m.old) (M.state m.new) [] }
     ensures aside { M.aside m.new ≡ M.aside m.old }

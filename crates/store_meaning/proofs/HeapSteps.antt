@@ -48,7 +48,8 @@ pub halves_kept : (old new : FlatMemory) (blocks : List Block) → KeepsPages ol
 halves_kept old new blocks keeps halves k d inside page low high = keeps page (halves k d inside page low high)
 
 -- a heap is read from the words of its top, its heads and its free blocks, and from which pages are present
-pub heap_kept : (old new : FlatMemory) (heap : Heap) → IsHeap old heap → new.areas ≡ old.areas → word_at new top_field ≡ word_at old top_field
+pub heap_kept : (old new : FlatMemory) (heap : Heap) → IsHeap old heap → new.areas ≡ old.areas
+    → word_at new top_field ≡ word_at old top_field
     → ((class : ℕ) → Contains classes class → word_at new (list_field class) ≡ word_at old (list_field class))
     → ((class : ℕ) → Contains classes class → AllByRecursion (λ at. word_at new at ≡ word_at old at) (heap.free class))
     → KeepsPages old new → IsHeap new heap

@@ -7,4 +7,6 @@ pub mod HeapUse
 pub mod HeapSteps
 pub mod GivingBack
 pub mod HeapEnd
+pub mod Reaching
+pub mod StoreKept
 pub mod Halves

@@ -10,7 +10,8 @@ returns-clause-mapped g c =
     let old = g.M.Memory.state c.args.m.now in
     let one = mapped_by old _ _ 512 1 _ (map_header old.mem c.requires.empty) c.map-header.ensures.mapped c.map-header.ensures.fault in
     let middle = g.M.Memory.state c.map-header.new.self in
-    mapped_by middle _ _ 2097152 131584 _ (map_heap middle.mem (ap (λ s. s.mem.areas) one)) c.map-heap.ensures.mapped c.map-heap.ensures.fault
+    mapped_by middle _ _ 2097152 131584 _
+    (map_heap middle.mem (ap (λ s. s.mem.areas) one)) c.map-heap.ensures.mapped c.map-heap.ensures.fault
     ∙ ap (λ s. with_areas s (header_area ∷ heap_area ∷ [])) one
 
 pub returns-clause-keeps : goal.returns-clause-keeps

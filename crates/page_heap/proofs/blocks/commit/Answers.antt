@@ -12,7 +12,8 @@ use Rattle.page_heap.proofs.Plans.{same_plan, plan_present, plan_below, commits}
 use Rattle.page_heap.proofs.blocks.commit.Goals as goal
 
 -- the plan is that of each heap that the memory has
-plan_of_heap : (state : MemoryState) (plan : Plan) (heap : Heap) → IsPlanned state plan → IsHeap state.mem heap → plan ≡ plan_for heap plan.class
+plan_of_heap : (state : MemoryState) (plan : Plan) (heap : Heap) → IsPlanned state plan → IsHeap state.mem heap
+    → plan ≡ plan_for heap plan.class
 plan_of_heap state plan heap planned is = planned.given ∙ same_plan state.mem planned.heap heap plan.class planned.is is planned.class
 
 pub read_word-next-requires-clause-present : goal.read_word-next-requires-clause-present
