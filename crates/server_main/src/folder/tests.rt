@@ -269,7 +269,7 @@ rename a.img.part a.img
 #[test]
 fn a_save_makes_these_calls_in_this_order(rt: HostRuntime) -> Result<(), Fail> {
     for (calls, all, is_left) in [(NEW_CALLS, 7, false), (LEFT_CALLS, 11, true)] {
-        for well in 0..all + 1 {
+        for well in 0..=all {
             let files = Recorder::new(rt.alloc(), well, is_left)?;
             let mut folder = CurrentFolder::new(files.again()?, rt.alloc());
             assert_eq!(rt; save(&mut folder, "a.img", b"saved").is_ok(), well == all);
@@ -284,7 +284,7 @@ fn a_save_makes_these_calls_in_this_order(rt: HostRuntime) -> Result<(), Fail> {
                 count = count.saturating_add(1);
             }
             assert_eq!(rt; count, all);
-            if well + 3 >= all && well < all {
+            if well.saturating_add(3) >= all && well < all {
                 lines.push_str("remove a.img.part\n")?;
             }
             assert!(rt; files.made(&lines), "call {well}");
