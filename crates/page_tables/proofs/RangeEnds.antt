@@ -21,7 +21,7 @@ use Rattle.page_tables.specs.declared.tables.PageTables.{PageTables}
 use Rattle.page_tables.specs.Sides.{Sides}
 use Rattle.page_tables.specs.Courses.{requests_between, progress_between}
 use Rattle.page_tables.specs.Standing.{TablesStandFor}
-use Rattle.page_tables.specs.Held.{frames_in, shares_in, snapshot_frames, frames_of}
+use Rattle.page_tables.specs.Held.{shares_in, snapshot_frames, frames_of}
 use Rattle.page_tables.specs.Accesses.{IsReady}
 use Rattle.page_tables.specs.Clearing.{sides_without}
 use Rattle.page_tables.specs.Making.{FollowsTouch}

@@ -10,7 +10,7 @@ use Rattle.page_tables.specs.declared.tables.PageTables.{PageTables}
 use Rattle.page_tables.specs.Sides.{Sides}
 use Rattle.page_tables.specs.Standing.{TablesStandFor, slot_count}
 use Rattle.page_tables.specs.TablesView.{snapshot_number}
-use Rattle.page_tables.specs.Held.{frames_of, frames_in, shares_in}
+use Rattle.page_tables.specs.Held.{frames_of}
 use Rattle.trace_events.specs.declared.outcome.Outcome.{Outcome}
 use Rattle.trace_core.specs.declared.parts.SnapshotAreas.{SnapshotAreas}
 use Rattle.trace_core.specs.declared.writing.NoArea.{NoArea}

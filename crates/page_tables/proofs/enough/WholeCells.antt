@@ -27,7 +27,7 @@ use Rattle.leaf_cell.proofs.Renamed.{version_at-renamed}
 use Rattle.page_tables.specs.declared.slot.Slot.{Slot}
 use Rattle.page_tables.specs.declared.tables.PageTables.{PageTables}
 use Rattle.page_tables.specs.Sides.{Sides}
-use Rattle.page_tables.specs.Standing.{owner_at, slot_in, TablesStandFor}
+use Rattle.page_tables.specs.Standing.{owner_at, TablesStandFor}
 use Rattle.page_tables.proofs.LeafMap.{used-found}
 use Rattle.page_tables.proofs.OwnedSlots.{owned-slot}
 use Rattle.page_tables.proofs.ParentPages.{account_at, slot-stands, page-lacking}

@@ -1,16 +1,15 @@
 -- What page tables show is what the sides have for which they stand: their slots show both sides, each directory has the cells
 -- of its side, and they hold the frames of the frame law.
-use Rattle.std.proofs.Common.{◌≡◌, ◌≢◌, ℕ, zero, suc, ◌+◌, ◌*◌, ◌/◌, ◌%◌, ◌<◌, ◌≤◌, List, [], ◌∷◌, length, map, Option, Some, None, cond, refl, sym, ◌∙◌, ap, subst, arith, inl, inr}
+use Rattle.std.proofs.Common.{◌≡◌, ◌≢◌, ℕ, zero, suc, ◌+◌, ◌*◌, ◌/◌, ◌%◌, ◌<◌, ◌≤◌, List, [], ◌∷◌, length, map, Option, Some, None, cond, refl, sym, ◌∙◌, ap, subst, arith}
 use Rattle.std.specs.Prelude.{Bool, true, false, not, ◌==◌, ◌&&◌, is_some, IsSome, count_by, unwrap_or}
 use Rattle.std.specs.Ordering.{nat_cmp}
-use Rattle.std.specs.Option.{option_and_then, option_map}
+use Rattle.std.specs.Option.{option_and_then}
 use Rattle.std.specs.List.{slice_get, list_any}
 use Rattle.std.specs.FinMap.{get, find, get-empty, empty}
 use Rattle.std.proofs.lemmas.Bool.{eq-eqb, ne_eqb, false≢true}
 use Rattle.std.proofs.lemmas.List.{length-map}
 use Rattle.std.proofs.lemmas.List.Sums.{sum_by-cons, count_by-le-length}
 use Rattle.vm_base.specs.Places.{cell_of}
-use Rattle.vm_base.specs.FlatMemory.{PageMap}
 use Rattle.kernel_meaning.specs.Leaves.{Kept, kept_by, has_pages, is_joined, is_async, loss_at, holds_number}
 use Rattle.kernel_meaning.specs.FrameLaw.{cell_at, held_frames}
 use Rattle.kernel_meaning.specs.CellAccount.{CellAccount}

@@ -1,10 +1,10 @@
 -- What is read off views is what the sides have that the slots show: the parent's pages, the cells that are somebody's, the pages that may be stored to, and the cells that a snapshot has lost. So it is of what page tables show that stand for the sides.
-use Rattle.std.proofs.Common.{◌≡◌, ℕ, ◌+◌, ◌*◌, ◌/◌, ◌%◌, ◌<◌, ◌≤◌, ◌↔◌, zero, suc, List, [], ◌∷◌, length, Option, Some, None, refl, sym, ◌∙◌, ap, subst, arith, inl, inr}
-use Rattle.std.specs.Prelude.{Bool, true, false, cond, not, ◌&&◌, ◌==◌, is_some, IsSome, unwrap_or}
+use Rattle.std.proofs.Common.{◌≡◌, ℕ, ◌+◌, ◌*◌, ◌/◌, ◌%◌, ◌<◌, ◌≤◌, ◌↔◌, zero, suc, List, [], ◌∷◌, length, Option, Some, None, refl, sym, ◌∙◌, ap, arith, inl, inr}
+use Rattle.std.specs.Prelude.{true, false, cond, not, ◌&&◌, ◌==◌, is_some, IsSome, unwrap_or}
 use Rattle.std.specs.Ordering.{nat_cmp}
 use Rattle.std.specs.Option.{option_and_then}
 use Rattle.std.specs.List.{slice_get}
-use Rattle.std.specs.FinMap.{get, find, get-empty}
+use Rattle.std.specs.FinMap.{get, find}
 use Rattle.std.specs.FinSet as set
 use Rattle.std.proofs.lemmas.Bool.{cases_Bool, false≢true, and_parts, and_from, not-true, not_from_false}
 use Rattle.std.proofs.lemmas.Option.{same_Some}
@@ -12,7 +12,7 @@ use Rattle.vm_base.specs.Places.{cell_of}
 use Rattle.vm_base.specs.FlatMemory.{Area, area_of}
 use Rattle.vm_base.specs.FlatStep.{is_read_only}
 use Rattle.vm_base.proofs.NumberedMaps.{same_numbered}
-use Rattle.kernel_meaning.specs.Leaves.{CellLeaves, Kept, Leaf, Own, Joined, Lost, unused_cell, loss_at, kept_by, is_async, IsAlone}
+use Rattle.kernel_meaning.specs.Leaves.{CellLeaves, Kept, Leaf, Own, Joined, Lost, unused_cell, loss_at, kept_by, is_async}
 use Rattle.kernel_meaning.specs.FrameLaw.{cell_at}
 use Rattle.leaf_cell.specs.CellView.{AreUnjoined}
 use Rattle.page_tables.specs.declared.tables.PageTables.{PageTables}
@@ -21,7 +21,7 @@ use Rattle.page_tables.specs.SlotViews.{SlotView, owner_in, pages_in, used_in, i
 use Rattle.page_tables.specs.TablesView.{views_of, pages_of}
 use Rattle.page_tables.specs.Standing.{TablesStandFor}
 use Rattle.page_tables.specs.Accesses.{IsReady}
-use Rattle.page_tables.proofs.view.ViewReads.{LacksOwner, pages-lacking, pages-owned, used-lacking, used-owned, used-counted, alone-means, means-alone, alone-lacking, alone-owned, ready-is, lost-lacking, lost-owned}
+use Rattle.page_tables.proofs.view.ViewReads.{LacksOwner, pages-lacking, pages-owned, used-lacking, used-owned, used-counted, alone-means, means-alone, alone-owned, ready-is, lost-lacking, lost-owned}
 use Rattle.page_tables.proofs.view.TablesShown.{shown}
 
 -- a leaf that was lost at a count

@@ -1,8 +1,7 @@
 -- Where a touch or a fork is denied a frame: how many frames were wanted then, by the parent and for its snapshot.
 use Rattle.std.proofs.Common.{◌≡◌, ℕ, ◌+◌, ◌-◌, ◌≤◌, ◌==◌, ◌⊎◌, inl, inr, Bool, true, false, cond, List, [], ◌∷◌, ◌++◌, Option, Some, None, refl, sym, ◌∙◌, ap, subst, arith, le_trans}
-use Rattle.std.specs.Prelude.{is_some, not, ◌&&◌, ◌||◌, count_by}
+use Rattle.std.specs.Prelude.{not, ◌&&◌, ◌||◌, count_by}
 use Rattle.std.specs.FinMap.{get, empty}
-use Rattle.std.proofs.lemmas.Bool.{false≢true}
 use Rattle.std.proofs.lemmas.Bool.Decides.{nat_tests}
 use Rattle.std.proofs.lemmas.List.Sums.{sum_by-cons}
 use Rattle.vm_base.specs.declared.frame_request.Asker.{Asker}

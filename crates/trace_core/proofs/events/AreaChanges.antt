@@ -14,7 +14,7 @@ use Rattle.area_list.specs.Answers.{Changes, refusal_of}
 use Rattle.area_list.specs.Calls.{areas_mapped, areas_unmapped, areas_protected, on_memory, if_few}
 use Rattle.page_tables.specs.declared.tables.PageTables.{PageTables}
 use Rattle.page_tables.specs.Courses.{requests_between, progress_between}
-use Rattle.page_tables.specs.Held.{frames_of, frames_in, shares_in}
+use Rattle.page_tables.specs.Held.{frames_of}
 use Rattle.page_tables.specs.Making.{Follows}
 use Rattle.page_tables.specs.Clearing.{pages_without}
 use Rattle.page_tables.specs.Standing.{slot_count}

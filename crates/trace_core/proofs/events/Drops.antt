@@ -10,7 +10,7 @@ use Rattle.kernel_meaning.specs.Requests.{answers_of}
 use Rattle.kernel_meaning.specs.FrameLaw.{held_frames}
 use Rattle.kernel_meaning.specs.EventRequests.{Progress, snapshot_dropped}
 use Rattle.page_tables.specs.declared.tables.PageTables.{PageTables}
-use Rattle.page_tables.specs.Held.{frames_of, frames_in, shares_in}
+use Rattle.page_tables.specs.Held.{frames_of}
 use Rattle.page_tables.specs.Forking.{FollowsAt, snapshots_without}
 use Rattle.page_tables.specs.Standing.{slot_count}
 use Rattle.page_tables.proofs.view.TablesShown.{lacks-number}

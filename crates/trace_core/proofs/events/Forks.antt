@@ -11,7 +11,7 @@ use Rattle.kernel_meaning.specs.FrameLaw.{held_frames}
 use Rattle.kernel_meaning.specs.EventRequests.{FrameRefusal, snapshot_forked}
 use Rattle.page_tables.specs.declared.tables.PageTables.{PageTables}
 use Rattle.page_tables.specs.Courses.{requests_between}
-use Rattle.page_tables.specs.Held.{frames_of, frames_in, shares_in}
+use Rattle.page_tables.specs.Held.{frames_of}
 use Rattle.page_tables.specs.Forking.{FollowsAt, snapshots_with}
 use Rattle.page_tables.specs.Standing.{slot_count}
 use Rattle.page_tables.proofs.view.TablesShown.{lacks-number}

@@ -1,6 +1,5 @@
 -- What follows where a kernel stands for some run that is not named.
-use Rattle.std.proofs.Common.{◌≡◌, ◌≤◌, Option, Some, None, is_some, refl, sym, ap, arith}
-use Rattle.std.proofs.lemmas.Bool.{false≢true}
+use Rattle.std.proofs.Common.{◌≡◌, ◌≤◌, arith}
 use Rattle.std.proofs.Math.Logic.{∥∥₁_map}
 use Rattle.page_tables.specs.Sides.{Sides}
 use Rattle.page_tables.specs.Standing.{TablesStandFor}

@@ -6,7 +6,7 @@ use Rattle.kernel_meaning.specs.FrameLaw.{Leaves, held_frames}
 use Rattle.kernel_meaning.specs.EventRequests.{Progress, FrameRefusal}
 use Rattle.page_tables.specs.declared.tables.PageTables.{PageTables}
 use Rattle.page_tables.specs.Courses.{Runs, requests_between, progress_between}
-use Rattle.page_tables.specs.Held.{frames_of, frames_in, shares_in}
+use Rattle.page_tables.specs.Held.{frames_of}
 use Rattle.page_tables.specs.Sides.{Sides}
 use Rattle.page_tables.specs.Standing.{TablesStandFor}
 use Rattle.page_tables.proofs.view.TablesShown.{held-shown}

@@ -1,16 +1,14 @@
 -- A touch ends as the definitions have it: refused by the areas, for want of slots, or behind its requests for frames.
 use Rattle.std.proofs.Common.{◌≡◌, ℕ, ◌+◌, ◌-◌, ◌*◌, ◌<◌, ◌≤◌, List, ◌++◌, [], length, Option, Some, None, Result, Ok, Err, cond, refl, sym, ◌∙◌, ap, subst, arith, append-nil}
-use Rattle.std.specs.Prelude.{Bool, true, false, is_some, OnOk}
-use Rattle.std.specs.List.{range_with_len, count_by}
-use Rattle.std.specs.Ordering.{nat_cmp}
-use Rattle.std.specs.FinMap.{empty, get-empty}
-use Rattle.std.proofs.lemmas.Bool.{cond-true, cond-false, ne_eqb, eq-eqb, false≢true}
+use Rattle.std.specs.Prelude.{Bool, true, false, OnOk}
+use Rattle.std.specs.List.{range_with_len}
+use Rattle.std.specs.FinMap.{empty}
+use Rattle.std.proofs.lemmas.Bool.{cond-true, cond-false, ne_eqb}
 use Rattle.vm_base.specs.declared.faults.Fault.{Fault}
 use Rattle.vm_base.specs.declared.faults.Fault.TheVariants as fault
 use Rattle.vm_base.specs.Deals.{Deal, LeadsAlong}
 use Rattle.vm_base.specs.Places.{page_of, page_count, cell_of, cells_of_range}
 use Rattle.vm_base.specs.FlatMemory.{Area, FlatMemory, bytes_at}
-use Rattle.kernel_meaning.specs.Leaves.{holds_number}
 use Rattle.vm_base.specs.FlatStep.{Refusal, OutsideAreas, ReadOnly, read_of, outside, unwritable, or_refused, touch_of, with_pages}
 use Rattle.kernel_meaning.specs.Requests.{Answer, answers_of}
 use Rattle.kernel_meaning.specs.FrameLaw.{held_frames, lacks_slots, used_cells, cells_without_slot}
@@ -18,13 +16,12 @@ use Rattle.kernel_meaning.specs.EventRequests.{Progress, FrameRefusal, pages_tou
 use Rattle.page_tables.specs.declared.tables.PageTables.{PageTables}
 use Rattle.page_tables.specs.Accesses.{IsReady}
 use Rattle.page_tables.specs.Courses.{requests_between, progress_between}
-use Rattle.page_tables.specs.Held.{frames_of, frames_in, shares_in}
+use Rattle.page_tables.specs.Held.{frames_of}
 use Rattle.page_tables.proofs.view.TablesShown.{held-shown, few-cells, same-number, opening-number}
 use Rattle.page_tables.specs.Sides.{Sides, opening_sides}
 use Rattle.page_tables.specs.Standing.{TablesStandFor, slot_count}
 use Rattle.page_tables.specs.Ranges.{cells_of_pages, FollowsRange, HasRoom}
 use Rattle.std.proofs.lemmas.List.{length-map}
-use Rattle.std.proofs.lemmas.List.Sums.{count_by-le-length}
 use Rattle.std.proofs.lemmas.Bool.Decides.{nat_tests}
 use Rattle.trace_events.specs.declared.outcome.Outcome.{Outcome}
 use Rattle.frame_pool.specs.Policies.{PolicyView}

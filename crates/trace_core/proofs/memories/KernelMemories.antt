@@ -1,26 +1,16 @@
 -- What a sound kernel is as a memory: it has no more pages than frames were made, and all that holds of a memory holds of it.
-use Rattle.std.proofs.Common.{◌≡◌, ℕ, zero, suc, ◌+◌, ◌*◌, ◌/◌, ◌%◌, ◌<◌, ◌≤◌, Bool, true, false, eqb, List, [], ◌∷◌, ◌++◌, map, length, length-append, Option, Some, None, refl, sym, ◌∙◌, ap, subst, arith, inl, inr, ◌⊎◌}
-use Rattle.std.specs.Prelude.{IsSome, is_some, IfSome}
-use Rattle.std.specs.Ordering.{nat_cmp}
-use Rattle.std.specs.Cmp.{nat_eq_equiv}
-use Rattle.std.specs.FinMap.{get, find, keys, len, get-empty}
+use Rattle.std.proofs.Common.{◌≡◌, zero, suc, ◌+◌, ◌*◌, ◌/◌, ◌%◌, ◌<◌, ◌≤◌, Bool, true, false, List, [], ◌∷◌, ◌++◌, length, Option, Some, None, sym, ◌∙◌, ap, subst, arith, ◌⊎◌}
+use Rattle.std.specs.Prelude.{is_some, IfSome}
+use Rattle.std.specs.FinMap.{get, len}
 use Rattle.std.specs.FinSet as set
 use Rattle.std.specs.Coded.{Coded-set, coded_ℕ, coded_bool, Unit-prop, le_prop}
 use Rattle.std.proofs.Math.Logic.{∥∥₁_elim}
 use mathlib.Core.HLevel.{⊥_prop}
-use Rattle.std.proofs.lemmas.Bool.{cases_Bool, cases_eq, eq-eqb, or_cases, or_left, or_right, false≢true}
-use Rattle.std.proofs.lemmas.List.{length-map}
-use Rattle.std.proofs.lemmas.List.Sums.{sum_by-cons, count_by-le-length}
-use Rattle.std.proofs.lemmas.Map.Made.{length-le_from_is_member}
 use Rattle.vm_base.specs.Places.{cell_of}
-use Rattle.vm_base.specs.FlatMemory.{Area, PageMap, FlatMemory, IsFlat, AreInOrder, area_of}
+use Rattle.vm_base.specs.FlatMemory.{Area, FlatMemory, IsFlat, AreInOrder, area_of}
 use Rattle.vm_base.specs.FlatStep.{is_read_only}
 use Rattle.vm_base.specs.MemoryState.{MemoryState, IsMemory, own_of}
-use Rattle.vm_base.proofs.NumberedMaps.{get_inserted_apart}
-use Rattle.page_tables.specs.declared.tables.PageTables.{PageTables}
-use Rattle.page_tables.specs.Sides.{Sides}
 use Rattle.page_tables.specs.Standing.{TablesStandFor}
-use Rattle.vm_base.proofs.OwnFrames.{member, member-keys, IsDistinct-keys, length-keys}
 use Rattle.trace_core.specs.KernelState.{Machine, KernelState}
 use Rattle.trace_core.specs.KernelStanding.{KernelParts, sides_of}
 use Rattle.trace_core.specs.KernelSeen.{KernelNotes, IsSound, IsKernelNoted, parent_of, memory_of}

@@ -1,19 +1,19 @@
 -- A slot is used by a cell where the parent has a page, or by one that the snapshot that lives has.
-use Rattle.std.proofs.Common.{◌≡◌, ℕ, ◌+◌, ◌*◌, ◌%◌, ◌<◌, Bool, false, eqb, List, [], ◌∷◌, length, map, Option, Some, None, inl, inr, refl, sym, ◌∙◌, ap, subst, arith}
-use Rattle.std.specs.Prelude.{◌⊎◌, true, cond, not, ◌==◌, IsSome, is_some}
+use Rattle.std.proofs.Common.{◌≡◌, ℕ, ◌+◌, ◌*◌, ◌%◌, ◌<◌, eqb, List, [], ◌∷◌, length, map, Option, Some, None, inl, inr, refl, sym, ◌∙◌, ap, subst, arith}
+use Rattle.std.specs.Prelude.{◌⊎◌, true, not, ◌==◌, IsSome, is_some}
 use Rattle.std.specs.Ordering.{nat_cmp}
 use Rattle.std.specs.FinMap.{get, find, keys, empty}
 use Rattle.std.specs.FinSet as set
 use Rattle.std.specs.List.{list_any}
 use Rattle.std.specs.Option.{option_and_then}
-use Rattle.std.proofs.lemmas.Bool.{cases_Bool, or_cases, or_left, or_right, eq-eqb, eqb-true, false≢true}
+use Rattle.std.proofs.lemmas.Bool.{or_cases, or_left, or_right, eq-eqb, eqb-true, false≢true}
 use Rattle.std.proofs.Math.Logic.{∥∥₁_map, ∥∥₁_elim}
 use Rattle.vm_base.specs.Places.{cell_of}
 use Rattle.vm_base.proofs.NumberedMaps.{get_inserted_here}
 use Rattle.vm_base.proofs.OwnFrames.{member, member-keys}
 use Rattle.vm_base.specs.FlatMemory.{cells_of}
 use Rattle.vm_base.specs.MemoryState.{IsIn, IsListed}
-use Rattle.kernel_meaning.specs.Leaves.{Kept, has_pages}
+use Rattle.kernel_meaning.specs.Leaves.{has_pages}
 use Rattle.kernel_meaning.specs.FrameLaw.{cell_at}
 use Rattle.page_tables.specs.Sides.{Sides}
 use Rattle.page_tables.proofs.LeafMap.{found-used}

@@ -1,6 +1,6 @@
 -- The kernel as the nest of its snapshot: a read of the snapshot answers by the memory at its fork and the cells that it has lost.
-use Rattle.std.proofs.Common.{◌≡◌, ℕ, Bool, true, false, cond, eqb, List, [], ◌∷◌, map, Option, Some, None, Result, Ok, Err, refl, sym, ◌∙◌, ap, subst, arith}
-use Rattle.std.specs.Prelude.{length, not, ◌==◌, if◌then◌else◌, is_some, IsSome, IsTrue, ◌<◌}
+use Rattle.std.proofs.Common.{◌≡◌, ℕ, Bool, true, false, eqb, List, [], ◌∷◌, Option, Some, None, Result, Ok, Err, refl, sym, ◌∙◌, ap, subst, arith}
+use Rattle.std.specs.Prelude.{length, not, ◌==◌, if◌then◌else◌, is_some, IsTrue, ◌<◌}
 use Rattle.std.specs.Ordering.{nat_cmp}
 use Rattle.std.specs.Cmp.{nat_cmp_total}
 use Rattle.std.specs.Coded.{Coded-set, code_by, coded×, coded_ℕ, coded_list, coded_result}

@@ -1,5 +1,5 @@
 -- What is noted of a kernel holds of a new one, and behind each call of the parent.
-use Rattle.std.proofs.Common.{◌≡◌, ℕ, ◌+◌, ◌/◌, ◌≤◌, ◌^◌, Bool, true, false, cond, List, [], ◌∷◌, map, Option, Some, None, Result, inl, inr, refl, sym, ◌∙◌, ap, subst, arith, le_refl, le_trans}
+use Rattle.std.proofs.Common.{◌≡◌, ℕ, ◌+◌, ◌/◌, ◌≤◌, ◌^◌, Bool, true, false, cond, List, [], ◌∷◌, Option, Some, None, Result, inl, inr, refl, sym, ◌∙◌, ap, subst, arith, le_refl, le_trans}
 use Rattle.std.specs.Prelude.{◌-◌, ◌==◌, IsSome, is_some, unwrap_or, nat_lt}
 use Rattle.std.specs.Ordering.{nat_cmp}
 use Rattle.std.specs.Option.{ForSome, option_and_then}
@@ -17,7 +17,7 @@ use Rattle.vm_base.specs.FlatMemory.{PageMap, FlatMemory, cells_of}
 use Rattle.vm_base.specs.FlatStep.{map_of, unmap_of, protect_of, touch_of}
 use Rattle.vm_base.specs.MemoryState.{IsListed, own_of}
 use Rattle.kernel_meaning.specs.Requests.{Answer, answers_of}
-use Rattle.kernel_meaning.specs.Leaves.{Kept, kept_by, loss_at}
+use Rattle.kernel_meaning.specs.Leaves.{kept_by, loss_at}
 use Rattle.kernel_meaning.specs.FrameLaw.{cell_at}
 use Rattle.frame_pool.specs.Policies.{PolicyView}
 use Rattle.kernel_meaning.specs.RefusedRequests.{count_after}

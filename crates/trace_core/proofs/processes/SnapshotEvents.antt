@@ -27,7 +27,7 @@ use Rattle.trace_core.specs.EventMeaning.{EventEnd, begun, only_answers, areas_c
 use Rattle.page_tables.specs.SlotViews.{lost_there, lost_in}
 use Rattle.page_tables.proofs.view.TablesShown.{kept-shown, few-kept}
 use Rattle.page_tables.proofs.view.ViewSides.{seen-lost}
-use Rattle.trace_core.proofs.processes.SnapshotLeaves.{AreFew, loss_of, IsToldBy, KeepsLeaves, same-keeps, touched-keeps, unmapped-keeps, protected-keeps}
+use Rattle.trace_core.proofs.processes.SnapshotLeaves.{loss_of, IsToldBy, KeepsLeaves, same-keeps, touched-keeps, unmapped-keeps, protected-keeps}
 use Rattle.page_tables.specs.TablesView.{views_of, snapshot_has}
 
 -- ---- the events of the parent
