@@ -15,7 +15,8 @@ pub fn take<M: Memory>(m: &mut M, size: u32) -> Result<u64, Fault>
     requires heap { HasHeap (M.state m.old) }
     requires size { (0 < size) × (size ≤ 2097152) }
     ensures taken { IfOk result (λ at. (heap : Heap) → IsHeap (M.state m.old).mem heap
-        → (at ≡ next_at heap (class_of size)) × IsHeap (M.state m.new).mem (committed heap (class_of size))) }
+        → (at ≡ next_at heap (class_of size))
+        × IsHeap (M.state m.new).mem (committed heap (class_of size))) }
     ensures room { (M.state m.new).room ≡ (M.state m.old).room }
 {
     let plan = plan(m, size);
@@ -28,7 +29,8 @@ pub fn take<M: Memory>(m: &mut M, size: u32) -> Result<u64, Fault>
 /// Gives a block in use back.
 pub fn give<M: Memory>(m: &mut M, addr: u64, class: u8) -> Result<(), Fault>
     requires used { IsInUse (M.state m.old).mem addr class }
-    ensures given { OnOk result ((heap : Heap) → IsHeap (M.state m.old).mem heap → HasInUse heap addr class
+    ensures given { OnOk result ((heap : Heap) → IsHeap (M.state m.old).mem heap
+        → HasInUse heap addr class
         → IsHeap (M.state m.new).mem (freed heap addr class)) }
     ensures room { (M.state m.new).room ≡ (M.state m.old).room }
 {
