@@ -1,0 +1,25 @@
+use Rattle.std.proofs.Common.{arith}
+use Rattle.page_heap.proofs.Plans.{use_within}
+use Rattle.store_uses.proofs.Heaps.{heap_touched}
+use Rattle.store_uses.proofs.heap.give.Goals as goal
+
+pub touch-requires-clause-within : goal.touch-requires-clause-within
+touch-requires-clause-within g c =
+    let used = c.requires.used in
+    omega (arith, (use_within (g.M.Memory.state c.args.m.now).mem used.heap c.args.addr c.args.class used.is used.used).1.1)
+
+pub free-requires-clause-used : goal.free-requires-clause-used
+free-requires-clause-used g c = record {
+  heap = c.requires.used.heap;
+  is = heap_touched _ _ _ _ c.requires.used.heap c.in_ok-touch-2.ensures.touched
+      (heap_touched _ _ _ _ c.requires.used.heap c.in_ok-touch.ensures.touched c.requires.used.is);
+  used = c.requires.used.used;
+}
+
+pub free-requires-clause-block : goal.free-requires-clause-block
+free-requires-clause-block g c page inside = c.in_ok-touch-2.ensures.touched.keeps page (c.in_ok-touch.ensures.touched.ready page inside)
+
+pub returns-clause-given : goal.returns-clause-given
+returns-clause-given g c heap is used =
+    c.free.ensures.heap heap
+    (heap_touched _ _ _ _ heap c.in_ok-touch-2.ensures.touched (heap_touched _ _ _ _ heap c.in_ok-touch.ensures.touched is)) used
