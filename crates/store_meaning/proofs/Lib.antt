@@ -6,6 +6,8 @@ pub mod Blocks
 pub mod HeapUse
 pub mod HeapSteps
 pub mod GivingBack
+pub mod Apart
+pub mod OwnedApart
 pub mod HeapEnd
 pub mod Reaching
 pub mod StoreKept
