@@ -8,6 +8,8 @@ pub mod HeapSteps
 pub mod GivingBack
 pub mod Apart
 pub mod OwnedApart
+pub mod Intervals
+pub mod ReachFrames
 pub mod HeapEnd
 pub mod Reaching
 pub mod StoreKept
