@@ -6,6 +6,10 @@ pub mod Blocks
 pub mod HeapUse
 pub mod HeapSteps
 pub mod GivingBack
+pub mod Apart
+pub mod OwnedApart
+pub mod Intervals
+pub mod ReachFrames
 pub mod HeapEnd
 pub mod Reaching
 pub mod StoreKept

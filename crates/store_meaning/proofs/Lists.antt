@@ -26,6 +26,10 @@ pub all_map : {X Y : Type 0} (P : Y → Type 0) (f : X → Y) (xs : List X) → 
 all_map P f [] all = tt
 all_map P f (x ∷ xs) all = (all.0, all_map P f xs all.1)
 
+pub map_all : {X Y : Type 0} (P : Y → Type 0) (f : X → Y) (xs : List X) → AllByRecursion (λ x. P (f x)) xs → AllByRecursion P (map f xs)
+map_all P f [] all = tt
+map_all P f (x ∷ xs) all = (all.0, map_all P f xs all.1)
+
 -- of the lists of a range, one
 pub all_among : {X : Type 0} (P : X → Type 0) (f : ℕ → List X) (n first k : ℕ) → first ≤ k → k < first + n
     → AllByRecursion P (flat_map f (range_with_len first n)) → AllByRecursion P (f k)

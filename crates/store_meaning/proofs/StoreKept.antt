@@ -11,7 +11,7 @@ use Rattle.store_meaning.specs.Layout.{classes, list_field, word_at}
 use Rattle.store_meaning.specs.HeapLayout.{Block, free_of}
 use Rattle.store_meaning.specs.HashLayout.{Entry, Store, Pairs, Holds, IsStore, pair_size, chain_of, entries_of}
 use Rattle.store_meaning.specs.Owned.{Range, word_range, table_ranges, header_ranges, bucket_ranges, entry_range, free_range, block_ranges, owned, AreSameIn}
-use Rattle.store_meaning.proofs.Lists.{all_mono, all_left, all_right, all_map, all_among, all_contained, class_within}
+use Rattle.store_meaning.proofs.Lists.{all_mono, all_left, all_right, all_map, map_all, all_among, all_contained, class_within}
 use Rattle.store_meaning.proofs.Chains.{Links-kept}
 use Rattle.store_meaning.proofs.HeapSteps.{KeepsPages, heap_kept}
 
@@ -67,10 +67,6 @@ chain_among P [] bucket all = tt
 chain_among P (chain ∷ chains) zero all = all_left P chain (flat_map (λ c. c) chains) all
 chain_among P (chain ∷ chains) (suc bucket) all = chain_among P chains bucket (all_right P chain (flat_map (λ c. c) chains) all)
 
-mapped : {X Y : Type 0} (P : Y → Type 0) (f : X → Y) (xs : List X) → AllByRecursion (λ x. P (f x)) xs → AllByRecursion P (map f xs)
-mapped P f [] all = tt
-mapped P f (x ∷ xs) all = (all.0, mapped P f xs all.1)
-
 range_at : (P : ℕ → Type 0) (n first k : ℕ) → first ≤ k → k < first + n → AllByRecursion P (range_with_len first n) → P k
 range_at P zero first k low high all = absurd (omega (arith, low, high))
 range_at P (suc n) first k low high all = elim (cases_eq first k) [
@@ -109,7 +105,7 @@ store_kept old new store of is areas same keeps =
             (ap (big_number 8) (range_at (λ b. same_range (word_range (store.table.array + 8 * b))) (length store.table.chains) 0 bucket
             (omega arith) (omega (arith, inside))
             (all_map same_range (λ b. word_range (store.table.array + 8 * b)) (range_with_len 0 (length store.table.chains)) buckets)))
-            (mapped (λ at. word_at new at ≡ word_at old at) (λ (entry : Entry). entry.at) (chain_of store.table bucket)
+            (map_all (λ at. word_at new at ≡ word_at old at) (λ (entry : Entry). entry.at) (chain_of store.table bucket)
             (all_mono (IsEntrySame old new) (λ entry. word_at new entry.at ≡ word_at old entry.at) (chain_of store.table bucket)
             (entry_word old new)
             (chain_among (IsEntrySame old new) store.table.chains bucket entries)))
