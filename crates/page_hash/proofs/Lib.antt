@@ -1,0 +1,3 @@
+pub mod StoreReads
+pub mod TableBegins
+pub mod MapEntries
