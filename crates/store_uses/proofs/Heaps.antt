@@ -1,5 +1,5 @@
 -- Heaps under touches, and the classes and places of plans.
-use Rattle.std.proofs.Common.{◌≡◌, ℕ, zero, suc, ◌+◌, ◌≤◌, ◌<◌, Bool, List, [], ◌∷◌, refl, sym, ap, subst, arith, inl, inr, find, unwrap_or, Contains}
+use Rattle.std.proofs.Common.{◌≡◌, ℕ, zero, suc, ◌+◌, ◌-◌, ◌≤◌, ◌<◌, ◌∙◌, Bool, List, [], ◌∷◌, refl, sym, ap, subst, arith, inl, inr, find, unwrap_or, Contains}
 use Rattle.std.specs.Prelude.{nat_le, ◌^◌}
 use Rattle.std.specs.Ordering.{nat_cmp}
 use Rattle.std.specs.FinSet as set
@@ -10,7 +10,12 @@ use Rattle.std.proofs.lemmas.Bool.{cases_Bool, cond-true, cond-false}
 use Rattle.byteorder.specs.Endian.{big_number}
 use Rattle.vm_base.specs.Places.{page_of, page_count}
 use Rattle.vm_base.specs.MemoryState.{MemoryState}
-use Rattle.vm_base.specs.MemoryCalls.{Touches, touched}
+use Rattle.vm_base.specs.MemoryCalls.{Touches, TouchFails, touched}
+use Rattle.vm_base.specs.declared.faults.Fault.{Fault}
+use Rattle.page_heap.specs.declared.planned.Plan.{Plan}
+use Rattle.page_heap.specs.HeapCalls.{plan_of}
+use Rattle.store_uses.specs.HeapUses.{FailsOfTwo}
+use Rattle.store_meaning.specs.Layout.{header_at}
 use Rattle.vm_base.proofs.FlatLaws.{bytes_at-with_pages}
 use Rattle.vm_base.proofs.OwnFrames.{kept-with_pages}
 use Rattle.memory_uses.proofs.Touched.{touches_mem}
@@ -67,6 +72,33 @@ plan_at heap class = by (heap.free class)
     by : (free : List ℕ) → (plan_by free heap.top class).addr ≡ first_or_top free heap.top
     by [] = refl
     by (at ∷ free) = refl
+
+-- the touch of a planned block was refused
+pub fails_first_of_two : (plan : Plan) (heap : Heap) (size : ℕ) (old here new : MemoryState) (fault : Fault) (half : ℕ)
+    → plan ≡ plan_of heap size → here ≡ old → TouchFails here new plan.addr half fault → half ≡ 2 ^ (plan.class - 1)
+    → FailsOfTwo old new (next_at heap (class_of size)) (2 ^ (class_of size - 1)) header_at 4096 fault
+fails_first_of_two plan heap size old here new fault half planned same fails whole =
+    inl (subst (λ s. TouchFails s new (next_at heap (class_of size)) (2 ^ (class_of size - 1)) fault) same
+    (subst (λ a. TouchFails here new a (2 ^ (class_of size - 1)) fault) (ap (λ p. p.addr) planned ∙ plan_at heap (class_of size))
+    (subst (λ k. TouchFails here new plan.addr (2 ^ (k - 1)) fault) (ap (λ p. p.class) planned ∙ plan_class heap (class_of size))
+    (subst (λ n. TouchFails here new plan.addr n fault) whole fails))))
+
+-- or that of the header behind it
+pub fails_second_of_two : (plan : Plan) (heap : Heap) (size : ℕ) (old here between new : MemoryState) (fault : Fault) (half : ℕ)
+    → plan ≡ plan_of heap size → here ≡ old → Touches here between plan.addr half → half ≡ 2 ^ (plan.class - 1)
+    → TouchFails between new header_at 4096 fault
+    → FailsOfTwo old new (next_at heap (class_of size)) (2 ^ (class_of size - 1)) header_at 4096 fault
+fails_second_of_two plan heap size old here between new fault half planned same touch whole fails =
+    inr (
+      between,
+      (
+        subst (λ s. Touches s between (next_at heap (class_of size)) (2 ^ (class_of size - 1))) same
+            (subst (λ a. Touches here between a (2 ^ (class_of size - 1))) (ap (λ p. p.addr) planned ∙ plan_at heap (class_of size))
+            (subst (λ k. Touches here between plan.addr (2 ^ (k - 1))) (ap (λ p. p.class) planned ∙ plan_class heap (class_of size))
+            (subst (λ n. Touches here between plan.addr n) whole touch))),
+        fails,
+      ),
+    )
 
 -- a heap may begin in a flat memory that begins
 pub opening_may : (pages : ℕ) → pages ≤ 65536 → MayBegin (opening_memory pages)

@@ -1,9 +1,10 @@
 //! Callers that take blocks of a heap and give them back.
-ghost use Rattle.std.specs.Prelude.{◌≡◌, ℕ, ◌+◌, ◌≤◌, ◌<◌, [], ◌∷◌, IfOk, OnOk};
-ghost use Rattle.store_meaning.specs.Layout.{class_of, heap_at};
+ghost use Rattle.std.specs.Prelude.{◌≡◌, ℕ, ◌+◌, ◌-◌, ◌^◌, ◌≤◌, ◌<◌, [], ◌∷◌, IfOk, OnOk, IfErr};
+ghost use Rattle.store_meaning.specs.Layout.{class_of, header_at, heap_at};
 ghost use Rattle.store_meaning.specs.HeapLayout.{Heap, IsHeap, next_at, committed, freed};
 ghost use Rattle.store_meaning.specs.Standing.{MayBegin};
 ghost use Rattle.page_heap.specs.HeapCalls.{HasHeap, IsInUse, HasInUse};
+ghost use Rattle.store_uses.specs.HeapUses.{FailsOfTwo};
 
 use page_heap::{commit, free, init, plan};
 use vm_base::{Fault, Memory};
@@ -17,6 +18,11 @@ pub fn take<M: Memory>(m: &mut M, size: u32) -> Result<u64, Fault>
     ensures taken { IfOk result (λ at. (heap : Heap) → IsHeap (M.state m.old).mem heap
         → (at ≡ next_at heap (class_of size))
         × IsHeap (M.state m.new).mem (committed heap (class_of size))) }
+
+    // The touch of that block's half was refused, or the header's behind it. Nothing is stored.
+    ensures refused { IfErr result (λ fault. (heap : Heap) → IsHeap (M.state m.old).mem heap
+        → FailsOfTwo (M.state m.old) (M.state m.new) (next_at heap (class_of size))
+        (2 ^ (class_of size - 1)) header_at 4096 fault) }
     ensures room { (M.state m.new).room ≡ (M.state m.old).room }
 {
     let plan = plan(m, size);
@@ -32,6 +38,8 @@ pub fn give<M: Memory>(m: &mut M, addr: u64, class: u8) -> Result<(), Fault>
     ensures given { OnOk result ((heap : Heap) → IsHeap (M.state m.old).mem heap
         → HasInUse heap addr class
         → IsHeap (M.state m.new).mem (freed heap addr class)) }
+    ensures refused { IfErr result (λ fault.
+        FailsOfTwo (M.state m.old) (M.state m.new) addr 8 header_at 4096 fault) }
     ensures room { (M.state m.new).room ≡ (M.state m.old).room }
 {
     m.touch(addr, 8)?;

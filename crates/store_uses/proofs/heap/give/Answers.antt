@@ -1,4 +1,5 @@
-use Rattle.std.proofs.Common.{arith}
+use Rattle.std.proofs.Common.{arith, inl, inr}
+use Rattle.std.proofs.lemmas.Result.{err_from_is_err_and}
 use Rattle.page_heap.proofs.Plans.{use_within}
 use Rattle.store_uses.proofs.Heaps.{heap_touched}
 use Rattle.store_uses.proofs.heap.give.Goals as goal
@@ -23,3 +24,13 @@ pub returns-clause-given : goal.returns-clause-given
 returns-clause-given g c heap is used =
     c.free.ensures.heap heap
     (heap_touched _ _ _ _ heap c.in_ok-touch-2.ensures.touched (heap_touched _ _ _ _ heap c.in_ok-touch.ensures.touched is)) used
+
+pub returns-in_err-touch-clause-refused : goal.returns-in_err-touch-clause-refused
+returns-in_err-touch-clause-refused g c =
+    let exit = err_from_is_err_and c.from_residual.result c.from_residual.ensures.1 in
+    rw (exit.1, exit.2) (inl c.in_err-touch.ensures.fault)
+
+pub returns-in_err-touch-2-clause-refused : goal.returns-in_err-touch-2-clause-refused
+returns-in_err-touch-2-clause-refused g c =
+    let exit = err_from_is_err_and c.from_residual-in_err-touch-2.result c.from_residual-in_err-touch-2.ensures.1 in
+    rw (exit.1, exit.2) (inr (g.M.Memory.state c.touch.new.self, (c.in_ok-touch.ensures.touched, c.in_err-touch-2.ensures.fault)))

@@ -1,4 +1,6 @@
-use Rattle.std.proofs.Common.{◌≡◌, ◌≤◌, ◌-◌, ◌^◌, sym, ◌∙◌, ap, subst, arith, pow_mono, Contains}
+use Rattle.std.proofs.lemmas.Result.{err_from_is_err_and}
+use Rattle.store_uses.proofs.Heaps.{fails_first_of_two, fails_second_of_two}
+use Rattle.std.proofs.Common.{◌≡◌, ◌≤◌, ◌-◌, ◌*◌, ◌%◌, ◌^◌, sym, ◌∙◌, ap, subst, arith, pow_mono, Contains}
 use Rattle.vm_base.specs.MemoryCalls.{IsInRange}
 use Rattle.store_meaning.specs.Layout.{class_of, classes}
 use Rattle.store_meaning.specs.HeapLayout.{IsHeap, committed}
@@ -79,3 +81,26 @@ returns-clause-taken g c heap is =
           (c.commit.ensures.heap heap
           (heap_touched _ _ _ _ heap c.in_ok-touch-2.ensures.touched (heap_touched _ _ _ _ heap c.in_ok-touch.ensures.touched here))),
     )
+
+pub returns-in_err-touch-clause-refused : goal.returns-in_err-touch-clause-refused
+returns-in_err-touch-clause-refused g c =
+    let exit = err_from_is_err_and c.from_residual.result c.from_residual.ensures.1 in
+    rw (exit.1, exit.2) (λ heap is.
+    let given = c.plan-plan.ensures.plan heap is in
+    let class : c.plan-plan.result.class ≡ class_of c.args.size = ap (λ p. p.class) given ∙ plan_class heap (class_of c.args.size) in
+    let low : c.plan-plan.result.class - 1 ≤ 21 = omega (arith, class, (class_of-within c.args.size).1) in
+    let small : 2 ^ (c.plan-plan.result.class - 1) ≤ 2 ^ 21 = pow_mono low in
+    fails_first_of_two c.plan-plan.result heap c.args.size _ _ _ c.in_err-touch.field-0.0
+    (1 * 2 ^ (c.plan-plan.result.class - 1) % 18446744073709551616) given c.plan-plan.ensures.same
+    c.in_err-touch.ensures.fault (omega (arith, small)))
+
+pub returns-in_err-touch-2-clause-refused : goal.returns-in_err-touch-2-clause-refused
+returns-in_err-touch-2-clause-refused g c =
+    let exit = err_from_is_err_and c.from_residual-in_err-touch-2.result c.from_residual-in_err-touch-2.ensures.1 in
+    rw (exit.1, exit.2) (λ heap is.
+    let given = c.plan-plan.ensures.plan heap is in
+    let class : c.plan-plan.result.class ≡ class_of c.args.size = ap (λ p. p.class) given ∙ plan_class heap (class_of c.args.size) in
+    let low : c.plan-plan.result.class - 1 ≤ 21 = omega (arith, class, (class_of-within c.args.size).1) in
+    let small : 2 ^ (c.plan-plan.result.class - 1) ≤ 2 ^ 21 = pow_mono low in
+    fails_second_of_two c.plan-plan.result heap c.args.size _ _ _ _ c.in_err-touch-2.field-0.0 _ given c.plan-plan.ensures.same
+    c.in_ok-touch.ensures.touched (omega (arith, small)) c.in_err-touch-2.ensures.fault)

@@ -1,4 +1,4 @@
-use Rattle.std.proofs.Common.{◌≡◌, sym, subst, arith}
+use Rattle.std.proofs.Common.{sym, subst, arith}
 use Rattle.store_meaning.specs.Standing.{MayBegin}
 use Rattle.store_uses.proofs.Heaps.{opening_may}
 use Rattle.store_uses.proofs.tests.a_memory_without_a_page_has_no_heap.Goals as goal
