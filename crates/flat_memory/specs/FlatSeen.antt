@@ -58,8 +58,8 @@ memory_of sides = record {
 }
 
 -- the memory of a new process
-abbrev pub opening_memory : ℕ → MemoryState
-opening_memory room = record {
+abbrev pub opening_flat_memory : ℕ → MemoryState
+opening_flat_memory room = record {
   mem = empty_memory;
   refused = 0;
   room = room;

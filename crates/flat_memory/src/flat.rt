@@ -1,6 +1,6 @@
 //! A process by flat copies.
 ghost use Rattle.std.specs.Prelude.{◌≡◌, IfOk, []};
-ghost use Rattle.flat_memory.specs.FlatSeen.{FlatHolds, opening_memory};
+ghost use Rattle.flat_memory.specs.FlatSeen.{FlatHolds, opening_flat_memory};
 ghost use Rattle.flat_memory.specs.FlatProps.{FlatHolds-prop};
 
 use crate::side::Side;
@@ -23,7 +23,7 @@ impl Flat {
     /// number, which is 0 before the first. It fails only for want of memory.
     pub fn new(alloc: Global, pages: u32, last: u32) -> Result<Flat, NoMemory>
         ensures memory { IfOk result
-            (λ flat. ⟦<Flat as Memory>⟧.state flat ≡ opening_memory pages) }
+            (λ flat. ⟦<Flat as Memory>⟧.state flat ≡ opening_flat_memory pages) }
         ensures children { IfOk result
             (λ flat. ⟦<Flat as Process>⟧.children (⟦<Flat as Process>⟧.beside flat)
             ≡ record { numbers = []; live = 0; last = last; limit = 1 }) }

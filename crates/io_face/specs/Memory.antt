@@ -160,5 +160,5 @@ opened files room fails = record {
 }
 
 -- a name and its file, as lists of bytes
-abbrev pub entry_of : {A : Type 0} → String A × Vec ℕ A → List ℕ × List ℕ
-entry_of file = (string_bytes file.0, file.1.items)
+abbrev pub file_entry : {A : Type 0} → String A × Vec ℕ A → List ℕ × List ℕ
+file_entry file = (string_bytes file.0, file.1.items)

@@ -6,7 +6,7 @@ ghost use Rattle.std.specs.FinMap.{from_entries};
 ghost use Rattle.io_face.specs.Faults.{Rose};
 ghost use Rattle.io_face.specs.Folder.{Loads, Publishes};
 ghost use Rattle.std.specs.VecDeque.{deque_len, deque_capacity};
-ghost use Rattle.io_face.specs.Memory.{text_of, entry_of, opened, IsLoaded, longest, empty_record, IsLoadRefused, IsCreateRefused, IsPublishRefused, after_refusal, after_load, after_create, after_publish, after_close, after_abandon};
+ghost use Rattle.io_face.specs.Memory.{text_of, file_entry, opened, IsLoaded, longest, empty_record, IsLoadRefused, IsCreateRefused, IsPublishRefused, after_refusal, after_load, after_create, after_publish, after_close, after_abandon};
 
 use crate::calls::Calls;
 use crate::failed::Failed;
@@ -113,7 +113,7 @@ impl MemFolder {
         fails: Vec<u64>,
     ) -> Result<Self, NoMemory>
         ensures { IfOk result
-            (λ folder. folder ≡ opened (map entry_of files.items) room fails.items) }
+            (λ folder. folder ≡ opened (map file_entry files.items) room fails.items) }
     {
         let files = newest_first(alloc, files)?;
         let buffer = Vec::with_capacity(alloc, longest(&files, room))?;
@@ -160,7 +160,7 @@ fn newest_first(
     alloc: Global,
     mut files: Vec<(String, Vec<u8>)>,
 ) -> Result<VecDeque<Entry>, NoMemory>
-    ensures items { IfOk result (λ q. q.items ≡ reverse (map entry_of files.items)) }
+    ensures items { IfOk result (λ q. q.items ≡ reverse (map file_entry files.items)) }
     ensures places { IfOk result (λ q. deque_len q + 32 ≤ deque_capacity q) }
 {
     let mut entries = VecDeque::with_capacity(alloc, files.len() + FILES)?;

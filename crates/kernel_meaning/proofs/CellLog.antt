@@ -7,7 +7,7 @@ use Rattle.vm_base.specs.declared.fork_mode.Mode.TheVariants.{Eager, OnDemand, A
 use Rattle.vm_base.specs.declared.frame_request.Want.TheVariants as want
 use Rattle.kernel_meaning.specs.Requests.{Answer, Yes, No, opening_requests}
 use Rattle.kernel_meaning.specs.Leaves.{Leaf, Own, Joined, Kept, version_at, has_present, has_pages, is_named, is_shared, is_marked, kept_by, with_kept, without_kept, with_leaf, AreAbove, AreRising}
-use Rattle.kernel_meaning.specs.CellActs.{Course, opening_course, asking, coming_answer, numbers_where, leaf_copy_answered, leaf_copied, leaves_copied, before_change, page_copy_answered, new_page_answered, new_page_asked, parent_leaf_answered, touched_as, pages_cleared, eager_fork_answered, forked, copy_answered, copied_as}
+use Rattle.kernel_meaning.specs.CellActs.{Course, opening_course, asking, coming_answer, numbers_where, leaf_copy_answered, leaf_copied, leaves_copied, before_change, page_copy_answered, new_page_answered, new_page_asked, parent_leaf_answered, touched_as, pages_cleared, eager_fork_answered, course_forked, copy_answered, copied_as}
 use Rattle.kernel_meaning.specs.CellAccount.{CellAct, Touch, Store, Clear, Protect, Fork, Copy, Unmark, Drop, CellEntry, CellAccount, account_after, account_behind, account_of, empty_account, act_course, AllowsAct, AreEntriesBehind, AreEntries}
 
 -- ---- lists of snapshots
@@ -125,7 +125,7 @@ eager-rises : (n : ℕ) (answer : Answer) (course : Course) → IsNone (kept_by 
 eager-rises n Yes course lacks rises = rising-with (record { number = n; mode = Eager; versions = course.cell.parent; leaf = Own }) course.cell.kept lacks rises
 eager-rises n (No at) course lacks rises = rises
 
-forked-rises : (n : ℕ) (mode : Mode) (course : Course) → IsNone (kept_by course.cell.kept n) → Rises course → Rises (forked n mode course)
+forked-rises : (n : ℕ) (mode : Mode) (course : Course) → IsNone (kept_by course.cell.kept n) → Rises course → Rises (course_forked n mode course)
 forked-rises n Eager course lacks rises = eager-rises n (coming_answer course) (asking want.Leaf course) lacks rises
 forked-rises n OnDemand course lacks rises = rising-with (record { number = n; mode = OnDemand; versions = course.cell.parent; leaf = Joined }) course.cell.kept lacks rises
 forked-rises n Async course lacks rises = rising-with (record { number = n; mode = Async; versions = course.cell.parent; leaf = Joined }) course.cell.kept lacks rises

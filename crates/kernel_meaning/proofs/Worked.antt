@@ -10,7 +10,7 @@ use Rattle.vm_base.specs.Deals.{Granted, Denied, Returned}
 use Rattle.vm_base.specs.TwoSides.{Loss}
 use Rattle.kernel_meaning.specs.Requests.{Answer, Yes, No, opening_requests, answers_of}
 use Rattle.kernel_meaning.specs.Leaves.{Leaf, Own, Lost, CellLeaves, unused_cell, version_at, share}
-use Rattle.kernel_meaning.specs.CellActs.{Course, opening_course, touched, cleared, protected, forked, copied, dropped, unmarked, Copied, NothingToCopy, FoundLost, CopyRefused, copy_end}
+use Rattle.kernel_meaning.specs.CellActs.{Course, opening_course, course_touched, cleared, protected, course_forked, copied, dropped, unmarked, Copied, NothingToCopy, FoundLost, CopyRefused, copy_end}
 use Rattle.kernel_meaning.specs.FrameLaw.{Leaves, held_frames, losses_of, lacks_slots}
 use Rattle.kernel_meaning.specs.EventRequests.{Progress, opening_progress, pages_touched, snapshot_forked, snapshot_copied, snapshot_dropped, pages_unmapped, pages_protected}
 use Rattle.kernel_meaning.specs.RefusedRequests.{answers_from, refused_numbers, requests_of, out_after, is_forced}
@@ -26,35 +26,35 @@ on cell made answers = opening_course cell (opening_requests made answers)
 
 -- a page that was never touched: the parent's leaf, and the page
 abbrev one_page : Course
-one_page = touched 0 (on unused_cell 0 [])
+one_page = course_touched 0 (on unused_cell 0 [])
 
 a_first_touch : (one_page.requests.deals ≡ Granted want.Leaf ∷ Granted want.Page ∷ []) × (share one_page.cell ≡ 2) × (version_at one_page.cell.parent 0 ≡ Some 2)
 a_first_touch = (refl, refl, refl)
 
 -- where the page is refused, the leaf that was taken for it goes back
-a_refused_touch : ((touched 0 (on unused_cell 0 (Yes ∷ No 1 ∷ []))).requests.deals ≡ Granted want.Leaf ∷ Denied want.Page 1 ∷ Returned ∷ []) × ((touched 0 (on unused_cell 0 (Yes ∷ No 1 ∷ []))).cell ≡ unused_cell)
+a_refused_touch : ((course_touched 0 (on unused_cell 0 (Yes ∷ No 1 ∷ []))).requests.deals ≡ Granted want.Leaf ∷ Denied want.Page 1 ∷ Returned ∷ []) × ((course_touched 0 (on unused_cell 0 (Yes ∷ No 1 ∷ []))).cell ≡ unused_cell)
 a_refused_touch = (refl, refl)
 
 -- a page that no snapshot names takes no frame when it is touched again
-a_touch_in_place : (touched 0 one_page).requests.deals ≡ one_page.requests.deals
+a_touch_in_place : (course_touched 0 one_page).requests.deals ≡ one_page.requests.deals
 a_touch_in_place = refl
 
 -- an eager fork takes a leaf, and the first write behind it a copy of the page
 abbrev eager_fork : Course
-eager_fork = forked 1 Eager one_page
+eager_fork = course_forked 1 Eager one_page
 
-an_eager_fork_and_a_write : (share eager_fork.cell ≡ 3) × (share (touched 0 eager_fork).cell ≡ 4) × (share (dropped 1 (touched 0 eager_fork)).cell ≡ 2) × (version_at (touched 0 eager_fork).cell.parent 0 ≡ Some 4)
+an_eager_fork_and_a_write : (share eager_fork.cell ≡ 3) × (share (course_touched 0 eager_fork).cell ≡ 4) × (share (dropped 1 (course_touched 0 eager_fork)).cell ≡ 2) × (version_at (course_touched 0 eager_fork).cell.parent 0 ≡ Some 4)
 an_eager_fork_and_a_write = (refl, refl, refl, refl)
 
 -- the copy is due once: the snapshot names the old version, and no one the new
-no_second_copy : (touched 0 (touched 0 eager_fork)).cell ≡ (touched 0 eager_fork).cell
+no_second_copy : (course_touched 0 (course_touched 0 eager_fork)).cell ≡ (course_touched 0 eager_fork).cell
 no_second_copy = refl
 
 -- any other fork takes nothing; a page that was absent costs the copy of the leaf, and that stays where the page is refused
 abbrev lazy_fork : Mode → Course
-lazy_fork mode = forked 1 mode (on one_page.cell 2 (Yes ∷ No 1 ∷ []))
+lazy_fork mode = course_forked 1 mode (on one_page.cell 2 (Yes ∷ No 1 ∷ []))
 
-a_copied_leaf_stays : (share (lazy_fork OnDemand).cell ≡ 2) × ((touched 5 (lazy_fork OnDemand)).requests.deals ≡ Granted want.Leaf ∷ Denied want.Page 1 ∷ []) × (share (touched 5 (lazy_fork OnDemand)).cell ≡ 3) × ((touched 5 (lazy_fork OnDemand)).refused ≡ Some 1)
+a_copied_leaf_stays : (share (lazy_fork OnDemand).cell ≡ 2) × ((course_touched 5 (lazy_fork OnDemand)).requests.deals ≡ Granted want.Leaf ∷ Denied want.Page 1 ∷ []) × (share (course_touched 5 (lazy_fork OnDemand)).cell ≡ 3) × ((course_touched 5 (lazy_fork OnDemand)).refused ≡ Some 1)
 a_copied_leaf_stays = (refl, refl, refl, refl)
 
 -- a child copies what is marked, and nothing else
@@ -63,27 +63,27 @@ a_marked_leaf_is_copied = (refl, refl, refl, refl, refl)
 
 -- a refused copy of the child leaves the mark; a refused copy of the parent loses the cell
 abbrev refused_fork : Course
-refused_fork = forked 1 Async (on one_page.cell 2 (No 3 ∷ []))
+refused_fork = course_forked 1 Async (on one_page.cell 2 (No 3 ∷ []))
 
-refused_copies : (copy_end 1 refused_fork ≡ CopyRefused 3) × ((copied 1 refused_fork).cell ≡ refused_fork.cell) × (copy_end 1 (touched 0 refused_fork) ≡ FoundLost 3) × ((touched 0 refused_fork).refused ≡ None) × (share (touched 0 refused_fork).cell ≡ 2)
+refused_copies : (copy_end 1 refused_fork ≡ CopyRefused 3) × ((copied 1 refused_fork).cell ≡ refused_fork.cell) × (copy_end 1 (course_touched 0 refused_fork) ≡ FoundLost 3) × ((course_touched 0 refused_fork).refused ≡ None) × (share (course_touched 0 refused_fork).cell ≡ 2)
 refused_copies = (refl, refl, refl, refl, refl)
 
 -- the copies of a change: on-demand forks first, then async forks, each in rising order of numbers
 abbrev three_forks : Course
-three_forks = forked 7 OnDemand (forked 5 Async (forked 3 OnDemand (on one_page.cell 2 (No 1 ∷ No 2 ∷ No 3 ∷ []))))
+three_forks = course_forked 7 OnDemand (course_forked 5 Async (course_forked 3 OnDemand (on one_page.cell 2 (No 1 ∷ No 2 ∷ No 3 ∷ []))))
 
 -- the leaf of each snapshot there
 abbrev leaves_of : Course → List Leaf
 leaves_of course = map (λ kept. kept.leaf) course.cell.kept
 
-order_of_copies : leaves_of (touched 0 three_forks) ≡ Lost 1 ∷ Lost 3 ∷ Lost 2 ∷ []
+order_of_copies : leaves_of (course_touched 0 three_forks) ≡ Lost 1 ∷ Lost 3 ∷ Lost 2 ∷ []
 order_of_copies = refl
 
 -- one refused copy of a page loses every snapshot whose own leaf names the version, and what they alone named is free at once
 abbrev two_forks : Course
-two_forks = forked 2 Eager (forked 1 Eager (on one_page.cell 2 (Yes ∷ Yes ∷ No 1 ∷ [])))
+two_forks = course_forked 2 Eager (course_forked 1 Eager (on one_page.cell 2 (Yes ∷ Yes ∷ No 1 ∷ [])))
 
-two_losses : (leaves_of (touched 0 two_forks) ≡ Lost 1 ∷ Lost 1 ∷ []) × ((touched 0 two_forks).requests.deals ≡ Granted want.Leaf ∷ Granted want.Leaf ∷ Denied want.Page 1 ∷ Returned ∷ Returned ∷ []) × (share (touched 0 two_forks).cell ≡ 2)
+two_losses : (leaves_of (course_touched 0 two_forks) ≡ Lost 1 ∷ Lost 1 ∷ []) × ((course_touched 0 two_forks).requests.deals ≡ Granted want.Leaf ∷ Granted want.Leaf ∷ Denied want.Page 1 ∷ Returned ∷ Returned ∷ []) × (share (course_touched 0 two_forks).cell ≡ 2)
 two_losses = (refl, refl, refl)
 
 -- a range without a present page is no change; the last page of a cell takes the leaf with it, and the snapshot keeps the page

@@ -9,7 +9,7 @@ use Rattle.vm_base.specs.FlatMemory.{PageMap}
 use Rattle.vm_base.specs.FlatStep.{with_page, with_bytes, is_beyond}
 use Rattle.kernel_meaning.specs.Requests.{Answer, opening_requests, answers_of}
 use Rattle.kernel_meaning.specs.Leaves.{CellLeaves, unused_cell, share, kept_by, has_pages, has_joined, IsAlone}
-use Rattle.kernel_meaning.specs.CellActs.{Course, opening_course, touched, cleared, protected, forked, copied, unmarked, dropped}
+use Rattle.kernel_meaning.specs.CellActs.{Course, opening_course, course_touched, cleared, protected, course_forked, copied, unmarked, dropped}
 
 -- one act at a cell. Pages are counted from the first of the cell
 pub data CellAct : Type 0 where
@@ -57,11 +57,11 @@ empty_account = record { state = empty_state; made = 0 }
 
 -- leaves and requests in the course of an act
 abbrev pub act_course : CellAct → Course → Course
-act_course (Touch page) course = touched page course
+act_course (Touch page) course = course_touched page course
 act_course (Store page at bytes) course = course
 act_course (Clear first n) course = cleared first n course
 act_course (Protect first n perm) course = protected first n course
-act_course (Fork n mode seat) course = forked n mode course
+act_course (Fork n mode seat) course = course_forked n mode course
 act_course (Copy n) course = copied n course
 act_course (Unmark n) course = unmarked n course
 act_course (Drop n) course = dropped n course

@@ -119,8 +119,8 @@ touched_as None page course = absent_touched page course
 touched_as (Some version) page course = present_touched page version (before_change course)
 
 -- the touch of a page: only where it was absent can it end refused
-abbrev pub touched : ℕ → Course → Course
-touched page course = touched_as (version_at course.cell.parent page) page course
+abbrev pub course_touched : ℕ → Course → Course
+course_touched page course = touched_as (version_at course.cell.parent page) page course
 
 -- ---- clear and protect
 
@@ -152,10 +152,10 @@ eager_fork_answered n Yes course = record course { cell = with_fork n Eager Own 
 eager_fork_answered n (No at) course = refused_at at 0 course
 
 -- the fork of snapshot n: an eager one takes one frame for a leaf of its own, any other takes none
-abbrev pub forked : ℕ → Mode → Course → Course
-forked n Eager course = eager_fork_answered n (coming_answer course) (asking want.Leaf course)
-forked n OnDemand course = record course { cell = with_fork n OnDemand Joined course.cell }
-forked n Async course = record course { cell = with_fork n Async Joined course.cell }
+abbrev pub course_forked : ℕ → Mode → Course → Course
+course_forked n Eager course = eager_fork_answered n (coming_answer course) (asking want.Leaf course)
+course_forked n OnDemand course = record course { cell = with_fork n OnDemand Joined course.cell }
+course_forked n Async course = record course { cell = with_fork n Async Joined course.cell }
 
 -- the copy of snapshot n was answered: the leaf is its own, or stays as it was
 abbrev pub copy_answered : ℕ → Answer → Course → Course

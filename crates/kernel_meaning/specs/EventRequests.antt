@@ -8,7 +8,7 @@ use Rattle.vm_base.specs.declared.frame_request.Want.TheVariants as want
 use Rattle.vm_base.specs.Places.{cell_of, distinct, directory_frames}
 use Rattle.kernel_meaning.specs.Requests.{Requests, asked_in_row, given_back}
 use Rattle.kernel_meaning.specs.Leaves.{Leaf, Own, Joined, version_at, without_versions, has_present, without_kept}
-use Rattle.kernel_meaning.specs.CellActs.{Course, opening_course, touched, cleared, protected, with_fork, copied, CopyEnd, copy_end}
+use Rattle.kernel_meaning.specs.CellActs.{Course, opening_course, course_touched, cleared, protected, with_fork, copied, CopyEnd, copy_end}
 use Rattle.kernel_meaning.specs.FrameLaw.{Leaves, cell_at, with_cell, parent_cells, snapshot_cells, held_frames}
 
 -- a request was refused that the event can't do without: its count, and the page of a touch that it was for
@@ -76,7 +76,7 @@ cell_touch_ended (Some at) page tables progress = record progress {
 -- the touch at the page's cell, behind so many directory tables
 abbrev pub cell_touched : ℕ → ℕ → Progress → Progress
 cell_touched page tables progress =
-    let course = touched (page_in_cell page) (course_at (cell_of page) progress) in
+    let course = course_touched (page_in_cell page) (course_at (cell_of page) progress) in
     cell_touch_ended course.refused page tables (with_course (cell_of page) course progress)
 
 -- the directory tables were asked for: the touch goes on, or is refused, and those granted are given back

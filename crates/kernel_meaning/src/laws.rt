@@ -2,7 +2,7 @@
 ghost use Rattle.std.specs.Prelude.{◌≡◌, ◌≢◌, ℕ, ◌+◌, sum_by, IsSome, List};
 ghost use Rattle.vm_base.specs.Places.{directory_frames};
 ghost use Rattle.kernel_meaning.specs.Leaves.{share, version_at, AreRising};
-ghost use Rattle.kernel_meaning.specs.CellActs.{Course, touched};
+ghost use Rattle.kernel_meaning.specs.CellActs.{Course, course_touched};
 ghost use Rattle.kernel_meaning.specs.CellAccount.{CellEntry, account_of, AreEntries};
 ghost use Rattle.kernel_meaning.specs.PoolAccount.{PoolAct, PoolEntry, PoolAccount, pool_act, pool_account_of, load, MayStandIn, ArePoolEntries, IsPoolAccount};
 ghost use Rattle.kernel_meaning.specs.FrameLaw.{Leaves, held_frames, parent_cells, snapshot_tables};
@@ -16,7 +16,7 @@ pub fn frames_lie_in_directories_and_cells()
 /// The touch of a present page is never refused, whatever is answered.
 pub fn a_present_page_is_touched()
     ensures { (page : ℕ) (course : Course) →
-        IsSome (version_at course.cell.parent page) → (touched page course).refused ≡ course.refused }
+        IsSome (version_at course.cell.parent page) → (course_touched page course).refused ≡ course.refused }
 {}
 
 /// In a log of a cell's lock the snapshots that the cell keeps are in rising order, each once.

@@ -11,7 +11,7 @@ use Rattle.vm_base.specs.Frames.{FrameView}
 use Rattle.vm_base.proofs.FlatPages.{with_page_there}
 use Rattle.kernel_meaning.specs.Requests.{No, opening_requests}
 use Rattle.kernel_meaning.specs.Leaves.{Versions, no_versions, version_at, is_lost, is_own, Lost, Kept, CellLeaves, names_version, is_named, with_leaf, share, kept_by}
-use Rattle.kernel_meaning.specs.CellActs.{Course, opening_course, asking, coming_answer, page_copy_answered, with_leaf_where, touched}
+use Rattle.kernel_meaning.specs.CellActs.{Course, opening_course, asking, coming_answer, page_copy_answered, with_leaf_where, course_touched}
 use Rattle.kernel_meaning.specs.CellAccount.{Touch, CellAccount}
 use Rattle.leaf_cell.specs.declared.snapshot.Snapshot.{Snapshot}
 use Rattle.leaf_cell.specs.Places.{TableView}
@@ -164,7 +164,7 @@ module _ {State : Type 0} (goes : State → Deal → State → Type 0) (from to 
       takes-lost =
           let course : Course = opening_course account.state.leaves (opening_requests account.made (No at ∷ [])) in
           takes-by (Touch page) (λ cell other it. it) before after lost_deals None account (page_copy_answered page version (No at) (asking want.Page course))
-          (ap (λ answers. touched page (opening_course account.state.leaves (opening_requests account.made (No at ∷ answers)))) (answers-returned released.count)
+          (ap (λ answers. course_touched page (opening_course account.state.leaves (opening_requests account.made (No at ∷ answers)))) (answers-returned released.count)
           ∙ touched-present page course (meant-unjoined before account stands unjoined) version (meant before page place small there unjoined account stands).there
           ∙ ap (λ b. cond b (page_copy_answered page version (coming_answer course) (asking want.Page course)) course) (same_named before page place small there unjoined account stands ∙ named))
           (record {

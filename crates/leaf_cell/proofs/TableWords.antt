@@ -12,7 +12,7 @@ use Rattle.vm_base.specs.Entries.{entry_of, number_of, bits_of}
 use Rattle.vm_base.specs.FlatMemory.{spliced, zero_page}
 use Rattle.vm_base.proofs.EntryLemmas.{bits_of-entry}
 use Rattle.kernel_meaning.specs.Leaves.{no_versions, version_at, without_versions}
-use Rattle.leaf_cell.specs.Places.{IsLeafEntry, word_at, with_word, without_words, place_in, places_of, may_write, writable_of}
+use Rattle.leaf_cell.specs.Places.{IsLeafEntry, word_at, with_word, without_words, place_in, places_of, entry_may_write, writable_of}
 use Rattle.leaf_cell.specs.Writable.{none_writable, writable_at, without_writable}
 use Rattle.leaf_cell.proofs.WritablePages.{beyond-within, beyond-outside, with_writable-is}
 use Rattle.leaf_cell.proofs.Without.{in-or-out, length-without, without-within, without-outside}
@@ -125,30 +125,30 @@ places_of-with_word bytes page word whole small fits = sym (filled (with_word by
     ]))
 
 -- whether a page may be written to, as a table tells
-pub writable_at-writable_of : (bytes : List ℕ) (page : ℕ) → page < 512 → writable_at (writable_of bytes) page ≡ may_write (word_at bytes page)
+pub writable_at-writable_of : (bytes : List ℕ) (page : ℕ) → page < 512 → writable_at (writable_of bytes) page ≡ entry_may_write (word_at bytes page)
 unfolding writable_of
-writable_at-writable_of bytes page small = get_or-map-range_with_len (λ i. may_write (word_at bytes i)) 0 512 page page false small (omega arith)
+writable_at-writable_of bytes page small = get_or-map-range_with_len (λ i. entry_may_write (word_at bytes i)) 0 512 page page false small (omega arith)
 
 pub length-writable_of : (bytes : List ℕ) → length (writable_of bytes) ≡ 512
 unfolding writable_of
-length-writable_of bytes = length-map-range_with_len (λ i. may_write (word_at bytes i)) 0 512
+length-writable_of bytes = length-map-range_with_len (λ i. entry_may_write (word_at bytes i)) 0 512
 
 -- a list that tells of each page what a table tells is that of the table
-told : (bytes : List ℕ) (writable : List Bool) → length writable ≡ 512 → ((page : ℕ) → page < 512 → writable_at writable page ≡ may_write (word_at bytes page)) → writable ≡ writable_of bytes
+told : (bytes : List ℕ) (writable : List Bool) → length writable ≡ 512 → ((page : ℕ) → page < 512 → writable_at writable page ≡ entry_may_write (word_at bytes page)) → writable ≡ writable_of bytes
 unfolding writable_of
-told bytes writable size each = fill_by_all (λ i. may_write (word_at bytes i)) writable 512 false size each
+told bytes writable size each = fill_by_all (λ i. entry_may_write (word_at bytes i)) writable 512 false size each
 
 -- a word that was put changes it for its page alone
-pub writable_of-with_word : (bytes : List ℕ) (page word : ℕ) → length bytes ≡ 4096 → page < 512 → word < 2 ^ 64 → writable_of (with_word bytes page word) ≡ slice_set (writable_of bytes) page (may_write word)
-writable_of-with_word bytes page word whole small fits = sym (told (with_word bytes page word) (slice_set (writable_of bytes) page (may_write word))
-    (length-set (writable_of bytes) page (may_write word) ∙ length-writable_of bytes)
+pub writable_of-with_word : (bytes : List ℕ) (page word : ℕ) → length bytes ≡ 4096 → page < 512 → word < 2 ^ 64 → writable_of (with_word bytes page word) ≡ slice_set (writable_of bytes) page (entry_may_write word)
+writable_of-with_word bytes page word whole small fits = sym (told (with_word bytes page word) (slice_set (writable_of bytes) page (entry_may_write word))
+    (length-set (writable_of bytes) page (entry_may_write word) ∙ length-writable_of bytes)
     (λ k below. elim (cases_eq k page) [
-      | inl here ↦ ap (λ i. get_or (slice_set (writable_of bytes) page (may_write word)) i false) here
-          ∙ get_or-set_same (writable_of bytes) page (may_write word) false (rw (length-writable_of bytes) small)
-          ∙ sym (ap (λ i. may_write (word_at (with_word bytes page word) i)) here ∙ ap may_write (word_at-here bytes page word whole small fits))
-      | inr apart ↦ get_or-set_other (writable_of bytes) page k (may_write word) false apart
+      | inl here ↦ ap (λ i. get_or (slice_set (writable_of bytes) page (entry_may_write word)) i false) here
+          ∙ get_or-set_same (writable_of bytes) page (entry_may_write word) false (rw (length-writable_of bytes) small)
+          ∙ sym (ap (λ i. entry_may_write (word_at (with_word bytes page word) i)) here ∙ ap entry_may_write (word_at-here bytes page word whole small fits))
+      | inr apart ↦ get_or-set_other (writable_of bytes) page k (entry_may_write word) false apart
           ∙ writable_at-writable_of bytes k below
-          ∙ sym (ap may_write (word_at-apart bytes page word k whole small below apart))
+          ∙ sym (ap entry_may_write (word_at-apart bytes page word k whole small below apart))
     ]))
 
 -- zeros hold no place
@@ -165,7 +165,7 @@ pub places_of-zeros : places_of zero_page ≡ no_versions
 places_of-zeros = sym (filled zero_page no_versions (length-replicate {A = Option ℕ} 512 None) (λ page small. get_or-replicate 512 page None None small ∙ sym (ap place_in (zero_word page))))
 
 pub writable_of-zeros : writable_of zero_page ≡ none_writable
-writable_of-zeros = sym (told zero_page none_writable (length-replicate {A = Bool} 512 false) (λ page small. get_or-replicate 512 page false false small ∙ sym (ap may_write (zero_word page))))
+writable_of-zeros = sym (told zero_page none_writable (length-replicate {A = Bool} 512 false) (λ page small. get_or-replicate 512 page false false small ∙ sym (ap entry_may_write (zero_word page))))
 
 pub entries-zeros : (i : ℕ) → i < 512 → IsLeafEntry (word_at zero_page i)
 entries-zeros i small = inl (zero_word i)
@@ -222,9 +222,9 @@ module _ (bytes : List ℕ) (first n : ℕ) (whole : length bytes ≡ 4096) (ran
   unfolding zeros
   writable_of-without_words = with_writable-is (λ page. false) first n (writable_of bytes) (writable_of (without_words bytes first n)) (length-writable_of (without_words bytes first n))
       (λ k small. writable_at-writable_of (without_words bytes first n) k small ∙ elim (in-or-out first n k) [
-        | inl within ↦ ap may_write (word_at-zeroed k within.0 within.1)
+        | inl within ↦ ap entry_may_write (word_at-zeroed k within.0 within.1)
             ∙ sym (ap (λ b. cond b (writable_at (writable_of bytes) k) false) (beyond-within first n k within.0 within.1))
-        | inr outside ↦ ap may_write (word_at-left k small outside) ∙ sym (writable_at-writable_of bytes k small)
+        | inr outside ↦ ap entry_may_write (word_at-left k small outside) ∙ sym (writable_at-writable_of bytes k small)
             ∙ sym (ap (λ b. cond b (writable_at (writable_of bytes) k) false) (beyond-outside first n k outside))
       ])
 
@@ -236,9 +236,9 @@ place_in-present word place false is number =
     ap (λ bits. cond (bit_or bits 2 == 3) (Some (number_of word)) None) (ap bits_of is ∙ bits_of-entry place 1) ∙ ap Some number
 
 -- an entry with the bits of a present page tells what they tell
-pub may_write-present : (word place : ℕ) (may : Bool) → word ≡ entry_of place (cond may 3 1) → may_write word ≡ may
-may_write-present word place true is = ap may_write is ∙ ap (λ bits. bit_and bits 2 == 2) (bits_of-entry place 3)
-may_write-present word place false is = ap may_write is ∙ ap (λ bits. bit_and bits 2 == 2) (bits_of-entry place 1)
+pub may_write-present : (word place : ℕ) (may : Bool) → word ≡ entry_of place (cond may 3 1) → entry_may_write word ≡ may
+may_write-present word place true is = ap entry_may_write is ∙ ap (λ bits. bit_and bits 2 == 2) (bits_of-entry place 3)
+may_write-present word place false is = ap entry_may_write is ∙ ap (λ bits. bit_and bits 2 == 2) (bits_of-entry place 1)
 
 -- a table with the place at a page that it has there is as it was
 pub same-place : (places : List (Option ℕ)) (page place : ℕ) → version_at places page ≡ Some place → slice_set places page (Some place) ≡ places

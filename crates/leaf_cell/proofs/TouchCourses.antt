@@ -3,7 +3,7 @@ use Rattle.std.proofs.Common.{◌≡◌, ℕ, List, [], ◌∷◌, Some, None, r
 use Rattle.std.specs.Prelude.{Bool, true, false, cond, not, ◌&&◌, filter, map}
 use Rattle.vm_base.specs.declared.frame_request.Want.TheVariants as want
 use Rattle.kernel_meaning.specs.Leaves.{version_at, has_pages, is_joined, is_async, is_shared, is_marked, Kept}
-use Rattle.kernel_meaning.specs.CellActs.{Course, asking, coming_answer, numbers_where, leaves_copied, before_change, touched, touched_as, present_touched, new_page_asked, parent_leaf_answered}
+use Rattle.kernel_meaning.specs.CellActs.{Course, asking, coming_answer, numbers_where, leaves_copied, before_change, course_touched, touched_as, present_touched, new_page_asked, parent_leaf_answered}
 use Rattle.leaf_cell.specs.CellView.{AreUnjoined}
 use Rattle.leaf_cell.specs.Renaming.{AreKeptAlike}
 
@@ -31,19 +31,19 @@ before_change-none course h =
 
 module _ (page : ℕ) (course : Course) (h : AreUnjoined course.cell.kept) where
   -- an absent page, where the parent has its leaf
-  pub touched-absent : version_at course.cell.parent page ≡ None → has_pages course.cell.parent ≡ true → touched page course ≡ new_page_asked page 0 course
+  pub touched-absent : version_at course.cell.parent page ≡ None → has_pages course.cell.parent ≡ true → course_touched page course ≡ new_page_asked page 0 course
   touched-absent absent there =
       ap (λ o. touched_as o page course) absent
       ∙ ap (λ b. cond b (new_page_asked page 0 (before_change course)) (parent_leaf_answered page (coming_answer course) (asking want.Leaf course))) there
       ∙ ap (new_page_asked page 0) (before_change-none course h)
 
   -- an absent page, where the parent has none
-  pub touched-first : version_at course.cell.parent page ≡ None → has_pages course.cell.parent ≡ false → touched page course ≡ parent_leaf_answered page (coming_answer course) (asking want.Leaf course)
+  pub touched-first : version_at course.cell.parent page ≡ None → has_pages course.cell.parent ≡ false → course_touched page course ≡ parent_leaf_answered page (coming_answer course) (asking want.Leaf course)
   touched-first absent none =
       ap (λ o. touched_as o page course) absent
       ∙ ap (λ b. cond b (new_page_asked page 0 (before_change course)) (parent_leaf_answered page (coming_answer course) (asking want.Leaf course))) none
 
   -- a present page
-  pub touched-present : (version : ℕ) → version_at course.cell.parent page ≡ Some version → touched page course ≡ present_touched page version course
+  pub touched-present : (version : ℕ) → version_at course.cell.parent page ≡ Some version → course_touched page course ≡ present_touched page version course
   touched-present version there =
       ap (λ o. touched_as o page course) there ∙ ap (present_touched page version) (before_change-none course h)

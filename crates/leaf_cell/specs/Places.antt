@@ -41,12 +41,12 @@ unfoldable pub places_of : List ℕ → Versions
 places_of bytes = map (λ i. place_in (word_at bytes i)) (range_with_len 0 512)
 
 -- whether an entry tells that its page may be written to: its bit of value 2
-abbrev pub may_write : ℕ → Bool
-may_write word = bit_and (bits_of word) 2 == 2
+abbrev pub entry_may_write : ℕ → Bool
+entry_may_write word = bit_and (bits_of word) 2 == 2
 
 -- whether the bytes of a table tell that a page may be written to, page after page
 unfoldable pub writable_of : List ℕ → List Bool
-writable_of bytes = map (λ i. may_write (word_at bytes i)) (range_with_len 0 512)
+writable_of bytes = map (λ i. entry_may_write (word_at bytes i)) (range_with_len 0 512)
 
 -- a table as contracts see it: the places of its pages, and which of them may be written to
 pub record TableView : Type 0 where

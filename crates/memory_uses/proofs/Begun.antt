@@ -9,7 +9,7 @@ use Rattle.vm_base.specs.FlatMemory.{FlatMemory}
 use Rattle.vm_base.specs.FlatStep.{Refusal, map_of, protect_of}
 use Rattle.vm_base.specs.MemoryState.{MemoryState, own_of}
 use Rattle.vm_base.specs.MemoryCalls.{Maps, Changes, Touches, TouchFails, touched, faulted, fault_of, map_answer, protect_answer}
-use Rattle.memory_uses.specs.Steps.{Begins, BeginFails, MapsAndProtects, ProtectFails, map_all, where_mapped}
+use Rattle.memory_uses.specs.Steps.{MapsThenTouches, MapsOrTouchFails, MapsAndProtects, ProtectFails, map_all, where_mapped}
 use Rattle.memory_uses.proofs.Undone.{memory_of}
 use Rattle.memory_uses.proofs.Touched.{touches_mem}
 
@@ -35,7 +35,7 @@ same_most : (old middle : MemoryState) (first n : ℕ) → Maps old middle (map_
 same_most old middle first n maps = ap (λ s. s.most) maps.1
 
 pub begun_one : (old middle new : MemoryState) (first n address k : ℕ) → Maps old middle (map_answer old first n ReadWrite) → Touches middle new address k
-    → Begins old new ((first, n) ∷ []) address k
+    → MapsThenTouches old new ((first, n) ∷ []) address k
 begun_one old middle new first n address k maps touch = record {
   mapped = middle.mem;
   maps = front_mapped old middle first n [] maps;
@@ -45,8 +45,8 @@ begun_one old middle new first n address k maps touch = record {
   ready = touch.ready;
 }
 
-pub begun_more : (old middle new : MemoryState) (first n address k : ℕ) (areas : List (ℕ × ℕ)) → Maps old middle (map_answer old first n ReadWrite) → Begins middle new areas address k
-    → Begins old new ((first, n) ∷ areas) address k
+pub begun_more : (old middle new : MemoryState) (first n address k : ℕ) (areas : List (ℕ × ℕ)) → Maps old middle (map_answer old first n ReadWrite) → MapsThenTouches middle new areas address k
+    → MapsThenTouches old new ((first, n) ∷ areas) address k
 begun_more old middle new first n address k areas maps begun = record {
   mapped = begun.mapped;
   maps = front_mapped old middle first n areas maps ∙ begun.maps;
@@ -56,13 +56,13 @@ begun_more old middle new first n address k areas maps begun = record {
 }
 
 pub fails_map : (old new : MemoryState) (first n address k : ℕ) (areas : List (ℕ × ℕ)) (fault : Fault) → map_answer old first n ReadWrite ≡ Err fault → new ≡ old
-    → BeginFails old new ((first, n) ∷ areas) address k fault
+    → MapsOrTouchFails old new ((first, n) ∷ areas) address k fault
 fails_map old new first n address k areas fault answer same =
     let why = refusal_of (map_of old.mem first n ReadWrite) fault answer in
     inl (why.0, (ap (λ a. where_mapped a (λ mapped. map_all mapped areas)) why.1.0, why.1.1, ap (λ s. s.most) same))
 
 pub fails_touch : (old middle after new : MemoryState) (first n address k : ℕ) (fault : Fault) → Maps old middle (map_answer old first n ReadWrite) → TouchFails middle after address k fault
-    → new.most ≡ after.most → after.refused ≤ new.refused → BeginFails old new ((first, n) ∷ []) address k fault
+    → new.most ≡ after.most → after.refused ≤ new.refused → MapsOrTouchFails old new ((first, n) ∷ []) address k fault
 fails_touch old middle after new first n address k fault maps fails reached counted = inr (record {
   before = middle;
   after = after;
@@ -74,7 +74,7 @@ fails_touch old middle after new first n address k fault maps fails reached coun
 })
 
 pub fails_more : (old middle inner new : MemoryState) (first n address k : ℕ) (areas : List (ℕ × ℕ)) (fault : Fault) → Maps old middle (map_answer old first n ReadWrite)
-    → BeginFails middle inner areas address k fault → new.most ≡ inner.most → inner.refused ≤ new.refused → BeginFails old new ((first, n) ∷ areas) address k fault
+    → MapsOrTouchFails middle inner areas address k fault → new.most ≡ inner.most → inner.refused ≤ new.refused → MapsOrTouchFails old new ((first, n) ∷ areas) address k fault
 fails_more old middle inner new first n address k areas fault maps (inl why) reached counted =
     inl (why.0, (front_mapped old middle first n areas maps ∙ why.1.0, why.1.1, reached ∙ why.1.2 ∙ same_most old middle first n maps))
 fails_more old middle inner new first n address k areas fault maps (inr lacks) reached counted = inr (record {

@@ -92,8 +92,8 @@ pub record LacksTouch (old new : MemoryState) (areas : List (ℕ × ℕ)) (addre
   pub counted : after.refused ≤ new.refused
 
 -- an area could not be mapped, or the range not touched
-abbrev pub BeginFails : MemoryState → MemoryState → List (ℕ × ℕ) → ℕ → ℕ → Fault → Type 0
-BeginFails old new areas address n fault =
+abbrev pub MapsOrTouchFails : MemoryState → MemoryState → List (ℕ × ℕ) → ℕ → ℕ → Fault → Type 0
+MapsOrTouchFails old new areas address n fault =
     ((refusal : Refusal) × ((map_all old.mem areas ≡ Err refusal) × (fault ≡ fault_of refusal) × (new.most ≡ old.most)))
     ⊎ LacksTouch old new areas address n fault
 

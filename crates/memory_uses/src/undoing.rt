@@ -3,7 +3,7 @@ ghost use Rattle.std.specs.Prelude.{◌≡◌, ◌+◌, ◌*◌, ◌<◌, ◌≤
 ghost use Rattle.vm_base.specs.Places.{cells_of_range};
 ghost use Rattle.vm_base.specs.FlatMemory.{FlatMemory};
 ghost use Rattle.vm_base.specs.MemoryState.{IsKept};
-ghost use Rattle.memory_uses.specs.Steps.{IsMappedInto, Begins, BeginFails, MapsAndProtects, ProtectFails};
+ghost use Rattle.memory_uses.specs.Steps.{IsMappedInto, MapsThenTouches, MapsOrTouchFails, MapsAndProtects, ProtectFails};
 
 use vm_base::{Fault, Memory, Perm};
 
@@ -59,9 +59,9 @@ pub fn begin<M: Memory>(
     requires header { header + 1 ≤ 2 ^ 36 }
     requires heap { (0 < heap_pages) × (heap + heap_pages ≤ 2 ^ 36) }
     requires array { (0 < array_pages) × (array + array_pages ≤ 2 ^ 36) }
-    ensures begun { OnOk result (Begins (M.state memory.old) (M.state memory.new) ((header, 1) ∷ (heap, heap_pages) ∷ (array, array_pages) ∷ []) (header * 4096) 4096) }
+    ensures begun { OnOk result (MapsThenTouches (M.state memory.old) (M.state memory.new) ((header, 1) ∷ (heap, heap_pages) ∷ (array, array_pages) ∷ []) (header * 4096) 4096) }
     ensures fault { IfErr result (λ fault.
-        BeginFails (M.state memory.old) (M.state memory.new) ((header, 1) ∷ (heap, heap_pages) ∷ (array, array_pages) ∷ []) (header * 4096) 4096 fault) }
+        MapsOrTouchFails (M.state memory.old) (M.state memory.new) ((header, 1) ∷ (heap, heap_pages) ∷ (array, array_pages) ∷ []) (header * 4096) 4096 fault) }
     ensures undone { OnErr result ((M.state memory.new).mem ≡ (M.state memory.old).mem) }
     ensures keeps { IsKept (M.state memory.old) (M.state memory.new) (cells_of_range (header * 4096) 4096) }
     ensures aside { M.aside memory.new ≡ M.aside memory.old }
@@ -87,9 +87,9 @@ fn begin_heap<M: Memory>(
     requires header { header + 1 ≤ 2 ^ 36 }
     requires heap { (0 < heap_pages) × (heap + heap_pages ≤ 2 ^ 36) }
     requires array { (0 < array_pages) × (array + array_pages ≤ 2 ^ 36) }
-    ensures begun { OnOk result (Begins (M.state memory.old) (M.state memory.new) ((heap, heap_pages) ∷ (array, array_pages) ∷ []) (header * 4096) 4096) }
+    ensures begun { OnOk result (MapsThenTouches (M.state memory.old) (M.state memory.new) ((heap, heap_pages) ∷ (array, array_pages) ∷ []) (header * 4096) 4096) }
     ensures fault { IfErr result (λ fault.
-        BeginFails (M.state memory.old) (M.state memory.new) ((heap, heap_pages) ∷ (array, array_pages) ∷ []) (header * 4096) 4096 fault) }
+        MapsOrTouchFails (M.state memory.old) (M.state memory.new) ((heap, heap_pages) ∷ (array, array_pages) ∷ []) (header * 4096) 4096 fault) }
     ensures undone { OnErr result ((M.state memory.new).mem ≡ (M.state memory.old).mem) }
     ensures keeps { IsKept (M.state memory.old) (M.state memory.new) (cells_of_range (header * 4096) 4096) }
     ensures aside { M.aside memory.new ≡ M.aside memory.old }
@@ -112,9 +112,9 @@ fn begin_array<M: Memory>(
 ) -> Result<(), Fault>
     requires header { header + 1 ≤ 2 ^ 36 }
     requires array { (0 < array_pages) × (array + array_pages ≤ 2 ^ 36) }
-    ensures begun { OnOk result (Begins (M.state memory.old) (M.state memory.new) ((array, array_pages) ∷ []) (header * 4096) 4096) }
+    ensures begun { OnOk result (MapsThenTouches (M.state memory.old) (M.state memory.new) ((array, array_pages) ∷ []) (header * 4096) 4096) }
     ensures fault { IfErr result (λ fault.
-        BeginFails (M.state memory.old) (M.state memory.new) ((array, array_pages) ∷ []) (header * 4096) 4096 fault) }
+        MapsOrTouchFails (M.state memory.old) (M.state memory.new) ((array, array_pages) ∷ []) (header * 4096) 4096 fault) }
     ensures undone { OnErr result ((M.state memory.new).mem ≡ (M.state memory.old).mem) }
     ensures keeps { IsKept (M.state memory.old) (M.state memory.new) (cells_of_range (header * 4096) 4096) }
     ensures aside { M.aside memory.new ≡ M.aside memory.old }

@@ -3,7 +3,7 @@ ghost use Rattle.std.specs.Prelude.{◌≡◌, ◌+◌, ◌≤◌, length};
 ghost use Rattle.std.specs.FinMap.{len};
 ghost use Rattle.vm_base.specs.FlatMemory.{bytes_at};
 ghost use Rattle.store_meaning.specs.Layout.{heap_at, heap_end};
-ghost use Rattle.store_meaning.specs.HashLayout.{Pairs, StandsFor};
+ghost use Rattle.store_meaning.specs.HashLayout.{Pairs, StandsForMap};
 ghost use Rattle.store_meaning.specs.Standing.{IsStanding};
 
 use crate::found::Found;
@@ -14,7 +14,7 @@ use vm_base::Memory;
 /// How many pairs there are.
 pub fn len<M: Memory>(m: &mut M) -> u64
     requires stands { IsStanding (M.state m.old) }
-    ensures len { (pairs : Pairs) → StandsFor (M.state m.old).mem pairs → result ≡ len pairs }
+    ensures len { (pairs : Pairs) → StandsForMap (M.state m.old).mem pairs → result ≡ len pairs }
     ensures same { M.state m.new ≡ M.state m.old }
     ensures aside { M.aside m.new ≡ M.aside m.old }
     ensures went { M.went m.old m.new }
@@ -32,4 +32,38 @@ pub fn value<M: Memory>(m: &mut M, found: &Found, buf: &mut [u8])
     ensures went { M.went m.old m.new }
 {
     read_area(m, found.addr, buf);
+}
+/// Looks for a key. What it answers is read by `value`.
+pub fn find<M: Memory>(m: &mut M, key: &[u8]) -> Option<Found>
+    requires stands { IsStanding (M.state m.old) }
+    requires key { length key.now ≤ 65536 }
+    ensures found { (pairs : Pairs) → StandsFor (M.state m.old).mem pairs
+        → FoundFor (M.state m.new).mem result (get pairs key.now) }
+    ensures within { IfSome result (λ found. (heap_at ≤ found.addr) × (found.addr + found.length ≤ heap_end)) }
+    ensures same { M.state m.new ≡ M.state m.old }
+    ensures aside { M.aside m.new ≡ M.aside m.old }
+    ensures went { M.went m.old m.new }
+{
+    let table = table_head(m);
+    let bucket = key_hash(key) % table.buckets;
+    let first = read_word(m, table.array + 8 * bucket);
+    walk(m, first, table.pairs, key)
+}
+
+/// The value's length, with as much of the value in the buffer as fits.
+pub fn get<M: Memory>(m: &mut M, key: &[u8], buf: &mut [u8]) -> Option<u32>
+    requires stands { IsStanding (M.state m.old) }
+    requires key { length key.now ≤ 65536 }
+    ensures length { (pairs : Pairs) → StandsFor (M.state m.old).mem pairs
+        → result ≡ option_map length (get pairs key.now) }
+    ensures bytes { (pairs : Pairs) → StandsFor (M.state m.old).mem pairs
+        → buf.new ≡ filled_by buf.old (get pairs key.now) }
+    ensures same { M.state m.new ≡ M.state m.old }
+    ensures aside { M.aside m.new ≡ M.aside m.old }
+    ensures went { M.went m.old m.new }
+{
+    let found = find(m, key)?;
+    let kept = buf.len().min(found.length as usize);
+    value(m, &found, &mut buf[..kept]);
+    Some(found.length)
 }

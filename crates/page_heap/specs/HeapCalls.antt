@@ -40,8 +40,8 @@ abbrev pub plan_for : Heap → ℕ → Plan
 plan_for heap class = plan_by (heap.free class) heap.top class
 
 -- the plan for so many bytes
-abbrev pub plan_of : Heap → ℕ → Plan
-plan_of heap size = plan_for heap (class_of size)
+abbrev pub block_plan : Heap → ℕ → Plan
+block_plan heap size = plan_for heap (class_of size)
 
 -- the memory has a heap that gives this plan now
 pub record IsPlanned (state : MemoryState) (plan : Plan) : Type 0 where

@@ -4,7 +4,7 @@ ghost use Rattle.vm_base.specs.MemoryState.{IsKept};
 ghost use Rattle.vm_base.specs.MemoryCalls.{IsReady};
 ghost use Rattle.store_meaning.specs.Layout.{header_at, heap_at, heap_end};
 ghost use Rattle.store_meaning.specs.HeapLayout.{Heap, IsHeap, committed, freed};
-ghost use Rattle.page_heap.specs.HeapCalls.{HasHeap, IsPlanned, IsInUse, HasInUse, plan_of, commit_store, free_store};
+ghost use Rattle.page_heap.specs.HeapCalls.{HasHeap, IsPlanned, IsInUse, HasInUse, block_plan, commit_store, free_store};
 
 use crate::layout::{HEADER, class_for, list_field_of};
 use crate::planned::Plan;
@@ -15,7 +15,7 @@ use vm_base::Memory;
 pub fn plan<M: Memory>(m: &mut M, size: u32) -> Plan
     requires heap { HasHeap (M.state m.old) }
     requires size { (0 < size) × (size ≤ 2097152) }
-    ensures plan { (heap : Heap) → IsHeap (M.state m.old).mem heap → result ≡ plan_of heap size }
+    ensures plan { (heap : Heap) → IsHeap (M.state m.old).mem heap → result ≡ block_plan heap size }
     ensures within { (heap_at ≤ result.addr) × (result.addr + 2 ^ result.class ≤ heap_end) }
     ensures same { M.state m.new ≡ M.state m.old }
     ensures aside { M.aside m.new ≡ M.aside m.old }

@@ -26,7 +26,7 @@ use Rattle.page_tables.specs.declared.tables.PageTables.{PageTables}
 use Rattle.page_tables.specs.Sides.{Sides}
 use Rattle.page_tables.specs.Courses.{requests_between, Runs}
 use Rattle.page_tables.specs.Held.{shares_in}
-use Rattle.page_tables.specs.Standing.{owner_at, state_in, AreKept, AreCellsOf, AreSlotsOf, StandFor, number_of}
+use Rattle.page_tables.specs.Standing.{owner_at, state_in, AreKept, AreCellsOf, AreSlotsOf, StandFor, living_number}
 use Rattle.page_tables.specs.Forking.{AllBecome, Becomes, AreFreed, owner_if_used, dropped_state, snapshots_without, MadeOfSnapshots}
 use Rattle.page_tables.specs.Returning.{Returning}
 use Rattle.page_tables.proofs.TouchRuns.{answers-returned}
@@ -308,11 +308,11 @@ pub drop-made : (old : PageTables) (tables : SnapshotTables) → old.snapshot �
     → {State : Type 0} (goes : State → Deal → State → Type 0) (from between to : State) (new : PageTables) (mid : List Slot)
     → AllBecome (without_snapshot tables.number) (dropped_state tables.number) old.slots.items mid → AreFreed mid new.slots.items
     → Returning goes from between old.slots.items mid → LeadsAlong goes between (returned (tables_of tables.directory)) to
-    → new.directory ≡ old.directory → new.snapshot ≡ None → (number : ℕ) → number_of old.snapshot ≡ Some number
+    → new.directory ≡ old.directory → new.snapshot ≡ None → (number : ℕ) → living_number old.snapshot ≡ Some number
     → MadeOfSnapshots goes from to (snapshot_dropped number) (snapshots_without number) old new None
 drop-made old tables lives goes from between to new mid dropped freed back tables_back same gone number is =
     let total : ℕ = back.count + tables_of tables.directory in
-    let named : tables.number ≡ number = ap (λ o. unwrap_or o number) (sym (ap number_of lives) ∙ is) in
+    let named : tables.number ≡ number = ap (λ o. unwrap_or o number) (sym (ap living_number lives) ∙ is) in
     subst (λ n. MadeOfSnapshots goes from to (snapshot_dropped n) (snapshots_without n) old new None) named (record {
       deals = returned total;
       led = subst (λ ds. LeadsAlong goes from ds to) (returned-append back.count (tables_of tables.directory))

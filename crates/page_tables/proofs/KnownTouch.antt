@@ -12,7 +12,7 @@ use Rattle.vm_base.specs.Places.{cell_of}
 use Rattle.kernel_meaning.specs.Requests.{answers_of, Answer, asked_in_row}
 use Rattle.kernel_meaning.specs.Leaves.{CellLeaves, has_pages}
 use Rattle.kernel_meaning.specs.FrameLaw.{Leaves, cell_at, with_cell, is_used, parent_cells}
-use Rattle.kernel_meaning.specs.CellActs.{Course, touched}
+use Rattle.kernel_meaning.specs.CellActs.{Course, course_touched}
 use Rattle.kernel_meaning.specs.CellAccount.{CellState, CellAccount, Touch, state_after, pages_after}
 use Rattle.kernel_meaning.specs.EventRequests.{Progress, FrameRefusal, page_touched, missing_tables, tables_answered, cell_touch_ended, with_course}
 use Rattle.leaf_cell.specs.CellView.{CellView, AreUnjoined}
@@ -24,7 +24,7 @@ use Rattle.page_tables.specs.declared.tables.PageTables.{PageTables}
 use Rattle.page_tables.specs.Sides.{Sides}
 use Rattle.page_tables.specs.Courses.{requests_between, course_between, progress_between, RunsAt, Runs}
 use Rattle.page_tables.specs.Standing.{owner_at, state_in, StandFor, TablesStandFor}
-use Rattle.page_tables.specs.Accesses.{IsReady}
+use Rattle.page_tables.specs.Accesses.{IsPageReady}
 use Rattle.page_tables.specs.Making.{page_refusal, pages_with, Follows, FollowsTouch}
 use Rattle.page_tables.proofs.TouchRuns.{touch-runs}
 use Rattle.page_tables.proofs.TouchShapes.{IsTouchCourse, EndsTouch, touch-course, touch-size, touch-unjoined, touch-numbers, page-there}
@@ -52,7 +52,7 @@ touch-ended page leaves made rest dealt None = refl
 touch-ended page leaves made rest dealt (Some at) = λ i. record { leaves = leaves; requests = requests_between made rest (append-nil dealt i); refused = refusal_at page (Some at) }
 
 module _ (page : ℕ) (leaves : Leaves) (made : ℕ) (deals : List Deal) (after : CellLeaves) (later : ℕ) (refused : Option ℕ)
-    (runs : RunsAt (touched (page % 512)) (cell_at leaves (cell_of page)) made deals after later refused)
+    (runs : RunsAt (course_touched (page % 512)) (cell_at leaves (cell_of page)) made deals after later refused)
     (known : missing_tables (parent_cells leaves) (cell_of page) ≡ []) where
   pub known-runs : Runs (page_touched page) leaves made deals (with_cell leaves (cell_of page) after) later (refusal_at page refused)
   known-runs = record {
@@ -91,7 +91,7 @@ module _ (old : PageTables) (sides : Sides) (st : TablesStandFor old sides) (pag
   start = course_between (st.cells c).leaves sides.made (answers_of deals) []
 
   abbrev end : Course
-  end = touched p start
+  end = course_touched p start
 
   low : page % 512 < 512
   low = omega arith
@@ -159,8 +159,8 @@ module _ (old : PageTables) (sides : Sides) (st : TablesStandFor old sides) (pag
 
   runs_then : Runs (page_touched page) sides.leaves sides.made deals leaves end.requests.made refused
   runs_then =
-      let at_cell : RunsAt (touched p) (cell_at sides.leaves c) sides.made deals end.cell end.requests.made end.refused =
-      subst (λ cell. RunsAt (touched p) cell sides.made deals end.cell end.requests.made end.refused) (st.each.leaves c) (touch-runs p (st.cells c).leaves sides.made deals unjoined takes.asked) in
+      let at_cell : RunsAt (course_touched p) (cell_at sides.leaves c) sides.made deals end.cell end.requests.made end.refused =
+      subst (λ cell. RunsAt (course_touched p) cell sides.made deals end.cell end.requests.made end.refused) (st.each.leaves c) (touch-runs p (st.cells c).leaves sides.made deals unjoined takes.asked) in
       subst (λ refused. Runs (page_touched page) sides.leaves sides.made deals leaves end.requests.made refused) (ap (refusal_at page) takes.ended ∙ refusal-of page result)
       (known-runs page sides.leaves sides.made deals end.cell end.requests.made end.refused at_cell (missing-known sides.leaves c st.kept.sorted had))
 
@@ -190,14 +190,14 @@ module _ (old : PageTables) (sides : Sides) (st : TablesStandFor old sides) (pag
     size = λ granted. length-with_cell sides.leaves c end.cell used st.kept.sorted;
   }
     where
-      ready-as : (r : Result (Unit {0}) Refused) → result ≡ r → page_refusal page result ≡ None → IsReady leaves page
+      ready-as : (r : Result (Unit {0}) Refused) → result ≡ r → page_refusal page result ≡ None → IsPageReady leaves page
       ready-as (Ok done) e granted = touched-ready sides.leaves page slot.cell view account (record { state = state; made = end.requests.made }) stood takes.stands (st.each.leaves c) used from to
           (subst (λ r. OnOk r (IsTouched (page % 512) from to slot.cell view)) e touched)
       ready-as (Err why) e granted = absurd (false≢true (ap is_some (sym granted ∙ ap (page_refusal page) e)))
 
-      still-as : (r : Result (Unit {0}) Refused) → result ≡ r → (q : ℕ) → IsReady sides.leaves q → IsReady leaves q
+      still-as : (r : Result (Unit {0}) Refused) → result ≡ r → (q : ℕ) → IsPageReady sides.leaves q → IsPageReady leaves q
       still-as (Ok done) e q ready = touched-still sides.leaves page slot.cell view account (record { state = state; made = end.requests.made }) stood takes.stands (st.each.leaves c) used from to
           (subst (λ r. OnOk r (IsTouched (page % 512) from to slot.cell view)) e touched) q ready
       still-as (Err why) e q ready =
           let at_end : EndsTouch p start.cell end.cell (Some why.at) = subst (EndsTouch p start.cell end.cell) (takes.ended ∙ ap refused_count e) shape.ends in
-          subst (λ cells. IsReady cells q) (sym (with_cell-same sides.leaves c st.kept) ∙ ap (with_cell sides.leaves c) (sym (at_end ∙ st.each.leaves c))) ready
+          subst (λ cells. IsPageReady cells q) (sym (with_cell-same sides.leaves c st.kept) ∙ ap (with_cell sides.leaves c) (sym (at_end ∙ st.each.leaves c))) ready

@@ -13,7 +13,7 @@ use Rattle.vm_base.proofs.NumberedMaps.{get_inserted_here, get_inserted_apart, s
 use Rattle.kernel_meaning.specs.Requests.{answers_of}
 use Rattle.kernel_meaning.specs.Leaves.{has_pages, has_present}
 use Rattle.kernel_meaning.specs.FrameLaw.{Leaves, cell_at, with_cell, is_used, parent_cells}
-use Rattle.kernel_meaning.specs.CellActs.{Course, touched}
+use Rattle.kernel_meaning.specs.CellActs.{Course, course_touched}
 use Rattle.kernel_meaning.specs.CellAccount.{CellState, CellAccount, Touch, state_after, pages_after}
 use Rattle.kernel_meaning.specs.EventRequests.{page_touched, missing_tables}
 use Rattle.leaf_cell.specs.CellView.{CellView, AreUnjoined}
@@ -27,7 +27,7 @@ use Rattle.page_tables.specs.declared.tables.PageTables.{PageTables}
 use Rattle.page_tables.specs.Sides.{Sides}
 use Rattle.page_tables.specs.Courses.{course_between, RunsAt, Runs}
 use Rattle.page_tables.specs.Standing.{owner_at, state_in, StandFor, TablesStandFor, IsSlotFor}
-use Rattle.page_tables.specs.Accesses.{IsReady}
+use Rattle.page_tables.specs.Accesses.{IsPageReady}
 use Rattle.page_tables.specs.Making.{pages_with, Follows, FollowsTouch}
 use Rattle.page_tables.proofs.TouchRuns.{touch-runs}
 use Rattle.page_tables.proofs.TouchShapes.{IsTouchCourse, EndsTouch, touch-course, touch-size, touch-unjoined, touch-numbers, page-there}
@@ -109,7 +109,7 @@ module _ (old : PageTables) (sides : Sides) (st : TablesStandFor old sides) (pag
     start = course_between (st.cells c).leaves asked_for (answers_of deals) []
 
     abbrev end : Course
-    end = touched p start
+    end = course_touched p start
 
     shape : IsTouchCourse p start end
     shape = touch-course p start refl (subst (λ n. p < n) (sym size) low) unjoined
@@ -120,10 +120,10 @@ module _ (old : PageTables) (sides : Sides) (st : TablesStandFor old sides) (pag
     later : sides.made ≤ end.requests.made
     later = let l : sides.made + length wants ≤ end.requests.made = shape.later in omega arith
 
-    cell_runs : (refused : Option ℕ) → TakesAccount (Touch p) slot.cell view deals refused account → RunsAt (touched p) (cell_at sides.leaves c) asked_for deals end.cell end.requests.made refused
+    cell_runs : (refused : Option ℕ) → TakesAccount (Touch p) slot.cell view deals refused account → RunsAt (course_touched p) (cell_at sides.leaves c) asked_for deals end.cell end.requests.made refused
     cell_runs refused takes =
-        subst (λ r. RunsAt (touched p) (cell_at sides.leaves c) asked_for deals end.cell end.requests.made r) takes.ended
-        (subst (λ cell. RunsAt (touched p) cell asked_for deals end.cell end.requests.made end.refused) (st.each.leaves c) (touch-runs p (st.cells c).leaves asked_for deals unjoined takes.asked))
+        subst (λ r. RunsAt (course_touched p) (cell_at sides.leaves c) asked_for deals end.cell end.requests.made r) takes.ended
+        (subst (λ cell. RunsAt (course_touched p) cell asked_for deals end.cell end.requests.made end.refused) (st.each.leaves c) (touch-runs p (st.cells c).leaves asked_for deals unjoined takes.asked))
 
     runs_with : (refused : Option ℕ) → TakesAccount (Touch p) slot.cell view deals refused account
         → Runs (page_touched page) sides.leaves sides.made (deals_behind wants deals refused) leaves end.requests.made (refusal_at page refused)
@@ -235,7 +235,7 @@ module _ (old : PageTables) (sides : Sides) (st : TablesStandFor old sides) (pag
       refused-touches new directory alike set = record {
         follows = refused-follows new directory alike set;
         ready = λ granted. absurd (false≢true (ap is_some (sym granted)));
-        still = λ q ready. subst (λ cells. IsReady cells q) same_leaves ready;
+        still = λ q ready. subst (λ cells. IsPageReady cells q) same_leaves ready;
         found = λ granted. absurd (false≢true (ap is_some (sym granted)));
         size = λ granted. absurd (false≢true (ap is_some (sym granted)));
       }

@@ -20,7 +20,7 @@ use Rattle.page_tables.specs.declared.slot.Slot.{Slot}
 use Rattle.page_tables.specs.declared.tables.PageTables.{PageTables}
 use Rattle.page_tables.specs.Sides.{Sides}
 use Rattle.page_tables.specs.Standing.{StandFor, TablesStandFor}
-use Rattle.page_tables.specs.Accesses.{IsReady}
+use Rattle.page_tables.specs.Accesses.{IsPageReady}
 use Rattle.page_tables.proofs.SlotLemmas.{owner-same}
 use Rattle.page_tables.proofs.Again.{with_cell-same}
 use Rattle.page_tables.proofs.Acting.{tables-acted}
@@ -96,7 +96,7 @@ module _ (old : PageTables) (sides : Sides) (st : TablesStandFor old sides) (add
   stood = slot-stands old.directory old.snapshot old.slots.items sides st c s slot here (st.named c s known)
 
   -- the cell may be stored to where the page is ready
-  pub ready-view : IsReady sides.leaves (page_of addr) → IsAlone slot.cell.leaves page
+  pub ready-view : IsPageReady sides.leaves (page_of addr) → IsAlone slot.cell.leaves page
   ready-view ready = subst (IsAlone slot.cell.leaves) (sym page_is) (alone-stands slot.cell (account_at old.directory old.snapshot old.slots.items sides st c) stood p (subst (λ cell. IsAlone cell p) (sym (st.each.leaves c)) ready))
 
   module _ (view : CellView) (room : offset_of addr + length bytes ≤ 4096)

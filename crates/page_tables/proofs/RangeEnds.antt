@@ -22,7 +22,7 @@ use Rattle.page_tables.specs.Sides.{Sides}
 use Rattle.page_tables.specs.Courses.{requests_between, progress_between}
 use Rattle.page_tables.specs.Standing.{TablesStandFor}
 use Rattle.page_tables.specs.Held.{shares_in, snapshot_frames, frames_of}
-use Rattle.page_tables.specs.Accesses.{IsReady}
+use Rattle.page_tables.specs.Accesses.{IsPageReady}
 use Rattle.page_tables.specs.Clearing.{sides_without}
 use Rattle.page_tables.specs.Making.{FollowsTouch}
 use Rattle.page_tables.specs.Ranges.{absent_pages, IsTouchedUpTo, FollowsRange, sides_without_pages, AreThere}
@@ -171,7 +171,7 @@ there-range test (suc n) a leaves there =
 
 -- each page that was added is there while all of the range are ready
 pub added-there : (pages : PageMap) (first i : ℕ) (added : List ℕ) → added ≡ absent_pages pages first i → (leaves : Leaves)
-    → ((q : ℕ) → first ≤ q → q < first + i → IsReady leaves q) → AreThere leaves added
+    → ((q : ℕ) → first ≤ q → q < first + i → IsPageReady leaves q) → AreThere leaves added
 added-there pages first i added new leaves ready =
     subst (AreThere leaves) (sym new) (there-range (λ page. not (is_some (get pages page))) i first leaves
     (λ q e. let within : (first ≤ q) × (q < first + i) = added-within pages first i added new q (ap (list_any (eqb q)) new ∙ e) in (ready q within.0 within.1).present))
@@ -204,7 +204,7 @@ few-absent pages first i added new =
 -- ---- the end of a refused range
 
 -- pages that are none of those taken out may still be stored to
-ready-left-all : (pages : List ℕ) (leaves : Leaves) (q : ℕ) → list_any (eqb q) pages ≡ false → IsReady leaves q → IsReady (without_pages pages leaves) q
+ready-left-all : (pages : List ℕ) (leaves : Leaves) (q : ℕ) → list_any (eqb q) pages ≡ false → IsPageReady leaves q → IsPageReady (without_pages pages leaves) q
 ready-left-all [] leaves q apart ready = ready
 ready-left-all (page ∷ pages) leaves q apart ready = elim (cases_eq q page) [
   | inl same ↦ absurd (false≢true (sym apart ∙ ap (λ b. b || list_any (eqb q) pages) (eq-eqb q page same)))

@@ -16,7 +16,7 @@ use Rattle.page_tables.specs.declared.tables.PageTables.{PageTables}
 use Rattle.page_tables.specs.Sides.{Sides}
 use Rattle.page_tables.specs.Courses.{progress_between}
 use Rattle.page_tables.specs.Standing.{TablesStandFor}
-use Rattle.page_tables.specs.Accesses.{IsReady}
+use Rattle.page_tables.specs.Accesses.{IsPageReady}
 use Rattle.page_tables.specs.Making.{FollowsTouch}
 use Rattle.page_tables.specs.Ranges.{cells_of_pages, absent_pages, IsTouchedUpTo, FollowsRange}
 use Rattle.page_tables.proofs.TouchRuns.{answers-append}
@@ -91,7 +91,7 @@ module _ (first n i : ℕ) (small : i < n) (added : List ℕ) (now next : PageTa
       runs = runs_on;
       stands = subst (λ pages. TablesStandFor next (record { leaves = touch.follows.leaves; pages = pages; snapshots = sides.snapshots; made = touch.follows.made })) pages_on touch.follows.stands;
       ready = λ q low high. elim (cases_eq q page) [
-        | inl same ↦ subst (IsReady touch.follows.leaves) (sym same) (touch.ready refl)
+        | inl same ↦ subst (IsPageReady touch.follows.leaves) (sym same) (touch.ready refl)
         | inr apart ↦ touch.still q (so_far.ready q low (omega (arith, apart, high, here)))
       ];
       still = λ q ready. touch.still q (so_far.still q ready);

@@ -12,7 +12,7 @@ use Rattle.leaf_cell.specs.Renaming.{AreKeptAlike, IsNamedBy}
 use Rattle.leaf_cell.specs.Standing.{StandsFor}
 use Rattle.leaf_cell.specs.Touching.{IsAlone, IsTouched}
 use Rattle.leaf_cell.proofs.Renamed.{version_at-renamed}
-use Rattle.page_tables.specs.Accesses.{IsReady}
+use Rattle.page_tables.specs.Accesses.{IsPageReady}
 use Rattle.page_tables.proofs.ParentStore.{alone-view}
 use Rattle.page_tables.proofs.LeafMap.{cell_at-here, cell_at-apart}
 
@@ -44,13 +44,13 @@ module _ (leaves : Leaves) (page : ℕ) (old new : CellView) (before after : Cel
   abbrev then : Leaves
   then = with_cell leaves (cell_of page) after.state.leaves
 
-  in-cell : (q : ℕ) → cell_of q ≡ cell_of page → IsAlone after.state.leaves (q % 512) → IsReady then q
+  in-cell : (q : ℕ) → cell_of q ≡ cell_of page → IsAlone after.state.leaves (q % 512) → IsPageReady then q
   in-cell q here alone = subst (λ cell. IsAlone cell (q % 512)) (sym (cell_at-here leaves (cell_of page) after.state.leaves used (cell_of q) here)) alone
 
-  pub touched-ready : IsReady then page
+  pub touched-ready : IsPageReady then page
   touched-ready = in-cell page refl (alone-meant new after stands (page % 512) touched.alone)
 
-  pub touched-still : (q : ℕ) → IsReady leaves q → IsReady then q
+  pub touched-still : (q : ℕ) → IsPageReady leaves q → IsPageReady then q
   touched-still q ready = elim (cases_eq (cell_of q) (cell_of page)) [
     | inl here ↦
         let was : IsAlone before.state.leaves (q % 512) = subst (λ cell. IsAlone cell (q % 512)) (ap (cell_at leaves) here ∙ sym same) ready in

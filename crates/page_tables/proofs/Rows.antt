@@ -7,7 +7,7 @@ use Rattle.vm_base.specs.Places.{cell_of}
 use Rattle.kernel_meaning.specs.Requests.{Answer, Yes, No, RowEnd, answers_of, asked_in_row, row_end}
 use Rattle.kernel_meaning.specs.Leaves.{CellLeaves}
 use Rattle.kernel_meaning.specs.FrameLaw.{Leaves, cell_at, with_cell, parent_cells}
-use Rattle.kernel_meaning.specs.CellActs.{touched}
+use Rattle.kernel_meaning.specs.CellActs.{course_touched}
 use Rattle.kernel_meaning.specs.EventRequests.{Progress, page_touched, missing_tables, tables_answered, cell_touch_ended, with_course}
 use Rattle.table_levels.specs.Requests.{granted, returned}
 use Rattle.page_tables.specs.Courses.{requests_between, progress_between, RunsAt, Runs}
@@ -68,7 +68,7 @@ touch-ended-behind page n leaves made rest dealt (Some at) = refl
 module _ (page : ℕ) (leaves : Leaves) (made : ℕ) (wants : List Want) (missing : missing_tables (parent_cells leaves) (cell_of page) ≡ wants) where
   -- all tables were granted
   module _ (deals : List Deal) (after : CellLeaves) (later : ℕ) (refused : Option ℕ)
-      (at_cell : RunsAt (touched (page % 512)) (cell_at leaves (cell_of page)) (made + length wants) deals after later refused) where
+      (at_cell : RunsAt (course_touched (page % 512)) (cell_at leaves (cell_of page)) (made + length wants) deals after later refused) where
     abbrev all_deals : List Deal
     all_deals = deals_behind wants deals refused
 

@@ -25,7 +25,7 @@ use Rattle.page_tables.specs.declared.slot.Slot.{Slot}
 use Rattle.page_tables.specs.declared.tables.PageTables.{PageTables}
 use Rattle.page_tables.specs.declared.tables.SnapshotTables.{SnapshotTables}
 use Rattle.page_tables.specs.Sides.{Sides}
-use Rattle.page_tables.specs.Standing.{slot_in, numbers_at, number_of, TablesStandFor}
+use Rattle.page_tables.specs.Standing.{slot_in, numbers_at, living_number, TablesStandFor}
 use Rattle.page_tables.specs.Accesses.{lost_in_range, IsSnapshotRead}
 use Rattle.page_tables.proofs.LossAt.{loss_in, loss-in-leaves}
 use Rattle.page_tables.proofs.RangeLosses.{one-cell}
@@ -84,7 +84,7 @@ numbers-lacking : (snapshot : Option SnapshotTables) (c : ℕ) → slot_in snaps
 numbers-lacking None c none = refl
 numbers-lacking (Some tables) c none = ap (λ o. cond (is_some o) (tables.number ∷ []) []) none
 
-numbers-there : (snapshot : Option SnapshotTables) (c s n : ℕ) → slot_in snapshot c ≡ Some s → holds_number (number_of snapshot) n ≡ true
+numbers-there : (snapshot : Option SnapshotTables) (c s n : ℕ) → slot_in snapshot c ≡ Some s → holds_number (living_number snapshot) n ≡ true
     → (number : ℕ) × ((numbers_at snapshot c ≡ number ∷ []) × ((number == n) ≡ true))
 numbers-there None c s n there live = absurd (false≢true (ap is_some there))
 numbers-there (Some tables) c s n there live = (tables.number, (ap (λ o. cond (is_some o) (tables.number ∷ []) []) there, live))

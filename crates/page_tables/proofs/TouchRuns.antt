@@ -5,7 +5,7 @@ use Rattle.vm_base.specs.Deals.{Deal, Granted, Denied, Returned}
 use Rattle.vm_base.specs.declared.frame_request.Want.TheVariants as want
 use Rattle.kernel_meaning.specs.Requests.{Answer, Yes, No, answers_of}
 use Rattle.kernel_meaning.specs.Leaves.{CellLeaves, version_at, has_pages, is_named, share, Lost, names_version}
-use Rattle.kernel_meaning.specs.CellActs.{Course, touched, new_page_asked, parent_leaf_answered, present_touched, page_copy_answered, coming_answer, asking, with_leaf_where, before_change}
+use Rattle.kernel_meaning.specs.CellActs.{Course, course_touched, new_page_asked, parent_leaf_answered, present_touched, page_copy_answered, coming_answer, asking, with_leaf_where, before_change}
 use Rattle.leaf_cell.specs.CellView.{AreUnjoined}
 use Rattle.leaf_cell.proofs.TouchCourses.{before_change-none, touched-absent, touched-first, touched-present}
 use Rattle.page_tables.specs.Courses.{requests_between, course_between, RunsAt}
@@ -112,11 +112,11 @@ module _ (page : ℕ) (cell : CellLeaves) (made : ℕ) (before : List Deal) (res
 
 -- the touch as it runs with no deals before it
 abbrev pub touched_alone : ℕ → CellLeaves → ℕ → List Answer → Course
-touched_alone page cell made xs = touched page (course_between cell made xs [])
+touched_alone page cell made xs = course_touched page (course_between cell made xs [])
 
 touched-behind : (page : ℕ) (cell : CellLeaves) (made : ℕ) → AreUnjoined cell.kept → (version : Option ℕ) → version_at cell.parent page ≡ version → (leaf : Bool) → has_pages cell.parent ≡ leaf
     → (xs : List Answer) → answers_of (touched_alone page cell made xs).requests.deals ≡ xs
-    → (before : List Deal) (rest : List Answer) → touched page (course_between cell made (xs ++ rest) before) ≡ behind before rest (touched_alone page cell made xs)
+    → (before : List Deal) (rest : List Answer) → course_touched page (course_between cell made (xs ++ rest) before) ≡ behind before rest (touched_alone page cell made xs)
 touched-behind page cell made unjoined None absent true there xs e before rest =
     let alone : touched_alone page cell made xs ≡ new_page_asked page 0 (course_between cell made xs []) = touched-absent page (course_between cell made xs []) unjoined absent there in
     touched-absent page (course_between cell made (xs ++ rest) before) unjoined absent there
@@ -137,7 +137,7 @@ touched-behind page cell made unjoined (Some version) there leaf any xs e before
 
 -- a touch that makes just these deals
 pub touch-runs : (page : ℕ) (cell : CellLeaves) (made : ℕ) (deals : List Deal) → AreUnjoined cell.kept → (touched_alone page cell made (answers_of deals)).requests.deals ≡ deals
-    → RunsAt (touched page) cell made deals (touched_alone page cell made (answers_of deals)).cell (touched_alone page cell made (answers_of deals)).requests.made
+    → RunsAt (course_touched page) cell made deals (touched_alone page cell made (answers_of deals)).cell (touched_alone page cell made (answers_of deals)).requests.made
     (touched_alone page cell made (answers_of deals)).refused
 touch-runs page cell made deals unjoined just = record {
   runs = λ before rest.

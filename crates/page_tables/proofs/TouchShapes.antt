@@ -6,7 +6,7 @@ use Rattle.std.proofs.lemmas.Bool.{false≢true}
 use Rattle.vm_base.specs.declared.frame_request.Want.TheVariants as want
 use Rattle.kernel_meaning.specs.Requests.{Answer, Yes, No}
 use Rattle.kernel_meaning.specs.Leaves.{CellLeaves, Kept, Versions, Lost, is_joined, version_at, with_version, with_leaf, has_pages, is_named, names_version}
-use Rattle.kernel_meaning.specs.CellActs.{Course, asking, coming_answer, touched, new_page_asked, new_page_answered, parent_leaf_answered, page_copy_answered, with_parent_version, with_leaf_where}
+use Rattle.kernel_meaning.specs.CellActs.{Course, asking, coming_answer, course_touched, new_page_asked, new_page_answered, parent_leaf_answered, page_copy_answered, with_parent_version, with_leaf_where}
 use Rattle.kernel_meaning.specs.FrameLaw.{is_used}
 use Rattle.page_tables.proofs.SlotLemmas.{length-set}
 use Rattle.leaf_cell.specs.CellView.{AreUnjoined}
@@ -74,13 +74,13 @@ module _ (page : ℕ) (start : Course) (fresh : start.refused ≡ None) (size : 
       (behind-one page start _ (answered-new page (asking want.Leaf start) fresh size 1 (coming_answer (asking want.Leaf start))))
   first-course (No at) = record { touch = Same; later = omega arith; ends = refl }
 
-  course-as : (version : Option ℕ) → version_at start.cell.parent page ≡ version → (leaf : Bool) → has_pages start.cell.parent ≡ leaf → IsTouchCourse page start (touched page start)
+  course-as : (version : Option ℕ) → version_at start.cell.parent page ≡ version → (leaf : Bool) → has_pages start.cell.parent ≡ leaf → IsTouchCourse page start (course_touched page start)
   course-as None absent true there = subst (IsTouchCourse page start) (sym (touched-absent page start unjoined absent there)) (answered-new page start fresh size 0 (coming_answer start))
   course-as None absent false none = subst (IsTouchCourse page start) (sym (touched-first page start unjoined absent none)) (first-course (coming_answer start))
   course-as (Some version) there leaf any = subst (IsTouchCourse page start) (sym (touched-present page start unjoined version there))
       (present-course page start fresh size version there (is_named start.cell page version))
 
-  pub touch-course : IsTouchCourse page start (touched page start)
+  pub touch-course : IsTouchCourse page start (course_touched page start)
   touch-course = course-as (version_at start.cell.parent page) refl (has_pages start.cell.parent) refl
 
 -- the parent's table keeps its size

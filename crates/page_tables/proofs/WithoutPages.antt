@@ -10,7 +10,7 @@ use Rattle.kernel_meaning.specs.Leaves.{Versions, CellLeaves, unused_cell, versi
 use Rattle.kernel_meaning.specs.FrameLaw.{Leaves, cell_at, with_cell, is_used}
 use Rattle.kernel_meaning.specs.EventRequests.{page_version, without_page}
 use Rattle.leaf_cell.specs.Touching.{IsAlone}
-use Rattle.page_tables.specs.Accesses.{IsReady}
+use Rattle.page_tables.specs.Accesses.{IsPageReady}
 use Rattle.page_tables.proofs.LeafMap.{cell_at-here, cell_at-apart}
 use Rattle.page_tables.proofs.TouchShapes.{page-there}
 use Rattle.page_tables.proofs.ParentPages.{version-absent}
@@ -77,7 +77,7 @@ version-left leaves p q apart = elim (cases_eq (cell_of q) (cell_of p)) [
 ]
 
 -- and where that may be stored to, it still may
-pub ready-left : (leaves : Leaves) (p q : ℕ) → q ≢ p → IsReady leaves q → IsReady (without_page p leaves) q
+pub ready-left : (leaves : Leaves) (p q : ℕ) → q ≢ p → IsPageReady leaves q → IsPageReady (without_page p leaves) q
 ready-left leaves p q apart ready = elim (cases_eq (cell_of q) (cell_of p)) [
   | inl same ↦
       let new : CellLeaves = record (cell_at leaves (cell_of p)) { parent = without_versions (cell_at leaves (cell_of p)).parent (p % 512) 1 } in

@@ -17,7 +17,7 @@ use Rattle.page_tables.specs.declared.slot.Slot.{Slot}
 use Rattle.page_tables.specs.declared.tables.PageTables.{PageTables}
 use Rattle.page_tables.specs.Sides.{Sides}
 use Rattle.page_tables.specs.Standing.{owner_at, TablesStandFor, IsSlotFor}
-use Rattle.page_tables.specs.Accesses.{IsReady}
+use Rattle.page_tables.specs.Accesses.{IsPageReady}
 use Rattle.page_tables.specs.Permissions.{parent_cell, may_write, is_alone, LetsWrite, KeepsWriting, WritesAfterPage}
 use Rattle.page_tables.proofs.OwnedSlots.{owned-slot, slot-unjoined}
 use Rattle.page_tables.proofs.ParentPages.{account_at, slot-stands}
@@ -42,7 +42,7 @@ bit-known tables c s slot known here q same = ap (λ cell. bit_in cell (q % 512)
 
 -- a page that may be written to may be stored to, where its cell is so
 pub written-ready : (tables : PageTables) (sides : Sides) → TablesStandFor tables sides → (page s : ℕ) (slot : Slot) → get tables.directory (cell_of page) ≡ Some s → slice_get tables.slots.items s ≡ Some slot
-    → (AreUnjoined slot.cell.leaves.kept → (p : ℕ) → writable_at slot.cell.writable p ≡ true → IsAlone slot.cell.leaves p) → may_write tables page ≡ true → IsReady sides.leaves page
+    → (AreUnjoined slot.cell.leaves.kept → (p : ℕ) → writable_at slot.cell.writable p ≡ true → IsAlone slot.cell.leaves p) → may_write tables page ≡ true → IsPageReady sides.leaves page
 written-ready tables sides st page s slot known here alone may =
     let bit : writable_at slot.cell.writable (page % 512) ≡ true = sym (bit-known tables (cell_of page) s slot known here page refl) ∙ may in
     subst (λ cell. IsAlone cell (page % 512)) (st.each.leaves (cell_of page))
@@ -51,10 +51,10 @@ written-ready tables sides st page s slot known here alone may =
     (alone (slot-unjoined tables.directory tables.snapshot tables.slots.items sides st s slot here) (page % 512) bit))
 
 -- a page is the parent's alone in its cell where it may be stored to
-pub alone-ready : (tables : PageTables) (sides : Sides) → TablesStandFor tables sides → (page : ℕ) → (is_alone tables page ≡ true) ↔ IsReady sides.leaves page
+pub alone-ready : (tables : PageTables) (sides : Sides) → TablesStandFor tables sides → (page : ℕ) → (is_alone tables page ≡ true) ↔ IsPageReady sides.leaves page
 alone-ready tables sides st page = by (get tables.directory (cell_of page)) refl
   where
-    by : (o : Option ℕ) → get tables.directory (cell_of page) ≡ o → (is_alone tables page ≡ true) ↔ IsReady sides.leaves page
+    by : (o : Option ℕ) → get tables.directory (cell_of page) ≡ o → (is_alone tables page ≡ true) ↔ IsPageReady sides.leaves page
     by None missing = (
       λ alone. absurd (false≢true (sym (never-alone tables page missing) ∙ alone)),
       λ ready. absurd (false≢true (sym (ap is_some missing) ∙ st.parent (cell_of page) ∙ page-there (cell_at sides.leaves (cell_of page)) (page % 512) ready.present)),

@@ -13,8 +13,8 @@ use Rattle.page_tables.specs.declared.loss.LostCell.{LostCell}
 use Rattle.page_tables.specs.Sides.{Sides}
 
 -- the page may be stored to: the parent has it, and no leaf of a snapshot names its version
-abbrev pub IsReady : Leaves → ℕ → Type 0
-IsReady leaves page = IsAlone (cell_at leaves (cell_of page)) (page % 512)
+abbrev pub IsPageReady : Leaves → ℕ → Type 0
+IsPageReady leaves page = IsAlone (cell_at leaves (cell_of page)) (page % 512)
 
 -- the count at which snapshot n lost the lowest cell of a range of bytes that it has lost, where it has lost one
 abbrev pub lost_in_range : Leaves → ℕ → ℕ → ℕ → Option ℕ

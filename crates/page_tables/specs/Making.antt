@@ -13,7 +13,7 @@ use Rattle.page_tables.specs.declared.tables.PageTables.{PageTables}
 use Rattle.page_tables.specs.Sides.{Sides}
 use Rattle.page_tables.specs.Courses.{Runs}
 use Rattle.page_tables.specs.Standing.{TablesStandFor}
-use Rattle.page_tables.specs.Accesses.{IsReady}
+use Rattle.page_tables.specs.Accesses.{IsPageReady}
 
 -- the refusal of a page, where it was refused
 abbrev pub page_refusal : ℕ → Result (Unit {0}) Refused → Option FrameRefusal
@@ -46,8 +46,8 @@ pub record MadeEvent {State : Type 0} (goes : State → Deal → State → Type 
 -- the touch of a page followed: where it was granted the page may be stored to, and its cell has a slot; each page that might be stored to before still may
 pub record FollowsTouch (page : ℕ) (new : PageTables) (deals : List Deal) (refused : Option FrameRefusal) (sides : Sides) : Type 0 where
   pub follows : Follows (page_touched page) (pages_with page) new deals refused sides
-  pub ready : refused ≡ None → IsReady follows.leaves page
-  pub still : (q : ℕ) → IsReady sides.leaves q → IsReady follows.leaves q
+  pub ready : refused ≡ None → IsPageReady follows.leaves page
+  pub still : (q : ℕ) → IsPageReady sides.leaves q → IsPageReady follows.leaves q
   pub found : refused ≡ None → (c : ℕ) → is_some (find nat_cmp c follows.leaves) ≡ ((c == cell_of page) || is_some (find nat_cmp c sides.leaves))
   pub size : refused ≡ None → length follows.leaves ≡ cond (is_some (find nat_cmp (cell_of page) sides.leaves)) (length sides.leaves) (length sides.leaves + 1)
 

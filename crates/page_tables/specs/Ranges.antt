@@ -14,7 +14,7 @@ use Rattle.page_tables.specs.declared.range.FrameRefused.{FrameRefused}
 use Rattle.page_tables.specs.Sides.{Sides}
 use Rattle.page_tables.specs.Courses.{progress_between}
 use Rattle.page_tables.specs.Standing.{TablesStandFor}
-use Rattle.page_tables.specs.Accesses.{IsReady}
+use Rattle.page_tables.specs.Accesses.{IsPageReady}
 use Rattle.page_tables.specs.Clearing.{sides_without}
 use Rattle.page_tables.specs.Making.{Follows}
 
@@ -43,8 +43,8 @@ HasRoom slots leaves cells = length leaves + length (cells_without_slot leaves c
 -- the touch of n pages followed; where it was granted each of them may be stored to, and each page that might before still may
 pub record FollowsRange (first n : ℕ) (new : PageTables) (deals : List Deal) (refused : Option FrameRefusal) (sides : Sides) : Type 0 where
   pub follows : Follows (pages_touched first n) (pages_with_range first n) new deals refused sides
-  pub ready : refused ≡ None → (q : ℕ) → first ≤ q → q < first + n → IsReady follows.leaves q
-  pub still : (q : ℕ) → IsReady sides.leaves q → IsReady follows.leaves q
+  pub ready : refused ≡ None → (q : ℕ) → first ≤ q → q < first + n → IsPageReady follows.leaves q
+  pub still : (q : ℕ) → IsPageReady sides.leaves q → IsPageReady follows.leaves q
 
 -- a call touched n pages
 pub record MadeRange {State : Type 0} (goes : State → Deal → State → Type 0) (from to : State) (first n : ℕ) (old new : PageTables) (refused : Option FrameRefusal) : Type 0 where
@@ -63,10 +63,10 @@ pub record IsTouchedUpTo (first n i : ℕ) (added : List ℕ) (now : PageTables)
   pub runs : (before : List Deal) (rest : List Answer) → pages_touched first n (progress_between sides.leaves sides.made (answers_of deals ++ rest) before)
       ≡ pages_touched_behind added (first + i) (n - i) (progress_between leaves made rest (before ++ deals))
   pub stands : TablesStandFor now (record { leaves = leaves; pages = with_pages sides.pages first i; snapshots = sides.snapshots; made = made })
-  pub ready : (q : ℕ) → first ≤ q → q < first + i → IsReady leaves q
-  pub still : (q : ℕ) → IsReady sides.leaves q → IsReady leaves q
+  pub ready : (q : ℕ) → first ≤ q → q < first + i → IsPageReady leaves q
+  pub still : (q : ℕ) → IsPageReady sides.leaves q → IsPageReady leaves q
   pub new : added ≡ absent_pages sides.pages first i
-  pub apart : (q : ℕ) → IsReady sides.leaves q → list_any (λ page. q == page) added ≡ false
+  pub apart : (q : ℕ) → IsPageReady sides.leaves q → list_any (λ page. q == page) added ≡ false
   pub room : HasRoom slots sides.leaves (cells_of_pages first n) → HasRoom slots leaves (cells_of_pages first n)
 
 -- a call has touched the first i of n pages, and noted those that it added

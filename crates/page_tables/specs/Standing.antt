@@ -61,15 +61,15 @@ numbers_at None c = []
 numbers_at (Some tables) c = cond (is_some (get tables.directory c)) (tables.number ∷ []) []
 
 -- the number of the snapshot that lives, if one does
-abbrev pub number_of : Option SnapshotTables → Option ℕ
-number_of None = None
-number_of (Some tables) = Some tables.number
+abbrev pub living_number : Option SnapshotTables → Option ℕ
+living_number None = None
+living_number (Some tables) = Some tables.number
 
 -- the snapshot's directory has its cells, each with its slot
 pub record IsSnapshotOf (snapshot : Option SnapshotTables) (slots : List Slot) (sides : Sides) : Type 0 where
   pub numbers : (c : ℕ) → map (λ it. it.number) (cell_at sides.leaves c).kept ≡ numbers_at snapshot c
   pub named : (c s : ℕ) → slot_in snapshot c ≡ Some s → owner_at slots s ≡ Some c
-  pub live : (n : ℕ) → is_some (get sides.snapshots n) ≡ holds_number (number_of snapshot) n
+  pub live : (n : ℕ) → is_some (get sides.snapshots n) ≡ holds_number (living_number snapshot) n
   -- it has no page in other cells
   pub absent : (n c p : ℕ) → p < 512 → list_any (λ m. m == n) (numbers_at snapshot c) ≡ false → option_and_then (λ pages. get pages (c * 512 + p)) (get sides.snapshots n) ≡ None
 

@@ -9,7 +9,7 @@ use Rattle.kernel_meaning.specs.CellAccount.{CellState}
 use Rattle.leaf_cell.specs.CellView.{CellView, parent_page, kept_page}
 use Rattle.page_tables.specs.declared.slot.Slot.{Slot}
 use Rattle.page_tables.specs.declared.tables.PageTables.{PageTables}
-use Rattle.page_tables.specs.Standing.{number_of, slot_in}
+use Rattle.page_tables.specs.Standing.{living_number, slot_in}
 use Rattle.page_tables.specs.SlotViews.{SlotView, with_read_pages, pages_in}
 
 -- each of these snapshots with its pages in a cell
@@ -44,7 +44,7 @@ has_cell tables c = is_some (get tables.directory c)
 
 -- the number of the snapshot that lives, if one does
 abbrev pub snapshot_number : PageTables → Option ℕ
-snapshot_number tables = number_of tables.snapshot
+snapshot_number tables = living_number tables.snapshot
 
 -- the snapshot that lives has the cell
 abbrev pub snapshot_has : PageTables → ℕ → Bool

@@ -10,7 +10,7 @@ ghost use Rattle.page_tables.specs.Sides.{Sides};
 ghost use Rattle.page_tables.specs.Standing.{TablesStandFor, slot_in, slot_count};
 ghost use Rattle.page_tables.specs.Held.{frames_of, HoldAlike};
 ghost use Rattle.page_tables.specs.Permissions.{KeepsWriting};
-ghost use Rattle.page_tables.specs.Accesses.{IsReady, IsSnapshotRead, IsLowestLoss};
+ghost use Rattle.page_tables.specs.Accesses.{IsPageReady, IsSnapshotRead, IsLowestLoss};
 
 use crate::loss::{LostCell, lowest_lost};
 use crate::pieces::{location_of, piece_of_cell, piece_of_page};
@@ -57,7 +57,7 @@ impl PageTables {
     pub fn store(&mut self, addr: u64, bytes: &[u8])
         requires range { addr + length bytes.now ≤ 2 ^ 48 }
         requires stands { ∥ ((sides : Sides) × (TablesStandFor self.old sides ×
-            ((page : ℕ) → page_of addr ≤ page → page * 4096 < addr + length bytes.now → IsReady sides.leaves page))) ∥₁ }
+            ((page : ℕ) → page_of addr ≤ page → page * 4096 < addr + length bytes.now → IsPageReady sides.leaves page))) ∥₁ }
         ensures stored { (sides : Sides) → TablesStandFor self.old sides → TablesStandFor self.new (record sides { pages = with_bytes sides.pages addr bytes.now }) }
         ensures held { frames_of self.new ≡ frames_of self.old }
         ensures cells { HoldAlike self.old.slots.items self.new.slots.items }
@@ -78,7 +78,7 @@ impl PageTables {
     fn store_piece(&mut self, addr: u64, bytes: &[u8])
         requires inside { addr < 2 ^ 48 }
         requires room { offset_of addr + length bytes.now ≤ 4096 }
-        requires stands { ∥ ((sides : Sides) × (TablesStandFor self.old sides × IsReady sides.leaves (page_of addr))) ∥₁ }
+        requires stands { ∥ ((sides : Sides) × (TablesStandFor self.old sides × IsPageReady sides.leaves (page_of addr))) ∥₁ }
         ensures stored { (sides : Sides) → TablesStandFor self.old sides → TablesStandFor self.new (record sides { pages = with_bytes sides.pages addr bytes.now }) }
         ensures held { frames_of self.new ≡ frames_of self.old }
         ensures cells { HoldAlike self.old.slots.items self.new.slots.items }

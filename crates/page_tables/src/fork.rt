@@ -13,7 +13,7 @@ ghost use Rattle.leaf_cell.specs.Standing.{StandsFor};
 ghost use Rattle.table_levels.specs.Cells.{tables_of};
 ghost use Rattle.table_levels.specs.Requests.{Asks, directory_wants};
 ghost use Rattle.page_tables.specs.Sides.{Sides};
-ghost use Rattle.page_tables.specs.Standing.{TablesStandFor, number_of, slot_count};
+ghost use Rattle.page_tables.specs.Standing.{TablesStandFor, living_number, slot_count};
 ghost use Rattle.page_tables.specs.Held.{frames_in, frames_of, shares_in};
 ghost use Rattle.page_tables.specs.Forking.{Becomes, AllBecome, HaveAccounts, AreAlone, AreFreed, owner_if_used, is_forked, forked_count, forked_leaves, forked_state, same_leaves, same_state, dropped_state, fork_refusal, forked_bits, same_bits, HaveBits, BitsAfterFork, snapshots_with, snapshots_without, MadeOfSnapshots};
 ghost use Rattle.page_tables.specs.Permissions.{KeepsWriting, WritesAfterFork};
@@ -39,7 +39,7 @@ impl PageTables {
         ensures held { A.out (A.state allot.new) + frames_of self.old ≡ A.out (A.state allot.old) + frames_of self.new }
         ensures untold { A.grants allot.new ≡ None }
         ensures slots { slot_count self.new ≡ slot_count self.old }
-        ensures lives { OnOk result (number_of self.new.snapshot ≡ Some number) }
+        ensures lives { OnOk result (living_number self.new.snapshot ≡ Some number) }
         ensures kept { OnErr result (self.new.snapshot ≡ None) }
         ensures writable { WritesAfterFork result self.old self.new }
     {
@@ -73,7 +73,7 @@ impl PageTables {
         requires stands { ∥ ((sides : Sides) × TablesStandFor self.old sides) ∥₁ }
         requires lent { frames_of self.old ≤ A.out (A.state allot.old) }
         requires untold { A.grants allot.old ≡ None }
-        ensures made { (number : ℕ) → number_of self.old.snapshot ≡ Some number → MadeOfSnapshots A.goes (A.state allot.old) (A.state allot.new) (snapshot_dropped number) (snapshots_without number) self.old self.new None }
+        ensures made { (number : ℕ) → living_number self.old.snapshot ≡ Some number → MadeOfSnapshots A.goes (A.state allot.old) (A.state allot.new) (snapshot_dropped number) (snapshots_without number) self.old self.new None }
         ensures unrefused { A.refused (A.state allot.new) ≡ A.refused (A.state allot.old) }
         ensures held { A.out (A.state allot.new) + frames_of self.old ≡ A.out (A.state allot.old) + frames_of self.new }
         ensures untold { A.grants allot.new ≡ None }

@@ -8,7 +8,7 @@ ghost use Rattle.table_levels.specs.Requests.{returned};
 ghost use Rattle.kernel_meaning.specs.EventRequests.{page_version};
 ghost use Rattle.page_tables.specs.Sides.{Sides};
 ghost use Rattle.page_tables.specs.Standing.{TablesStandFor, slot_count};
-ghost use Rattle.page_tables.specs.Accesses.{IsReady};
+ghost use Rattle.page_tables.specs.Accesses.{IsPageReady};
 ghost use Rattle.page_tables.specs.Permissions.{may_write, is_alone, is_there, StopsWritingAt, WritesAfterRange};
 ghost use Rattle.page_tables.specs.Held.{frames_of};
 ghost use Rattle.page_tables.specs.Ranges.{MadeRange, HasRoom, cells_of_pages, range_refusal, sides_without_pages, AreThere};
@@ -102,8 +102,8 @@ impl PageTables {
         // where it is the parent's alone, and so it is where its entry tells that it may be written
         // to. What the second rests on, each cell keeps, and tells a proof by its calls alone: so
         // it stands at a call, and in no law.
-        ensures alone { (sides : Sides) → TablesStandFor self.now sides → (is_alone self.now page ≡ true) ↔ IsReady sides.leaves page }
-        ensures ready { may_write self.now page ≡ true → (sides : Sides) → TablesStandFor self.now sides → IsReady sides.leaves page }
+        ensures alone { (sides : Sides) → TablesStandFor self.now sides → (is_alone self.now page ≡ true) ↔ IsPageReady sides.leaves page }
+        ensures ready { may_write self.now page ≡ true → (sides : Sides) → TablesStandFor self.now sides → IsPageReady sides.leaves page }
     {
         self.has_page(self.known_slot(page), page)
     }
@@ -123,7 +123,7 @@ impl PageTables {
         requires stands { ∥ ((sides : Sides) × TablesStandFor self.now sides) ∥₁ }
         ensures version { (sides : Sides) → TablesStandFor self.now sides → result ≡ is_some (page_version sides.leaves page) }
         ensures page { (sides : Sides) → TablesStandFor self.now sides → result ≡ is_some (get sides.pages page) }
-        ensures ready { may_write self.now page ≡ true → (sides : Sides) → TablesStandFor self.now sides → IsReady sides.leaves page }
+        ensures ready { may_write self.now page ≡ true → (sides : Sides) → TablesStandFor self.now sides → IsPageReady sides.leaves page }
     {
         match slot {
             Some(slot) => {

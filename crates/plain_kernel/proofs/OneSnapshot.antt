@@ -16,21 +16,21 @@ use Rattle.plain_kernel.specs.declared.memory.MemoryFault.TheVariants.{NoArea, N
 use Rattle.plain_kernel.specs.PlainMemory.{Gives}
 use Rattle.plain_kernel.specs.PlainAnswers.{bytes_outcome_of}
 use Rattle.plain_kernel.specs.Sides.{snapshots_of, copies_of}
-use Rattle.plain_kernel.specs.KernelStep.{read_outcome, snap_read_outcome}
+use Rattle.plain_kernel.specs.KernelStep.{read_outcome, plain_snap_read_outcome}
 
 -- where nothing is lost, no cell of a range is
 first_loss_none : (n : ℕ) (cells : List ℕ) → first_loss [] n cells ≡ None
 first_loss_none n [] = refl
 first_loss_none n (cell ∷ cells) = first_loss_none n cells
 
-same_answer : (found : Option ℕ) (bytes : List ℕ) → snap_read_outcome (or_snap_refused OutsideSnapshot found (Ok bytes)) ≡ read_outcome (or_refused OutsideAreas found (Ok bytes))
+same_answer : (found : Option ℕ) (bytes : List ℕ) → plain_snap_read_outcome (or_snap_refused OutsideSnapshot found (Ok bytes)) ≡ read_outcome (or_refused OutsideAreas found (Ok bytes))
 same_answer None bytes = refl
 same_answer (Some page) bytes = refl
 
 -- where nothing is lost, a snapshot's read answers as that of its memory
-pub kept_read_is : (memory : FlatMemory) (n address size : ℕ) → snap_read_outcome (kept_read_of (Some memory) [] n address size) ≡ read_outcome (read_of memory address size)
+pub kept_read_is : (memory : FlatMemory) (n address size : ℕ) → plain_snap_read_outcome (kept_read_of (Some memory) [] n address size) ≡ read_outcome (read_of memory address size)
 kept_read_is memory n address size =
-    ap (λ found. snap_read_outcome (or_snap_refused OutsideSnapshot (outside memory.areas (page_of address) (page_count address size)) (or_snap_refused CellLost found (Ok (bytes_at memory.present address size)))))
+    ap (λ found. plain_snap_read_outcome (or_snap_refused OutsideSnapshot (outside memory.areas (page_of address) (page_count address size)) (or_snap_refused CellLost found (Ok (bytes_at memory.present address size)))))
     (first_loss_none n (cells_of_range address size))
     ∙ same_answer (outside memory.areas (page_of address) (page_count address size)) (bytes_at memory.present address size)
 
@@ -76,9 +76,9 @@ read_answers (Err NoMemory) answer is = tt
 -- the answer of a snapshot's read
 pub snap_read_answers : (snapshots : FinMap nat_cmp FlatMemory) (losses : List Loss) (number : ℕ) (memory : FlatMemory) (address size : ℕ) (read : Result (List ℕ) MemoryFault)
     → get snapshots number ≡ Some memory → losses ≡ [] → Gives read (read_of memory address size)
-    → IfOk (bytes_outcome_of read) (λ outcome. outcome ≡ snap_read_outcome (kept_read_of (get snapshots number) losses number address size))
+    → IfOk (bytes_outcome_of read) (λ outcome. outcome ≡ plain_snap_read_outcome (kept_read_of (get snapshots number) losses number address size))
 snap_read_answers snapshots losses number memory address size read found whole is =
-    let same : read_outcome (read_of memory address size) ≡ snap_read_outcome (kept_read_of (get snapshots number) losses number address size) =
-    sym (ap (λ found. snap_read_outcome (kept_read_of found losses number address size)) found
-    ∙ ap (λ none. snap_read_outcome (kept_read_of (Some memory) none number address size)) whole ∙ kept_read_is memory number address size) in
+    let same : read_outcome (read_of memory address size) ≡ plain_snap_read_outcome (kept_read_of (get snapshots number) losses number address size) =
+    sym (ap (λ found. plain_snap_read_outcome (kept_read_of found losses number address size)) found
+    ∙ ap (λ none. plain_snap_read_outcome (kept_read_of (Some memory) none number address size)) whole ∙ kept_read_is memory number address size) in
     subst (λ (answer : Outcome). IfOk (bytes_outcome_of read) (λ outcome. outcome ≡ answer)) same (read_answers read (read_of memory address size) is)

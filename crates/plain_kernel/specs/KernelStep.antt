@@ -28,11 +28,11 @@ read_outcome (Ok bytes) = Bytes bytes
 read_outcome (Err refusal) = refusal_outcome refusal
 
 -- the answer of a read of a snapshot
-abbrev pub snap_read_outcome : Result (List ℕ) SnapRefusal → Outcome
-snap_read_outcome (Ok bytes) = Bytes bytes
-snap_read_outcome (Err NotLive) = NoSnap
-snap_read_outcome (Err (OutsideSnapshot page)) = NoArea page
-snap_read_outcome (Err (CellLost at)) = Lost at
+abbrev pub plain_snap_read_outcome : Result (List ℕ) SnapRefusal → Outcome
+plain_snap_read_outcome (Ok bytes) = Bytes bytes
+plain_snap_read_outcome (Err NotLive) = NoSnap
+plain_snap_read_outcome (Err (OutsideSnapshot page)) = NoArea page
+plain_snap_read_outcome (Err (CellLost at)) = Lost at
 
 -- the answer of an event
 abbrev pub outcome_of : World → Event → Outcome
@@ -40,7 +40,7 @@ outcome_of world (Map first pages perm) = change_outcome (map_of world.parent fi
 outcome_of world (Read addr len) = read_outcome (read_of world.parent addr len)
 outcome_of world (Write addr bytes) = change_outcome (write_of world.parent addr bytes)
 outcome_of world (Fork number mode) = Done
-outcome_of world (SnapRead number addr len) = snap_read_outcome (snap_read_of world number addr len)
+outcome_of world (SnapRead number addr len) = plain_snap_read_outcome (snap_read_of world number addr len)
 
 -- the world after a change of the parent's memory; a refused one leaves it as it is
 abbrev pub changed : World → Result FlatMemory Refusal → World

@@ -27,6 +27,6 @@ Gives (Ok bytes) answer = answer ≡ Ok bytes
 Gives (Err fault) answer = IsRefusedBy answer fault
 
 -- the memory that the flat memory's change gives, or its refusal, which changes nothing
-abbrev pub Changes : FlatMemory → FlatMemory → Result (Unit {0}) MemoryFault → Result FlatMemory Refusal → Type 0
-Changes old new (Ok done) answer = answer ≡ Ok new
-Changes old new (Err fault) answer = IsRefusedBy answer fault × (new ≡ old)
+abbrev pub ChangesPages : FlatMemory → FlatMemory → Result (Unit {0}) MemoryFault → Result FlatMemory Refusal → Type 0
+ChangesPages old new (Ok done) answer = answer ≡ Ok new
+ChangesPages old new (Err fault) answer = IsRefusedBy answer fault × (new ≡ old)

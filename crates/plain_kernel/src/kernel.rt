@@ -3,7 +3,7 @@ ghost use Rattle.std.specs.Prelude.{◌≡◌, ◌≤◌, ◌==◌, if◌then◌
 ghost use Rattle.std.specs.Option.{option_copied};
 ghost use Rattle.std.specs.FinMap.{get, len as count};
 ghost use Rattle.vm_base.specs.TwoSides.{opening_world, forked, snap_read_of};
-ghost use Rattle.plain_kernel.specs.KernelStep.{outcome_of, world_after, snap_read_outcome, IsServed, IsInFirstCell};
+ghost use Rattle.plain_kernel.specs.KernelStep.{outcome_of, world_after, plain_snap_read_outcome, IsServed, IsInFirstCell};
 ghost use Rattle.plain_kernel.specs.PlainAnswers.{bytes_outcome_of, done_outcome_of, fault_outcome_of};
 
 use crate::event::Event;
@@ -126,7 +126,7 @@ impl Kernel {
         len: u32,
     ) -> Result<Outcome, NoMemory>
         requires { IsInFirstCell addr len }
-        ensures { IfOk result (λ outcome. outcome ≡ snap_read_outcome (snap_read_of self.now number addr len)) }
+        ensures { IfOk result (λ outcome. outcome ≡ plain_snap_read_outcome (snap_read_of self.now number addr len)) }
     {
         match self.kept(number) {
             Some(memory) => bytes_outcome(memory.read(alloc, addr, len as u64)),

@@ -4,7 +4,7 @@ ghost use Rattle.vm_base.specs.Places.{page_count};
 ghost use Rattle.vm_base.specs.FlatMemory.{empty_memory, area_of, holds};
 ghost use Rattle.vm_base.specs.FlatStep.{outside, unwritable, is_read_only, is_writable, map_of, read_of, write_of};
 ghost use Rattle.plain_kernel.specs.KernelStep.{IsInFirstCell};
-ghost use Rattle.plain_kernel.specs.PlainMemory.{area_value, Gives, Changes};
+ghost use Rattle.plain_kernel.specs.PlainMemory.{area_value, Gives, ChangesPages};
 
 use crate::page::PAGE_BYTES;
 use crate::pages::Pages;
@@ -109,7 +109,7 @@ impl Memory {
         bytes: &[u8],
     ) -> Result<(), MemoryFault>
         requires { IsInFirstCell addr (length bytes.now) }
-        ensures { Changes self.old self.new result (write_of self.old addr bytes.now) }
+        ensures { ChangesPages self.old self.new result (write_of self.old addr bytes.now) }
     {
         let first = addr / PAGE_BYTES as u64;
         let count = page_count(addr, bytes.len() as u64);

@@ -109,5 +109,5 @@ pub record IsStore (memory : FlatMemory) (store : Store) (of : Pairs) : Type 0 w
   pub pairs : IsPermutation (map entry_pair (entries_of store.table)) (entries of)
 
 -- the memory stands for the map
-abbrev pub StandsFor : FlatMemory → Pairs → Type 0
-StandsFor memory pairs = (store : Store) × IsStore memory store pairs
+abbrev pub StandsForMap : FlatMemory → Pairs → Type 0
+StandsForMap memory pairs = (store : Store) × IsStore memory store pairs

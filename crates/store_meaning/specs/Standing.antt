@@ -9,7 +9,7 @@ use Rattle.vm_base.specs.declared.faults.Fault.TheVariants.{NoArea, NoWrite, NoF
 use Rattle.vm_base.specs.MemoryState.{MemoryState, IsKept, IsIn, IsListed}
 use Rattle.store_meaning.specs.Layout.{classes, heap_at, store_cells}
 use Rattle.store_meaning.specs.HeapLayout.{Heap, blocks_of}
-use Rattle.store_meaning.specs.HashLayout.{Pairs, Store, IsStore, StandsFor}
+use Rattle.store_meaning.specs.HashLayout.{Pairs, Store, IsStore, StandsForMap}
 use Rattle.store_meaning.specs.Reach.{Place, Reach, reach_of}
 
 -- a memory that a store may lie in: a slot for each cell of its regions, no other cell in use, and
@@ -63,7 +63,7 @@ pub record Stands (state : MemoryState) (of : Pairs) (before : ℕ)
 -- the places behind it, for each list of places
 pub record Follows (old new : MemoryState) (step : Pairs → Pairs) (places : Pairs
     → List Place) : Type 0 where
-  pub map : (pairs : Pairs) → StandsFor old.mem pairs → StandsFor new.mem (step pairs)
+  pub map : (pairs : Pairs) → StandsForMap old.mem pairs → StandsForMap new.mem (step pairs)
   pub within : (pairs : Pairs) (before : ℕ) (gone : List Place) → Stands old pairs before gone
       → Stands new (step pairs) before (gone ++ places pairs)
 
@@ -71,7 +71,7 @@ pub record Follows (old new : MemoryState) (step : Pairs → Pairs) (places : Pa
 pub record IsStanding (state : MemoryState) : Type 0 where
   pub may : MayHoldStore state
   pub pairs : Pairs
-  pub stands : StandsFor state.mem pairs
+  pub stands : StandsForMap state.mem pairs
 
 -- what each call on a store keeps
 pub record StaysStanding (old new : MemoryState) : Type 0 where

@@ -3,7 +3,7 @@ use Rattle.std.proofs.Common.{◌≡◌, ℕ, zero, suc, ◌+◌, ◌-◌, ◌�
 use Rattle.std.specs.Prelude.{nat_le, ◌^◌}
 use Rattle.std.specs.Ordering.{nat_cmp}
 use Rattle.std.specs.FinSet as set
-use Rattle.flat_memory.specs.FlatSeen.{opening_memory}
+use Rattle.flat_memory.specs.FlatSeen.{opening_flat_memory}
 use Rattle.store_meaning.specs.Standing.{MayBegin}
 use Rattle.std.specs.List.{AllByRecursion, range_with_len}
 use Rattle.std.proofs.lemmas.Bool.{cases_Bool, cond-true, cond-false}
@@ -13,7 +13,7 @@ use Rattle.vm_base.specs.MemoryState.{MemoryState}
 use Rattle.vm_base.specs.MemoryCalls.{Touches, TouchFails, touched}
 use Rattle.vm_base.specs.declared.faults.Fault.{Fault}
 use Rattle.page_heap.specs.declared.planned.Plan.{Plan}
-use Rattle.page_heap.specs.HeapCalls.{plan_of}
+use Rattle.page_heap.specs.HeapCalls.{block_plan}
 use Rattle.store_uses.specs.HeapUses.{FailsOfTwo}
 use Rattle.store_meaning.specs.Layout.{header_at}
 use Rattle.vm_base.proofs.FlatLaws.{bytes_at-with_pages}
@@ -75,7 +75,7 @@ plan_at heap class = by (heap.free class)
 
 -- the touch of a planned block was refused
 pub fails_first_of_two : (plan : Plan) (heap : Heap) (size : ℕ) (old here new : MemoryState) (fault : Fault) (half : ℕ)
-    → plan ≡ plan_of heap size → here ≡ old → TouchFails here new plan.addr half fault → half ≡ 2 ^ (plan.class - 1)
+    → plan ≡ block_plan heap size → here ≡ old → TouchFails here new plan.addr half fault → half ≡ 2 ^ (plan.class - 1)
     → FailsOfTwo old new (next_at heap (class_of size)) (2 ^ (class_of size - 1)) header_at 4096 fault
 fails_first_of_two plan heap size old here new fault half planned same fails whole =
     inl (subst (λ s. TouchFails s new (next_at heap (class_of size)) (2 ^ (class_of size - 1)) fault) same
@@ -85,7 +85,7 @@ fails_first_of_two plan heap size old here new fault half planned same fails who
 
 -- or that of the header behind it
 pub fails_second_of_two : (plan : Plan) (heap : Heap) (size : ℕ) (old here between new : MemoryState) (fault : Fault) (half : ℕ)
-    → plan ≡ plan_of heap size → here ≡ old → Touches here between plan.addr half → half ≡ 2 ^ (plan.class - 1)
+    → plan ≡ block_plan heap size → here ≡ old → Touches here between plan.addr half → half ≡ 2 ^ (plan.class - 1)
     → TouchFails between new header_at 4096 fault
     → FailsOfTwo old new (next_at heap (class_of size)) (2 ^ (class_of size - 1)) header_at 4096 fault
 fails_second_of_two plan heap size old here between new fault half planned same touch whole fails =
@@ -101,5 +101,5 @@ fails_second_of_two plan heap size old here between new fault half planned same 
     )
 
 -- a heap may begin in a flat memory that begins
-pub opening_may : (pages : ℕ) → pages ≤ 65536 → MayBegin (opening_memory pages)
+pub opening_may : (pages : ℕ) → pages ≤ 65536 → MayBegin (opening_flat_memory pages)
 opening_may pages few = record { empty = refl; slots = omega arith; unused = set.len-empty nat_cmp; room = few }

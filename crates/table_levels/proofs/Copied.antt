@@ -8,7 +8,7 @@ use Rattle.vm_base.specs.Deals.{Deal, Granted, LeadsAlong}
 use Rattle.vm_base.proofs.DealLemmas.{LeadsAlong-append}
 use Rattle.table_levels.specs.Requests.{granted, returned, RefusesOne}
 use Rattle.table_levels.specs.Walks.{Place, table_at, tables_at}
-use Rattle.table_levels.specs.Copies.{Copies, bytes_in}
+use Rattle.table_levels.specs.Copies.{Copies, table_bytes_in}
 use Rattle.table_levels.proofs.Asking.{refuses_after}
 use Rattle.table_levels.proofs.Giving.{tables_at-take, tables_at-take_le}
 use Rattle.table_levels.proofs.Links.{table_at-set_here, table_at-set_other, table_at-beyond, tables_at-set}
@@ -37,7 +37,7 @@ refuses_before goes wants more at old new refused = record {
 }
 
 -- ---- one table more
-pub same_counted : (p q : Place) → bytes_in p ≡ bytes_in q → tables_at (p ∷ []) ≡ tables_at (q ∷ [])
+pub same_counted : (p q : Place) → table_bytes_in p ≡ table_bytes_in q → tables_at (p ∷ []) ≡ tables_at (q ∷ [])
 same_counted None None same = refl
 same_counted None (Some b) same = absurd cc
 same_counted (Some a) None same = absurd cc
@@ -46,19 +46,19 @@ same_counted (Some a) (Some b) same = refl
 -- the first tables are copied, and the other places free
 pub record CopiesFirst (places tables : List Place) (n : ℕ) : Type 0 where
   pub size : length places ≡ length tables
-  pub copied : (k : ℕ) → k < n → bytes_in (table_at places k) ≡ bytes_in (table_at tables k)
+  pub copied : (k : ℕ) → k < n → table_bytes_in (table_at places k) ≡ table_bytes_in (table_at tables k)
   pub free : (k : ℕ) → n ≤ k → table_at places k ≡ None
   pub counted : tables_at places ≡ tables_at (take n tables)
 
-pub copies_more : (places tables : List Place) (i : ℕ) (copy d : Place) → i < length tables → CopiesFirst places tables i → bytes_in copy ≡ bytes_in (get_or tables i d) → CopiesFirst (set places i copy) tables (i + 1)
+pub copies_more : (places tables : List Place) (i : ℕ) (copy d : Place) → i < length tables → CopiesFirst places tables i → table_bytes_in copy ≡ table_bytes_in (get_or tables i d) → CopiesFirst (set places i copy) tables (i + 1)
 copies_more places tables i copy d inside first same =
     let there : i < length places = omega (arith, first.size) in
     record {
       size = length-set places i copy ∙ first.size;
       copied = λ k below. elim (cases_eq k i) [
-        | inl here ↦ ap (λ j. bytes_in (table_at (set places i copy) j)) here ∙ ap bytes_in (table_at-set_here places i copy there) ∙ same
-            ∙ ap bytes_in (sym (table_at-get tables i d inside)) ∙ sym (ap (λ j. bytes_in (table_at tables j)) here)
-        | inr apart ↦ ap bytes_in (table_at-set_other places i k copy apart) ∙ first.copied k (omega (arith, apart))
+        | inl here ↦ ap (λ j. table_bytes_in (table_at (set places i copy) j)) here ∙ ap table_bytes_in (table_at-set_here places i copy there) ∙ same
+            ∙ ap table_bytes_in (sym (table_at-get tables i d inside)) ∙ sym (ap (λ j. table_bytes_in (table_at tables j)) here)
+        | inr apart ↦ ap table_bytes_in (table_at-set_other places i k copy apart) ∙ first.copied k (omega (arith, apart))
       ];
       free = λ k above. table_at-set_other places i k copy (λ here. omega arith) ∙ first.free k (omega arith);
       counted =
@@ -71,7 +71,7 @@ pub copies_all : (places tables : List Place) (n : ℕ) → length tables ≤ n 
 copies_all places tables n all first = record {
   bytes = λ k. elim (cases_lt k n) [
     | inl below ↦ first.copied k below
-    | inr beyond ↦ ap bytes_in (first.free k beyond) ∙ sym (ap bytes_in (table_at-beyond tables k (omega arith)))
+    | inr beyond ↦ ap table_bytes_in (first.free k beyond) ∙ sym (ap table_bytes_in (table_at-beyond tables k (omega arith)))
   ];
   places = first.size;
   counted = first.counted ∙ ap tables_at (take_all n tables all);
@@ -93,7 +93,7 @@ pub copies_met : (places tables : List Place) (n : ℕ) → tables_at (take n ta
 copies_met places tables n met first = record {
   bytes = λ k. elim (cases_lt k n) [
     | inl below ↦ first.copied k below
-    | inr beyond ↦ ap bytes_in (first.free k (omega arith)) ∙ sym (ap bytes_in (none_behind tables n k met (omega arith)))
+    | inr beyond ↦ ap table_bytes_in (first.free k (omega arith)) ∙ sym (ap table_bytes_in (none_behind tables n k met (omega arith)))
   ];
   places = first.size;
   counted = first.counted ∙ met;

@@ -9,8 +9,8 @@ use Rattle.vm_base.specs.Places.{distinct, directory_frames}
 use Rattle.table_levels.specs.Tables.{entry_at}
 use Rattle.table_levels.specs.Cells.{tables_of, middle_tables_of}
 use Rattle.table_levels.specs.Requests.{directory_wants}
-use Rattle.table_levels.specs.Walks.{Place, Levels, entry_in, table_at, tables_at, middle_of, slot_of, cells_of, IsDirectory}
-use Rattle.table_levels.specs.Copies.{Copies, bytes_in}
+use Rattle.table_levels.specs.Walks.{Place, Levels, entry_in, table_at, tables_at, middle_of, slot_of, directory_cells, IsDirectory}
+use Rattle.table_levels.specs.Copies.{Copies, table_bytes_in}
 use Rattle.table_levels.proofs.CellLemmas.{same_cells}
 use Rattle.table_levels.proofs.Counting.{tables_of-empty}
 use Rattle.table_levels.proofs.Links.{tables_at-cons, some_counts}
@@ -18,20 +18,20 @@ use Rattle.table_levels.proofs.Sharing.{top_there}
 use Rattle.table_levels.proofs.Unlinked.{counted_none}
 use Rattle.table_levels.proofs.Copied.{same_counted}
 
-entry_same : (p q : Place) (j : ℕ) → bytes_in p ≡ bytes_in q → entry_in p j ≡ entry_in q j
+entry_same : (p q : Place) (j : ℕ) → table_bytes_in p ≡ table_bytes_in q → entry_in p j ≡ entry_in q j
 entry_same None None j same = refl
 entry_same None (Some b) j same = absurd cc
 entry_same (Some a) None j same = absurd cc
 entry_same (Some a) (Some b) j same = let bytes : a.bytes ≡ b.bytes = cc in ap (λ l. entry_at l j) bytes
 
-there_same : (p q : Place) → bytes_in p ≡ bytes_in q → IsSome p → IsSome q
+there_same : (p q : Place) → table_bytes_in p ≡ table_bytes_in q → IsSome p → IsSome q
 there_same None q same there = absurd (false≢true there)
 there_same (Some a) None same there = absurd cc
 there_same (Some a) (Some b) same there = refl
 
 -- the levels have the same tables, in frames of their own
 pub record CopiesLevels (new old : Levels) : Type 0 where
-  pub top : bytes_in new.top ≡ bytes_in old.top
+  pub top : table_bytes_in new.top ≡ table_bytes_in old.top
   pub uppers : Copies new.uppers old.uppers
   pub middles : Copies new.middles old.middles
 
@@ -50,7 +50,7 @@ module _ (new old : Levels) (n : ℕ) (directory : IsDirectory old n) (copies : 
       ap (option_and_then (λ m. entry_in (table_at new.middles m) (c % 512))) (middle_same (c / 512))
       ∙ through new.middles old.middles (c % 512) (middle_of old (c / 512)) copies.middles
 
-  pub cells_copied : cells_of new ≡ cells_of old
+  pub cells_copied : directory_cells new ≡ directory_cells old
   cells_copied = same_cells (2 ^ 27) (slot_of new) (slot_of old) (λ c below. slot_same c)
 
   pub directory_copied : IsDirectory new n
@@ -89,10 +89,10 @@ module _ (new old : Levels) (n : ℕ) (directory : IsDirectory old n) (copies : 
 
 -- ---- as many tables on each level as its cells have parts
 pub level_wants : (levels : Levels) (n : ℕ) → IsDirectory levels n
-    → directory_wants (keys (cells_of levels)) ≡ replicate (tables_at (levels.top ∷ [])) Top ++ (replicate (tables_at levels.uppers) Upper ++ replicate (tables_at levels.middles) Middle)
-level_wants levels n directory = by_keys (keys (cells_of levels)) refl
+    → directory_wants (keys (directory_cells levels)) ≡ replicate (tables_at (levels.top ∷ [])) Top ++ (replicate (tables_at levels.uppers) Upper ++ replicate (tables_at levels.middles) Middle)
+level_wants levels n directory = by_keys (keys (directory_cells levels)) refl
   where
-    by_keys : (ks : List ℕ) → keys (cells_of levels) ≡ ks
+    by_keys : (ks : List ℕ) → keys (directory_cells levels) ≡ ks
         → directory_wants ks ≡ replicate (tables_at (levels.top ∷ [])) Top ++ (replicate (tables_at levels.uppers) Upper ++ replicate (tables_at levels.middles) Middle)
     by_keys [] at =
         let none : n ≡ 0 = directory.taken ∙ ap directory_frames at in
@@ -126,7 +126,7 @@ pub record IsBare (levels : Levels) : Type 0 where
   pub uppers : levels.uppers ≡ replicate 512 None
   pub middles : levels.middles ≡ replicate 512 None
 
-pub empty_bare : (levels : Levels) (n : ℕ) → IsDirectory levels n → cells_of levels ≡ empty → IsBare levels
+pub empty_bare : (levels : Levels) (n : ℕ) → IsDirectory levels n → directory_cells levels ≡ empty → IsBare levels
 empty_bare levels n directory none =
     let count : n ≡ 0 = directory.taken ∙ ap tables_of none ∙ tables_of-empty in
     let top : tables_at (levels.top ∷ []) ≡ 0 = omega (arith, count, directory.counted, tables_at-cons levels.top levels.uppers) in

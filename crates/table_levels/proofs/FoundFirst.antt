@@ -4,7 +4,7 @@ use Rattle.std.specs.Prelude.{IsSome}
 use Rattle.std.proofs.lemmas.Bool.{cases_lt, false≢true}
 use Rattle.table_levels.specs.First.{IsFirst}
 use Rattle.table_levels.specs.Cells.{first_from}
-use Rattle.table_levels.specs.Walks.{Levels, entry_in, table_at, middle_of, slot_of, cells_of, IsDirectory}
+use Rattle.table_levels.specs.Walks.{Levels, entry_in, table_at, middle_of, slot_of, directory_cells, IsDirectory}
 use Rattle.table_levels.proofs.CellLemmas.{get_beyond}
 use Rattle.table_levels.proofs.First.{first_from-none, first_from-some}
 use Rattle.table_levels.proofs.Walking.{slot_there, slot_absent, get-cells_of}
@@ -57,10 +57,10 @@ middle_filled levels n index place directory below at none =
     false≢true (subst IsSome slot under.3)
 
 -- the walk's first slot is that of the map
-pub first_of_cells : (levels : Levels) (from : ℕ) (found : Option (ℕ × ℕ)) → IsFirst (2 ^ 27) (slot_of levels) from found → found ≡ first_from (cells_of levels) from
-first_of_cells levels from None none = sym (first_from-none (cells_of levels) from (λ c above. elim (cases_lt c (2 ^ 27)) [
+pub first_of_cells : (levels : Levels) (from : ℕ) (found : Option (ℕ × ℕ)) → IsFirst (2 ^ 27) (slot_of levels) from found → found ≡ first_from (directory_cells levels) from
+first_of_cells levels from None none = sym (first_from-none (directory_cells levels) from (λ c above. elim (cases_lt c (2 ^ 27)) [
   | inl below ↦ get-cells_of levels c below ∙ none c above below
   | inr beyond ↦ get_beyond (2 ^ 27) (slot_of levels) c beyond
 ]))
-first_of_cells levels from (Some (c, slot)) first = sym (first_from-some (cells_of levels) from c slot first.0 (get-cells_of levels c first.1 ∙ first.2)
+first_of_cells levels from (Some (c, slot)) first = sym (first_from-some (directory_cells levels) from c slot first.0 (get-cells_of levels c first.1 ∙ first.2)
     (λ q above lt. get-cells_of levels q (omega (arith, first.1)) ∙ first.3 q above lt))

@@ -6,7 +6,7 @@ use Rattle.std.specs.FinMap.{get, insert, keys}
 use Rattle.std.proofs.lemmas.Bool.{cases_eq}
 use Rattle.table_levels.specs.Cells.{tables_of, middle_tables_of}
 use Rattle.table_levels.specs.Requests.{shares, missing_tables}
-use Rattle.table_levels.specs.Walks.{Levels, entry_in, table_at, tables_at, tables_in, middle_of, slot_of, cells_of, NamesUppers, AreNamed, IsDirectory}
+use Rattle.table_levels.specs.Walks.{Levels, entry_in, table_at, tables_at, tables_in, middle_of, slot_of, directory_cells, NamesUppers, AreNamed, IsDirectory}
 use Rattle.table_levels.proofs.CellLemmas.{one_more_cell}
 use Rattle.table_levels.proofs.Counting.{tables_of-insert, middle_tables_of-insert}
 use Rattle.table_levels.proofs.Sharing.{upper_of_middle}
@@ -50,11 +50,11 @@ module _ (old new : Levels) (cell slot place n : ℕ) (directory : IsDirectory o
         ∙ elsewhere (c / 512) (c % 512) (omega arith) other (middle_of old (c / 512)) refl
   ]
 
-  pub cells_inserted : cells_of new ≡ insert (cells_of old) cell slot
+  pub cells_inserted : directory_cells new ≡ insert (directory_cells old) cell slot
   cells_inserted = one_more_cell (2 ^ 27) (slot_of old) (slot_of new) cell slot below slot_inserted slot_kept
 
-  pub directory_inserted : get (cells_of old) cell ≡ None → (extra : ℕ) → tables_in new ≡ n + extra → extra ≡ length (missing_tables (keys (cells_of old)) cell)
-      → tables_at new.middles ≡ tables_at old.middles + cond (shares (2 ^ 9) (keys (cells_of old)) cell) 0 1 → IsDirectory new (n + extra)
+  pub directory_inserted : get (directory_cells old) cell ≡ None → (extra : ℕ) → tables_in new ≡ n + extra → extra ≡ length (missing_tables (keys (directory_cells old)) cell)
+      → tables_at new.middles ≡ tables_at old.middles + cond (shares (2 ^ 9) (keys (directory_cells old)) cell) 0 1 → IsDirectory new (n + extra)
   directory_inserted absent extra counted missing middles_counted =
       let index = cell / 512 in
       let index_below : index < 2 ^ 18 = omega arith in
@@ -104,8 +104,8 @@ module _ (old new : Levels) (cell slot place n : ℕ) (directory : IsDirectory o
               (under.0, under.1, under.2, subst IsSome (sym (slot_kept under.0 under.1 other)) under.3)
         ];
         counted = sym counted;
-        taken = ap (λ k. k + extra) directory.taken ∙ ap (λ k. tables_of (cells_of old) + k) missing
-            ∙ sym (ap tables_of cells_inserted ∙ tables_of-insert (cells_of old) cell slot absent);
-        middles_taken = middles_counted ∙ ap (λ k. k + cond (shares (2 ^ 9) (keys (cells_of old)) cell) 0 1) directory.middles_taken
-            ∙ sym (ap middle_tables_of cells_inserted ∙ middle_tables_of-insert (cells_of old) cell slot absent);
+        taken = ap (λ k. k + extra) directory.taken ∙ ap (λ k. tables_of (directory_cells old) + k) missing
+            ∙ sym (ap tables_of cells_inserted ∙ tables_of-insert (directory_cells old) cell slot absent);
+        middles_taken = middles_counted ∙ ap (λ k. k + cond (shares (2 ^ 9) (keys (directory_cells old)) cell) 0 1) directory.middles_taken
+            ∙ sym (ap middle_tables_of cells_inserted ∙ middle_tables_of-insert (directory_cells old) cell slot absent);
       }

@@ -10,7 +10,7 @@ use Rattle.table_levels.specs.declared.frames.Wanted.{Wanted}
 use Rattle.table_levels.specs.declared.frames.Fresh.{Fresh}
 use Rattle.table_levels.specs.Requests.{shares, missing_tables, wanted_if, wanted_tables}
 use Rattle.table_levels.specs.Tables.{entry_at}
-use Rattle.table_levels.specs.Walks.{Place, Levels, entry_in, table_at, tables_at, tables_in, levels_of, middle_of, slot_of, cells_of, IsDirectory, AreDirectory}
+use Rattle.table_levels.specs.Walks.{Place, Levels, entry_in, table_at, tables_at, tables_in, levels_of, middle_of, slot_of, directory_cells, IsDirectory, AreDirectory}
 use Rattle.table_levels.specs.Fresh.{IsFresh, HasFresh}
 use Rattle.table_levels.specs.Links.{AddsMiddle, PutsMiddle, LinksCell, wanted_at, wanted_for}
 use Rattle.table_levels.proofs.TableLemmas.{entry_at-zeros}
@@ -41,7 +41,7 @@ pub cell_linked : (top new_top : Place) (uppers new_uppers middles new_middles :
 cell_linked top new_top uppers new_uppers middles new_middles cell slot free fresh below directory absent is_fresh inside is_free added size_uppers counted_uppers put size_middles counted_middles =
     let old = levels_of top uppers middles in
     let new = levels_of new_top new_uppers new_middles in
-    let cells = cells_of old in
+    let cells = directory_cells old in
     let inserts : Inserts old new cell slot free = record {
       uppers = size_uppers;
       middles = size_middles ∙ directory.middles;
@@ -85,7 +85,7 @@ pub slot_linked : (top : Place) (uppers middles new_middles : List Place) (cell 
 slot_linked top uppers middles new_middles cell slot middle below directory at absent put size counted_middles =
     let old = levels_of top uppers middles in
     let new = levels_of top uppers new_middles in
-    let cells = cells_of old in
+    let cells = directory_cells old in
     let index_below : cell / 512 < 2 ^ 18 = omega arith in
     let inserts : Inserts old new cell slot middle = record {
       uppers = directory.uppers;
@@ -124,10 +124,10 @@ unwanted_upper levels cell fresh named is_fresh =
     ∙ ap (λ b. length (wanted_if (not b) Upper)) named
 
 -- what is wanted is what the definition misses
-pub wanted_for_used : (levels : Levels) → IsUsed levels → (cell : ℕ) → cell < 2 ^ 27 → wanted_tables (wanted_for levels cell) ≡ missing_tables (keys (cells_of levels)) cell
+pub wanted_for_used : (levels : Levels) → IsUsed levels → (cell : ℕ) → cell < 2 ^ 27 → wanted_tables (wanted_for levels cell) ≡ missing_tables (keys (directory_cells levels)) cell
 wanted_for_used levels directory cell below = by_middle (middle_of levels (cell / 512)) refl
   where
-    by_middle : (found : Option ℕ) → middle_of levels (cell / 512) ≡ found → wanted_tables (wanted_for levels cell) ≡ missing_tables (keys (cells_of levels)) cell
+    by_middle : (found : Option ℕ) → middle_of levels (cell / 512) ≡ found → wanted_tables (wanted_for levels cell) ≡ missing_tables (keys (directory_cells levels)) cell
     by_middle None at =
         ap (λ b. wanted_tables (record { top = not (is_some levels.top); upper = not (is_some (entry_in levels.top (cell / 512 / 512))); middle = not b })) (ap is_some at)
         ∙ wanted_are_missing levels directory cell below at
@@ -140,7 +140,7 @@ wanted_for_used levels directory cell below = by_middle (middle_of levels (cell 
         ∙ ap (λ b. wanted_tables (record { top = false; upper = false; middle = not b })) there
         ∙ sym (nothing_missing levels directory cell below there)
 
-pub wanted_for_missing : (levels : Levels) (n : ℕ) → IsDirectory levels n → (cell : ℕ) → cell < 2 ^ 27 → wanted_tables (wanted_for levels cell) ≡ missing_tables (keys (cells_of levels)) cell
+pub wanted_for_missing : (levels : Levels) (n : ℕ) → IsDirectory levels n → (cell : ℕ) → cell < 2 ^ 27 → wanted_tables (wanted_for levels cell) ≡ missing_tables (keys (directory_cells levels)) cell
 wanted_for_missing levels n directory cell below = wanted_for_used levels (used levels n directory) cell below
 
 -- there are no more tables than places, and no more than three are wanted

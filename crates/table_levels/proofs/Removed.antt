@@ -7,7 +7,7 @@ use Rattle.std.proofs.lemmas.Bool.{cases_eq, ne_eqb, false≢true}
 use Rattle.vm_base.proofs.NumberedMaps.{get_inserted_here, get_inserted_apart, same_numbered}
 use Rattle.table_levels.specs.Cells.{CellMap, tables_of, middle_tables_of}
 use Rattle.table_levels.specs.Requests.{shares, missing_tables, wanted_tables}
-use Rattle.table_levels.specs.Walks.{Levels, entry_in, table_at, tables_at, tables_in, middle_of, slot_of, cells_of, NamesUppers, AreNamed, IsDirectory}
+use Rattle.table_levels.specs.Walks.{Levels, entry_in, table_at, tables_at, tables_in, middle_of, slot_of, directory_cells, NamesUppers, AreNamed, IsDirectory}
 use Rattle.table_levels.specs.Links.{IsInUse, wanted_for}
 use Rattle.table_levels.proofs.CellLemmas.{one_cell_less, get_removed}
 use Rattle.table_levels.proofs.Counting.{unless_one, tables_of-insert, middle_tables_of-insert}
@@ -90,7 +90,7 @@ module _ (old new : Levels) (cell place n : ℕ) (directory : IsDirectory old n)
         ∙ slot_elsewhere c (c / 512) refl (omega arith) other (middle_of old (c / 512)) refl
   ]
 
-  pub cells_removed : cells_of new ≡ remove (cells_of old) cell
+  pub cells_removed : directory_cells new ≡ remove (directory_cells old) cell
   cells_removed = one_cell_less (2 ^ 27) (slot_of old) (slot_of new) cell slot_gone slot_kept
 
   -- each table is used
@@ -126,19 +126,19 @@ module _ (old new : Levels) (cell place n : ℕ) (directory : IsDirectory old n)
   }
 
   -- so many tables are gone as the cell would miss
-  pub tables_missing : length (wanted_tables (wanted_for new cell)) ≡ length (missing_tables (keys (cells_of new)) cell)
+  pub tables_missing : length (wanted_tables (wanted_for new cell)) ≡ length (missing_tables (keys (directory_cells new)) cell)
   tables_missing = ap length (wanted_for_used new removed_used cell below)
 
   pub directory_removed : (slot : ℕ) → slot_of old cell ≡ Some slot → (left : ℕ) → tables_in new ≡ left → left + length (wanted_tables (wanted_for new cell)) ≡ n
       → tables_at new.middles + unless_one (is_some (middle_of new (cell / 512))) ≡ tables_at old.middles → IsDirectory new left
   directory_removed slot there left counted sum middles_counted =
-      let cells = cells_of new in
-      let back : insert cells cell slot ≡ cells_of old =
-      ap (λ m. insert m cell slot) cells_removed ∙ insert-remove (cells_of old) cell slot (get-cells_of old cell below ∙ there) in
+      let cells = directory_cells new in
+      let back : insert cells cell slot ≡ directory_cells old =
+      ap (λ m. insert m cell slot) cells_removed ∙ insert-remove (directory_cells old) cell slot (get-cells_of old cell below ∙ there) in
       let absent : get cells cell ≡ None = get-cells_of new cell below ∙ slot_gone in
-      let whole : tables_of (cells_of old) ≡ tables_of cells + length (missing_tables (keys cells) cell) =
+      let whole : tables_of (directory_cells old) ≡ tables_of cells + length (missing_tables (keys cells) cell) =
       ap tables_of (sym back) ∙ tables_of-insert cells cell slot absent in
-      let whole_middles : middle_tables_of (cells_of old) ≡ middle_tables_of cells + unless_one (shares (2 ^ 9) (keys cells) cell) =
+      let whole_middles : middle_tables_of (directory_cells old) ≡ middle_tables_of cells + unless_one (shares (2 ^ 9) (keys cells) cell) =
       ap middle_tables_of (sym back) ∙ middle_tables_of-insert cells cell slot absent in
       let shared : unless_one (shares (2 ^ 9) (keys cells) cell) ≡ unless_one (is_some (middle_of new (cell / 512))) =
       ap unless_one (middle_shared new removed_used cell below) in

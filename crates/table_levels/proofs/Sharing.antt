@@ -11,7 +11,7 @@ use Rattle.vm_base.specs.declared.frame_request.Want.{Want}
 use Rattle.vm_base.specs.declared.frame_request.Want.TheVariants.{Top, Upper, Middle}
 use Rattle.table_levels.specs.Cells.{CellMap}
 use Rattle.table_levels.specs.Requests.{shares, unless, missing_tables, wanted_if, wanted_tables}
-use Rattle.table_levels.specs.Walks.{Place, Levels, entry_in, table_at, middle_of, slot_of, cells_of, NamesUppers, IsDirectory}
+use Rattle.table_levels.specs.Walks.{Place, Levels, entry_in, table_at, middle_of, slot_of, directory_cells, NamesUppers, IsDirectory}
 use Rattle.table_levels.proofs.CellLemmas.{get_below, get_beyond}
 use Rattle.table_levels.proofs.Counting.{shares_from, shares_to, missing_beside}
 
@@ -26,13 +26,13 @@ and_then_some f None there = absurd (false≢true there)
 and_then_some f (Some x) there = refl
 
 -- ---- keys and cells
-pub cell_of_key : (levels : Levels) (c : ℕ) → IsSome (get (cells_of levels) c) → (c < 2 ^ 27) × IsSome (slot_of levels c)
+pub cell_of_key : (levels : Levels) (c : ℕ) → IsSome (get (directory_cells levels) c) → (c < 2 ^ 27) × IsSome (slot_of levels c)
 cell_of_key levels c there = elim (cases_lt c (2 ^ 27)) [
   | inl lt ↦ (lt, subst IsSome (get_below (2 ^ 27) (slot_of levels) c lt) there)
   | inr le ↦ absurd (false≢true (subst IsSome (get_beyond (2 ^ 27) (slot_of levels) c le) there))
 ]
 
-pub key_of_cell : (levels : Levels) (c : ℕ) → c < 2 ^ 27 → IsSome (slot_of levels c) → IsSome (get (cells_of levels) c)
+pub key_of_cell : (levels : Levels) (c : ℕ) → c < 2 ^ 27 → IsSome (slot_of levels c) → IsSome (get (directory_cells levels) c)
 key_of_cell levels c lt there = subst IsSome (sym (get_below (2 ^ 27) (slot_of levels) c lt)) there
 
 pub middle_of_slot : (levels : Levels) (c : ℕ) → IsSome (slot_of levels c) → IsSome (middle_of levels (c / 512))
@@ -66,28 +66,28 @@ slot_under levels directory i inside (Some u) entry there =
     (cell.0, cell.1, ap (λ index. index / 512) cell.2 ∙ under.2, cell.3)
 
 pub upper_shared : (levels : Levels) → IsUsed levels → (cell : ℕ) → cell < 2 ^ 27
-    → shares (2 ^ 18) (keys (cells_of levels)) cell ≡ is_some (entry_in levels.top (cell / 512 / 512))
+    → shares (2 ^ 18) (keys (directory_cells levels)) cell ≡ is_some (entry_in levels.top (cell / 512 / 512))
 upper_shared levels directory cell below = bool_same _ _
     (λ shared.
-    let other = shares_to (cells_of levels) (2 ^ 18) cell shared in
+    let other = shares_to (directory_cells levels) (2 ^ 18) cell shared in
     let known = cell_of_key levels other.0 other.1 in
     let same : other.0 / 512 / 512 ≡ cell / 512 / 512 = omega (arith, other.2) in
     subst (λ i. IsSome (entry_in levels.top i)) same (upper_of_middle levels (other.0 / 512) (middle_of_slot levels other.0 known.1)))
     (λ there.
     let other = slot_under levels directory (cell / 512 / 512) (omega arith) (entry_in levels.top (cell / 512 / 512)) refl there in
     let same : other.0 / 2 ^ 18 ≡ cell / 2 ^ 18 = omega (arith, other.2) in
-    shares_from (cells_of levels) (2 ^ 18) cell other.0 (key_of_cell levels other.0 other.1 other.3) same)
+    shares_from (directory_cells levels) (2 ^ 18) cell other.0 (key_of_cell levels other.0 other.1 other.3) same)
 
 pub middle_shared : (levels : Levels) → IsUsed levels → (cell : ℕ) → cell < 2 ^ 27
-    → shares (2 ^ 9) (keys (cells_of levels)) cell ≡ is_some (middle_of levels (cell / 512))
+    → shares (2 ^ 9) (keys (directory_cells levels)) cell ≡ is_some (middle_of levels (cell / 512))
 middle_shared levels directory cell below = bool_same _ _
     (λ shared.
-    let other = shares_to (cells_of levels) (2 ^ 9) cell shared in
+    let other = shares_to (directory_cells levels) (2 ^ 9) cell shared in
     let known = cell_of_key levels other.0 other.1 in
     subst (λ index. IsSome (middle_of levels index)) other.2 (middle_of_slot levels other.0 known.1))
     (λ there.
     let other = directory.middle_used (cell / 512) (omega arith) there in
-    shares_from (cells_of levels) (2 ^ 9) cell other.0 (key_of_cell levels other.0 other.1 other.3) other.2)
+    shares_from (directory_cells levels) (2 ^ 9) cell other.0 (key_of_cell levels other.0 other.1 other.3) other.2)
 
 -- ---- what is missing
 no_key : (m : CellMap) (c : ℕ) → keys m ≡ [] → IsSome (get m c) → ⊥
@@ -107,26 +107,26 @@ no_entry : (p : Place) (i : ℕ) → is_some p ≡ false → is_some (entry_in p
 no_entry None i none = refl
 no_entry (Some table) i none = absurd (true≢false none)
 
-pub top_there : (levels : Levels) (c : ℕ) (cs : List ℕ) → keys (cells_of levels) ≡ c ∷ cs → is_some levels.top ≡ true
+pub top_there : (levels : Levels) (c : ℕ) (cs : List ℕ) → keys (directory_cells levels) ≡ c ∷ cs → is_some levels.top ≡ true
 top_there levels c cs some =
-    let known = cell_of_key levels c (first_key (cells_of levels) c cs some) in
+    let known = cell_of_key levels c (first_key (directory_cells levels) c cs some) in
     table_of_entry levels.top (c / 512 / 512) (upper_of_middle levels (c / 512) (middle_of_slot levels c known.1))
 
-pub top_absent : (levels : Levels) → IsUsed levels → keys (cells_of levels) ≡ [] → is_some levels.top ≡ false
+pub top_absent : (levels : Levels) → IsUsed levels → keys (directory_cells levels) ≡ [] → is_some levels.top ≡ false
 top_absent levels directory none = elim (cases_Bool (is_some levels.top)) [
   | inl there ↦
       let used = directory.top_used there in
       let other = slot_under levels directory used.0 used.1 (entry_in levels.top used.0) refl used.2 in
-      absurd (no_key (cells_of levels) other.0 none (key_of_cell levels other.0 other.1 other.3))
+      absurd (no_key (directory_cells levels) other.0 none (key_of_cell levels other.0 other.1 other.3))
   | inr absent ↦ absent
 ]
 
 -- the tables that are asked for are those that the definition misses
 pub wanted_are_missing : (levels : Levels) → IsUsed levels → (cell : ℕ) → cell < 2 ^ 27 → middle_of levels (cell / 512) ≡ None
-    → wanted_tables (record { top = not (is_some levels.top); upper = not (is_some (entry_in levels.top (cell / 512 / 512))); middle = true }) ≡ missing_tables (keys (cells_of levels)) cell
-wanted_are_missing levels directory cell below absent = by_keys (keys (cells_of levels)) refl
+    → wanted_tables (record { top = not (is_some levels.top); upper = not (is_some (entry_in levels.top (cell / 512 / 512))); middle = true }) ≡ missing_tables (keys (directory_cells levels)) cell
+wanted_are_missing levels directory cell below absent = by_keys (keys (directory_cells levels)) refl
   where
-    by_keys : (ks : List ℕ) → keys (cells_of levels) ≡ ks
+    by_keys : (ks : List ℕ) → keys (directory_cells levels) ≡ ks
         → wanted_tables (record { top = not (is_some levels.top); upper = not (is_some (entry_in levels.top (cell / 512 / 512))); middle = true }) ≡ missing_tables ks cell
     by_keys [] at =
         let none = top_absent levels directory at in
@@ -139,13 +139,13 @@ wanted_are_missing levels directory cell below absent = by_keys (keys (cells_of 
         ∙ ap (λ l. l ++ Middle ∷ []) (wanted_unless (is_some (entry_in levels.top (cell / 512 / 512))) Upper ∙ ap (λ b. unless b Upper) (sym upper))
         ∙ ap (λ b. unless (shares (2 ^ 18) (k ∷ ks) cell) Upper ++ unless b Middle) (sym middle) ∙ sym (missing_beside k ks cell)
 
-pub nothing_missing : (levels : Levels) → IsUsed levels → (cell : ℕ) → cell < 2 ^ 27 → IsSome (middle_of levels (cell / 512)) → missing_tables (keys (cells_of levels)) cell ≡ []
-nothing_missing levels directory cell below there = by_keys (keys (cells_of levels)) refl
+pub nothing_missing : (levels : Levels) → IsUsed levels → (cell : ℕ) → cell < 2 ^ 27 → IsSome (middle_of levels (cell / 512)) → missing_tables (keys (directory_cells levels)) cell ≡ []
+nothing_missing levels directory cell below there = by_keys (keys (directory_cells levels)) refl
   where
-    by_keys : (ks : List ℕ) → keys (cells_of levels) ≡ ks → missing_tables ks cell ≡ []
+    by_keys : (ks : List ℕ) → keys (directory_cells levels) ≡ ks → missing_tables ks cell ≡ []
     by_keys [] at =
         let other = directory.middle_used (cell / 512) (omega arith) there in
-        absurd (no_key (cells_of levels) other.0 at (key_of_cell levels other.0 other.1 other.3))
+        absurd (no_key (directory_cells levels) other.0 at (key_of_cell levels other.0 other.1 other.3))
     by_keys (k ∷ ks) at =
         let upper : shares (2 ^ 18) (k ∷ ks) cell ≡ true = ap (λ l. shares (2 ^ 18) l cell) (sym at) ∙ upper_shared levels directory cell below ∙ upper_of_middle levels (cell / 512) there in
         let middle : shares (2 ^ 9) (k ∷ ks) cell ≡ true = ap (λ l. shares (2 ^ 9) l cell) (sym at) ∙ middle_shared levels directory cell below ∙ there in

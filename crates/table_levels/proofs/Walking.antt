@@ -7,7 +7,7 @@ use Rattle.std.proofs.lemmas.List.{length-replicate}
 use Rattle.std.proofs.lemmas.Bool.{false≢true}
 use Rattle.table_levels.specs.Cells.{tables_of, middle_tables_of}
 use Rattle.table_levels.proofs.Counting.{tables_of-empty, middle_tables_of-empty}
-use Rattle.table_levels.specs.Walks.{Place, Levels, table_at, entry_in, middle_at, middle_of, slot_of, cells_of, tables_at, AreNamed, IsDirectory}
+use Rattle.table_levels.specs.Walks.{Place, Levels, table_at, entry_in, middle_at, middle_of, slot_of, directory_cells, tables_at, AreNamed, IsDirectory}
 use Rattle.table_levels.proofs.CellLemmas.{get_below, no_cells}
 
 -- the table at a place of the list
@@ -23,7 +23,7 @@ table_at-free (suc n) zero = refl
 table_at-free (suc n) (suc i) = table_at-free n i
 
 -- a look-up of the map is the walk
-pub get-cells_of : (levels : Levels) (cell : ℕ) → cell < 2 ^ 27 → get (cells_of levels) cell ≡ slot_of levels cell
+pub get-cells_of : (levels : Levels) (cell : ℕ) → cell < 2 ^ 27 → get (directory_cells levels) cell ≡ slot_of levels cell
 get-cells_of levels cell below = get_below (2 ^ 27) (slot_of levels) cell below
 
 -- the slot under a middle table
@@ -53,7 +53,7 @@ slot_under_middle levels index middle j below there =
 abbrev bare : List Place → List Place → Levels
 bare uppers middles = record { top = None; uppers = uppers; middles = middles }
 
-pub no_levels : (uppers middles : List Place) → cells_of (bare uppers middles) ≡ empty
+pub no_levels : (uppers middles : List Place) → directory_cells (bare uppers middles) ≡ empty
 no_levels uppers middles = no_cells (2 ^ 27) (slot_of (bare uppers middles)) (λ c below. refl)
 
 abbrev free : Place

@@ -4,7 +4,7 @@ use Rattle.std.specs.FinMap.{insert, remove, keys}
 use Rattle.table_levels.specs.declared.frames.Wanted.{Wanted}
 use Rattle.table_levels.specs.Requests.{missing_tables}
 use Rattle.std.specs.Option.{option_or}
-use Rattle.table_levels.specs.Walks.{Place, Levels, entry_in, table_at, tables_at, middle_at, middle_of, cells_of, tables_in, NamesUppers, AreNamed, AreDirectory}
+use Rattle.table_levels.specs.Walks.{Place, Levels, entry_in, table_at, tables_at, middle_at, middle_of, directory_cells, tables_in, NamesUppers, AreNamed, AreDirectory}
 
 -- one entry of a table was set, and the others stay
 pub record SetsIn (old new : Place) (i : ℕ) (number : Option ℕ) : Type 0 where
@@ -49,9 +49,9 @@ wanted_for levels cell = record {
 
 -- a cell more, with the tables that were missing
 pub record LinksCell (old new : Levels) (cell slot : ℕ) : Type 0 where
-  pub cells : cells_of new ≡ insert (cells_of old) cell slot
+  pub cells : directory_cells new ≡ insert (directory_cells old) cell slot
   pub directory : AreDirectory new
-  pub counted : tables_in new ≡ tables_in old + length (missing_tables (keys (cells_of old)) cell)
+  pub counted : tables_in new ≡ tables_in old + length (missing_tables (keys (directory_cells old)) cell)
 
 -- an entry of the table is left, if the table is there
 abbrev pub IsInUse : Place → Type 0
@@ -73,6 +73,6 @@ pub record DropsMiddle (top : Place) (uppers : List Place) (new_top : Place) (ne
 
 -- a cell less, without the tables that it alone needed
 pub record UnlinksCell (old new : Levels) (cell unused : ℕ) : Type 0 where
-  pub cells : cells_of new ≡ remove (cells_of old) cell
+  pub cells : directory_cells new ≡ remove (directory_cells old) cell
   pub directory : AreDirectory new
   pub counted : tables_in new + unused ≡ tables_in old

@@ -49,8 +49,8 @@ abbrev pub slot_of : Levels → ℕ → Option ℕ
 slot_of levels cell = option_and_then (λ middle. entry_in (table_at levels.middles middle) (cell % 512)) (middle_of levels (cell / 512))
 
 -- the cells of a directory, with their slots
-abbrev pub cells_of : Levels → CellMap
-cells_of levels = cells_below (2 ^ 27) (slot_of levels)
+abbrev pub directory_cells : Levels → CellMap
+directory_cells levels = cells_below (2 ^ 27) (slot_of levels)
 
 -- how many of some places have a table
 abbrev pub tables_at : List Place → ℕ
@@ -80,8 +80,8 @@ pub record IsDirectory (levels : Levels) (tables : ℕ) : Type 0 where
   pub middle_used : (index : ℕ) → index < 2 ^ 18 → IsSome (middle_of levels index) → (cell : ℕ) × (cell < 2 ^ 27) × (cell / 512 ≡ index) × IsSome (slot_of levels cell)
   -- the count is that of the tables, and what the cells take
   pub counted : tables ≡ tables_in levels
-  pub taken : tables ≡ tables_of (cells_of levels)
-  pub middles_taken : tables_at levels.middles ≡ middle_tables_of (cells_of levels)
+  pub taken : tables ≡ tables_of (directory_cells levels)
+  pub middles_taken : tables_at levels.middles ≡ middle_tables_of (directory_cells levels)
 
 -- the same, with so many upper tables among them
 pub record IsCounted (levels : Levels) (tables upper_tables : ℕ) : Type 0 where

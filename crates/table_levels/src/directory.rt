@@ -4,7 +4,7 @@ ghost use Rattle.table_levels.specs.Walks.{entry_in, middle_at, NamesUppers};
 ghost use Rattle.std.specs.FinMap as map;
 ghost use Rattle.vm_base.specs.Deals.{LeadsAlong, Counts};
 ghost use Rattle.table_levels.specs.Cells.{first_from, tables_of, middle_tables_of};
-ghost use Rattle.table_levels.specs.Requests.{missing_tables, directory_wants, returned, Asks, Adds};
+ghost use Rattle.table_levels.specs.Requests.{missing_tables, directory_wants, returned, Asks, AddsFrames};
 
 use crate::copying::{LowerTables, copy_lower, copy_of};
 use crate::frames::{Wanted, count_of, give_all, give_back, give_unused, take_fresh};
@@ -37,13 +37,13 @@ impl Model for Directory {
     ghost use Rattle.std.specs.Ordering.{nat_cmp};
     ghost use Rattle.std.specs.Coded.{coded_ℕ};
     ghost use Rattle.std.specs.FinMap.{FinMap, code};
-    ghost use Rattle.table_levels.specs.Walks.{cells_of, IsCounted};
+    ghost use Rattle.table_levels.specs.Walks.{directory_cells, IsCounted};
 
     ghost Value = { FinMap nat_cmp ℕ };
 
     ghost coded = { code coded_ℕ coded_ℕ };
 
-    ghost view = { λ d. cells_of (record { top = d.top; uppers = d.uppers.items; middles = d.middles.items }) };
+    ghost view = { λ d. directory_cells (record { top = d.top; uppers = d.uppers.items; middles = d.middles.items }) };
 
     ghost invariant = { λ d. IsCounted (record { top = d.top; uppers = d.uppers.items; middles = d.middles.items }) d.tables d.upper_tables };
 }
@@ -164,7 +164,7 @@ impl Directory {
         // What the allot was asked for, and what it has afterwards.
         ensures requests { Asks A.goes (A.state allot.old) (directory_wants (map.keys other.now)) result (A.state allot.new) }
         ensures counts { Counts A.refused (A.state allot.old) result (A.state allot.new) }
-        ensures out { Adds A.out (A.state allot.old) (tables_of other.now) result (A.state allot.new) }
+        ensures out { AddsFrames A.out (A.state allot.old) (tables_of other.now) result (A.state allot.new) }
         ensures untold { A.grants allot.new ≡ A.grants allot.old }
     {
         let top = copy_of(&other.top, Want::Top, allot)?;

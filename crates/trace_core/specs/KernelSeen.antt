@@ -26,7 +26,7 @@ use Rattle.trace_core.specs.declared.parts.SnapshotAreas.{SnapshotAreas}
 use Rattle.trace_core.specs.TouchAnswers.{touch_outcome}
 use Rattle.trace_core.specs.KernelState.{Machine, KernelState}
 use Rattle.trace_core.specs.KernelStanding.{KernelParts, KernelStands, KeptAreas, areas_in, copies_refused_in}
-use Rattle.trace_core.specs.SupplyState.{state_of}
+use Rattle.trace_core.specs.SupplyState.{supply_state_of}
 use Rattle.trace_core.specs.declared.parts.Parts.{Parts}
 use Rattle.trace_core.specs.declared.notes.Notes.{Notes}
 
@@ -37,7 +37,7 @@ abbrev pub parts_with : {Policy : Type 0} {IsPolicy : Policy → Type 0} → Par
 parts_with parts policies = record {
   areas = parts.areas;
   tables = parts.tables;
-  supply = state_of (record {
+  supply = supply_state_of (record {
     made = parts.supply.pool.stack.made;
     free = parts.supply.pool.stack.free;
     asks = parts.supply.pool.asks;

@@ -96,6 +96,6 @@ pub record EventRan (from new : KernelParts) (machine : Machine) (end : List Ans
   pub stands : KernelStands new machine after
 
 -- what a read answers: the bytes that are in the buffer then, or the lowest page outside the areas
-abbrev pub read_answer : Result (Unit {0}) NoArea → List ℕ → Result (List ℕ) Refusal
-read_answer (Ok done) bytes = Ok bytes
-read_answer (Err refused) bytes = Err (OutsideAreas refused.page)
+abbrev pub buffer_answer : Result (Unit {0}) NoArea → List ℕ → Result (List ℕ) Refusal
+buffer_answer (Ok done) bytes = Ok bytes
+buffer_answer (Err refused) bytes = Err (OutsideAreas refused.page)

@@ -31,8 +31,8 @@ policy_sum policies = record {
 }
 
 -- the state of a supply that has this pool
-abbrev pub state_of : PoolView → Asker → ℕ → Option ℕ → SupplyState
-state_of pool asker refused pending = record {
+abbrev pub supply_state_of : PoolView → Asker → ℕ → Option ℕ → SupplyState
+supply_state_of pool asker refused pending = record {
   made = pool.made;
   out = pool.made - length pool.free;
   asker = asker;

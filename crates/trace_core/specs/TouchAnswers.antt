@@ -7,7 +7,7 @@ use Rattle.vm_base.specs.FlatMemory.{FlatMemory}
 use Rattle.vm_base.specs.FlatStep.{with_bytes}
 use Rattle.vm_base.specs.MemoryCalls.{IsInRange}
 use Rattle.kernel_meaning.specs.FrameLaw.{Leaves}
-use Rattle.page_tables.specs.Accesses.{IsReady}
+use Rattle.page_tables.specs.Accesses.{IsPageReady}
 use Rattle.trace_events.specs.declared.outcome.Outcome.{Outcome}
 use Rattle.trace_events.specs.declared.outcome.Outcome.TheVariants.{Done, NoArea, NoWrite, Overlap, AreasFull, CellsFull, NoFrame}
 use Rattle.trace_core.specs.KernelState.{Machine, KernelState}
@@ -29,7 +29,7 @@ touch_outcome (Err refused) = fault_outcome refused
 
 -- each page of a range of bytes may be stored to
 abbrev pub AreReady : Leaves → ℕ → ℕ → Type 0
-AreReady leaves address n = (page : ℕ) → IsInRange page address n → IsReady leaves page
+AreReady leaves address n = (page : ℕ) → IsInRange page address n → IsPageReady leaves page
 
 -- the parts stand for the state of a run in which each page of a range of bytes may be stored to
 abbrev pub IsReadyKernel : KernelParts → ℕ → ℕ → Type 0
@@ -41,7 +41,7 @@ pub record LeavesReady (new : KernelParts) (machine : Machine) (before : Leaves)
   pub after : KernelState
   pub stands : KernelStands new machine after
   pub ready : OnOk result (AreReady after.leaves address n)
-  pub still : (page : ℕ) → IsReady before page → IsReady after.leaves page
+  pub still : (page : ℕ) → IsPageReady before page → IsPageReady after.leaves page
 
 -- a page that lacks a frame is one of the range, and was absent
 abbrev pub LacksPage : FlatMemory → ℕ → ℕ → Fault → Type 0

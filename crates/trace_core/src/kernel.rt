@@ -8,7 +8,7 @@ ghost use Rattle.trace_events.specs.EventBounds.{IsWithinBounds, IsAboveLast};
 ghost use Rattle.kernel_meaning.specs.FrameLaw.{held_frames};
 ghost use Rattle.kernel_meaning.specs.RefusedRequests.{PolicySum};
 ghost use Rattle.frame_pool.specs.Policies.{standing};
-ghost use Rattle.trace_core.specs.SupplyState.{state_of, opening_supply, policy_sum};
+ghost use Rattle.trace_core.specs.SupplyState.{supply_state_of, opening_supply, policy_sum};
 ghost use Rattle.trace_core.specs.KernelState.{Machine, KernelState, opening_state};
 ghost use Rattle.trace_core.specs.KernelRun.{Ran, HasRun, last_behind};
 ghost use Rattle.trace_core.specs.KernelStanding.{KernelStands};
@@ -48,7 +48,7 @@ impl Standing for Kernel {
     ghost parts = { λ kernel. record {
       areas = kernel.parts.areas;
       tables = kernel.parts.tables;
-      supply = state_of (record {
+      supply = supply_state_of (record {
         made = kernel.parts.supply.pool.stack.made;
         free = kernel.parts.supply.pool.stack.free;
         asks = kernel.parts.supply.pool.asks;

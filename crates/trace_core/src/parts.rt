@@ -2,7 +2,7 @@
 ghost use Rattle.std.specs.Prelude.{◌≡◌, ◌≤◌, ◌<◌, IfOk, length, map, [], None, vec_capacity};
 ghost use Rattle.frame_pool.specs.Policies.{standing};
 ghost use Rattle.page_tables.specs.Permissions.{LetsNoneWrite};
-ghost use Rattle.trace_core.specs.SupplyState.{state_of, opening_supply, policy_sum};
+ghost use Rattle.trace_core.specs.SupplyState.{supply_state_of, opening_supply, policy_sum};
 ghost use Rattle.trace_core.specs.KernelState.{opening_state};
 ghost use Rattle.trace_core.specs.KernelRun.{HasRun};
 ghost use Rattle.trace_core.specs.KernelStanding.{KernelParts, KernelStands, copies_refused_in};
@@ -52,7 +52,7 @@ impl Standing for Parts {
     ghost parts = { λ kernel. record {
       areas = kernel.areas;
       tables = kernel.tables;
-      supply = state_of (record {
+      supply = supply_state_of (record {
         made = kernel.supply.pool.stack.made;
         free = kernel.supply.pool.stack.free;
         asks = kernel.supply.pool.asks;

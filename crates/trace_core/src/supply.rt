@@ -2,7 +2,7 @@
 ghost use Rattle.std.specs.Prelude.{◌≡◌, ◌+◌, ◌-◌, ◌^◌, ◌≤◌, map, Some, IfOk};
 ghost use Rattle.vm_base.specs.Counts.{next_count};
 ghost use Rattle.frame_pool.specs.Policies.{standing};
-ghost use Rattle.trace_core.specs.SupplyState.{SupplyState, state_of, opening_supply, is_next, pending_behind, SupplyGoes};
+ghost use Rattle.trace_core.specs.SupplyState.{SupplyState, supply_state_of, opening_supply, is_next, pending_behind, SupplyGoes};
 
 use frame_pool::{FramePolicy, Pool};
 use std::alloc::Global;
@@ -93,7 +93,7 @@ impl Supply {
 impl Allot for Supply {
     ghost State = { SupplyState };
 
-    ghost state = { λ supply. state_of (record {
+    ghost state = { λ supply. supply_state_of (record {
       made = supply.pool.stack.made;
       free = supply.pool.stack.free;
       asks = supply.pool.asks;

@@ -4,7 +4,7 @@ ghost use Rattle.vm_base.specs.Places.{page_of, page_count};
 ghost use Rattle.vm_base.specs.FlatStep.{is_writable, outside, unwritable, read_of, touch_of};
 ghost use Rattle.trace_core.specs.KernelState.{Machine, KernelState};
 ghost use Rattle.trace_core.specs.EventMeaning.{mapped, touch_judged, written};
-ghost use Rattle.trace_core.specs.KernelStanding.{IsKernel, KernelStands, EventRan, read_answer};
+ghost use Rattle.trace_core.specs.KernelStanding.{IsKernel, KernelStands, EventRan, buffer_answer};
 ghost use Rattle.trace_core.specs.CallAnswers.{area_outcome};
 ghost use Rattle.page_tables.specs.Permissions.{KeepsWriting};
 ghost use Rattle.trace_core.specs.Writing.{WritesAfterTouch, WritesAfterWrite};
@@ -38,7 +38,7 @@ impl Parts {
         requires range { addr + length buf.old ≤ 2 ^ 48 }
         requires stands { ∥ IsKernel (⟦<Parts as Standing>⟧.parts self.now) ∥₁ }
         ensures read { (machine : Machine) (state : KernelState) → KernelStands (⟦<Parts as Standing>⟧.parts self.now) machine state
-            → read_of state.world.parent addr (length buf.old) ≡ read_answer result buf.new }
+            → read_of state.world.parent addr (length buf.old) ≡ buffer_answer result buf.new }
         ensures kept { IfErr result (λ refused. buf.new ≡ buf.old) }
     {
         let first = addr / PAGE_BYTES;

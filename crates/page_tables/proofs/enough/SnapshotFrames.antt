@@ -18,7 +18,7 @@ use Rattle.kernel_meaning.specs.FrameLaw.{Leaves, cell_at, cells_where, snapshot
 use Rattle.page_tables.specs.declared.tables.SnapshotTables.{SnapshotTables}
 use Rattle.page_tables.specs.declared.tables.PageTables.{PageTables}
 use Rattle.page_tables.specs.Sides.{Sides}
-use Rattle.page_tables.specs.Standing.{number_of, slot_in, numbers_at, StandFor, TablesStandFor}
+use Rattle.page_tables.specs.Standing.{living_number, slot_in, numbers_at, StandFor, TablesStandFor}
 use Rattle.page_tables.proofs.HeldFrames.{all-found, snapshot-cells, snapshot-law}
 use Rattle.page_tables.proofs.StandingFacts.{no-numbers}
 use Rattle.vm_base.proofs.OwnFrames.{member, AreMembers, member-distinct, directory_frames-le, IsDistinct-sorted}
@@ -225,6 +225,6 @@ module _ (tables : PageTables) (sides : Sides) (st : TablesStandFor tables sides
       by : (o : Option SnapshotTables) → tables.snapshot ≡ o → kept_frames sides.leaves ≤ own_of memory
       by None none = omega (arith, none-kept none)
       by (Some snapshot) lives =
-          let held : (snapshot.number == n) ≡ true = ap (λ o. holds_number (number_of o) n) (sym lives) ∙ sym (st.snapshot_of.live n) ∙ ap is_some number in
+          let held : (snapshot.number == n) ≡ true = ap (λ o. holds_number (living_number o) n) (sym lives) ∙ sym (st.snapshot_of.live n) ∙ ap is_some number in
           let same : snapshot.number ≡ n = eqb-true snapshot.number n held in
           living-kept snapshot lives memory (ap (get sides.snapshots) same ∙ number) (subst (λ n. NameTheirPages sides.leaves n memory.present) (sym same) names) listed

@@ -15,7 +15,7 @@ use Rattle.vm_base.specs.MemoryState.{own_of}
 use Rattle.vm_base.proofs.FlatPages.{is_some-with_pages}
 use Rattle.kernel_meaning.specs.Requests.{Answer, Yes, No, Requests, opening_requests, deal_of, given_back, later_answers, asked_in_row}
 use Rattle.kernel_meaning.specs.Leaves.{CellLeaves, Lost, version_at, has_pages, names_version, is_named, own_leaves, share}
-use Rattle.kernel_meaning.specs.CellActs.{Course, opening_course, asking, coming_answer, page_copy_answered, new_page_answered, new_page_asked, parent_leaf_answered, touched, with_parent_version, with_leaf_where}
+use Rattle.kernel_meaning.specs.CellActs.{Course, opening_course, asking, coming_answer, page_copy_answered, new_page_answered, new_page_asked, parent_leaf_answered, course_touched, with_parent_version, with_leaf_where}
 use Rattle.kernel_meaning.specs.FrameLaw.{Leaves, cell_at, with_cell, is_used, parent_cells, snapshot_tables, snapshot_leaves, held_frames}
 use Rattle.kernel_meaning.specs.RefusedRequests.{out_after}
 use Rattle.kernel_meaning.specs.EventRequests.{Progress, FrameRefusal, opening_progress, page_version, page_in_cell, course_at, with_course, missing_tables, tables_answered, cell_touch_ended, page_touched, added_by, touch_goes_on, pages_touched_behind, pages_touched}
@@ -229,10 +229,10 @@ module _ (from tables rest : ℕ) (memory : FlatMemory) where
       }
 
       -- the touch at the cell
-      course-ends : Ends (touched place start)
+      course-ends : Ends (course_touched place start)
       course-ends = by (version_at cell.parent place) refl (has_pages cell.parent) refl
         where
-          by : (version : Option ℕ) → version_at cell.parent place ≡ version → (leaf : Bool) → has_pages cell.parent ≡ leaf → Ends (touched place start)
+          by : (version : Option ℕ) → version_at cell.parent place ≡ version → (leaf : Bool) → has_pages cell.parent ≡ leaf → Ends (course_touched place start)
           by None absent true there =
               subst Ends (sym (touched-absent place start (holds.kept.unjoined c) absent there))
               (added requests absent 0 (spent-weaker bound from (most + lacking) (most + lacking + lacking_leaf cell) requests.deals spent (omega arith)) (coming_answer start))
@@ -284,7 +284,7 @@ module _ (from tables rest : ℕ) (memory : FlatMemory) where
           → IsSpent bound from (holds.most + length (missing_tables (parent_cells progress.leaves) (cell_of page))) requests.deals
           → TouchEnds from tables rest memory (page + 1) n (tables_answered refused page taken (record progress { requests = requests }))
       by None taken requests spent =
-          let course : Course = touched (page_in_cell page) (course_at (cell_of page) (record progress { requests = requests })) in
+          let course : Course = course_touched (page_in_cell page) (course_at (cell_of page) (record progress { requests = requests })) in
           ended (page + 1) n course.refused page taken course (record progress { requests = requests }) refl
           (course-ends page n progress.leaves progress.requests holds wanted requests spent)
       by (Some at) taken requests spent = record { spent = given-spent taken requests.deals spent.spent; holds = λ granted. absurd (false≢true (sym (ap is_some granted))) }

@@ -10,7 +10,7 @@ use Rattle.vm_base.specs.Deals.{Deal}
 use Rattle.vm_base.specs.MemoryCalls.{IsInRange}
 use Rattle.kernel_meaning.specs.Requests.{Answer, Yes, No, answers_of, asked_in_row}
 use Rattle.kernel_meaning.specs.Leaves.{CellLeaves, Versions, unused_cell, version_at, with_version, has_pages, is_named, is_shared, is_marked}
-use Rattle.kernel_meaning.specs.CellActs.{Course, asking, coming_answer, numbers_where, leaf_copied, leaf_copy_answered, leaves_copied, before_change, page_copy_answered, new_page_answered, new_page_asked, parent_leaf_answered, touched_as, touched}
+use Rattle.kernel_meaning.specs.CellActs.{Course, asking, coming_answer, numbers_where, leaf_copied, leaf_copy_answered, leaves_copied, before_change, page_copy_answered, new_page_answered, new_page_asked, parent_leaf_answered, touched_as, course_touched}
 use Rattle.kernel_meaning.specs.FrameLaw.{Leaves, cell_at, with_cell, is_used, parent_cells}
 use Rattle.kernel_meaning.specs.EventRequests.{Progress, FrameRefusal, page_in_cell, course_at, missing_tables, tables_answered, cell_touched, cell_touch_ended, page_touched, page_version, touch_goes_on, added_by, pages_touched_behind}
 use Rattle.page_tables.specs.declared.tables.PageTables.{PageTables}
@@ -163,7 +163,7 @@ ended-leaves (Some at) page tables progress = refl
 -- pages that were present still are
 stays-cell_touched : (page tables : ℕ) (progress : Progress) (q : ℕ) → IsSome (page_version progress.leaves q) → IsSome (page_version (cell_touched page tables progress).leaves q)
 stays-cell_touched page tables progress q there =
-    let course : Course = touched (page_in_cell page) (course_at (cell_of page) progress) in
+    let course : Course = course_touched (page_in_cell page) (course_at (cell_of page) progress) in
     let start : CellLeaves = cell_at progress.leaves (cell_of page) in
     let stays : Stays start.parent course.cell.parent = stays-touched (version_at start.parent (page_in_cell page)) (page_in_cell page) (course_at (cell_of page) progress) in
     subst (λ leaves. IsSome (page_version leaves q)) (sym (ended-leaves course.refused page tables _)) (elim (cases_eq (cell_of q) (cell_of page)) [
@@ -191,7 +191,7 @@ page-granted page progress there =
     missing-there (cell_of page) (parent_cells progress.leaves) (has-passing (cell_of page) progress.leaves (page-there cell (page_in_cell page) there)) in
     ap (λ wants. (tables_answered (asked_in_row wants progress.requests).refused page (asked_in_row wants progress.requests).granted
     (record progress { requests = (asked_in_row wants progress.requests).requests })).refused) none
-    ∙ ended-granted (touched (page_in_cell page) (course_at (cell_of page) progress)).refused page 0 _
+    ∙ ended-granted (course_touched (page_in_cell page) (course_at (cell_of page) progress)).refused page 0 _
     (touched-granted (version_at cell.parent (page_in_cell page)) (page_in_cell page) (course_at (cell_of page) progress) there)
 
 -- a refusal names the page
@@ -209,7 +209,7 @@ names-ended None page tables progress named = named
 names-ended (Some at) page tables progress named = refl
 
 names-answered : (refused : Option ℕ) (page tables : ℕ) (progress : Progress) → names page progress.refused → names page (tables_answered refused page tables progress).refused
-names-answered None page tables progress named = names-ended (touched (page_in_cell page) (course_at (cell_of page) progress)).refused page tables _ named
+names-answered None page tables progress named = names-ended (course_touched (page_in_cell page) (course_at (cell_of page) progress)).refused page tables _ named
 names-answered (Some at) page tables progress named = refl
 
 names-page : (page : ℕ) (progress : Progress) → progress.refused ≡ None → names page (page_touched page progress).refused

@@ -21,7 +21,7 @@ use Rattle.page_tables.specs.declared.slot.Slot.{Slot}
 use Rattle.page_tables.specs.declared.tables.SnapshotTables.{SnapshotTables}
 use Rattle.page_tables.specs.declared.tables.PageTables.{PageTables}
 use Rattle.page_tables.specs.Sides.{Sides, opening_sides}
-use Rattle.page_tables.specs.Standing.{owner_at, number_of, slot_in, numbers_at, slot_count, TablesStandFor}
+use Rattle.page_tables.specs.Standing.{owner_at, living_number, slot_in, numbers_at, slot_count, TablesStandFor}
 use Rattle.page_tables.specs.Held.{frames_of}
 use Rattle.page_tables.specs.Permissions.{LeavesAllButPermissions}
 use Rattle.page_tables.specs.SlotViews.{SlotView, owner_in, lost_there, is_waiting, IsShown, AreViewsOf}
@@ -114,7 +114,7 @@ few-numbers (Some tables) c = elim (is_some (get tables.directory c)) as (λ b. 
 pub has-number : (tables : PageTables) (c : ℕ) → snapshot_has tables c ≡ true → IsSome (snapshot_number tables)
 has-number tables c there = by tables.snapshot there
   where
-    by : (snapshot : Option SnapshotTables) → is_some (slot_in snapshot c) ≡ true → IsSome (number_of snapshot)
+    by : (snapshot : Option SnapshotTables) → is_some (slot_in snapshot c) ≡ true → IsSome (living_number snapshot)
     by None there = absurd (false≢true there)
     by (Some it) there = refl
 
@@ -122,18 +122,18 @@ has-number tables c there = by tables.snapshot there
 pub number-lacks : (tables : PageTables) → snapshot_number tables ≡ None → LacksSnapshot tables
 number-lacks tables none = by tables.snapshot none
   where
-    by : (snapshot : Option SnapshotTables) → number_of snapshot ≡ None → snapshot ≡ None
+    by : (snapshot : Option SnapshotTables) → living_number snapshot ≡ None → snapshot ≡ None
     by None none = refl
     by (Some it) none = absurd (false≢true (sym (ap is_some none)))
 
 pub lacks-number : (tables : PageTables) → LacksSnapshot tables → snapshot_number tables ≡ None
-lacks-number tables none = ap number_of none
+lacks-number tables none = ap living_number none
 
 -- one lives where there is a number of one
 pub number-lives : (tables : PageTables) → IsSome (snapshot_number tables) → IsSome tables.snapshot
 number-lives tables some = by tables.snapshot some
   where
-    by : (snapshot : Option SnapshotTables) → IsSome (number_of snapshot) → IsSome snapshot
+    by : (snapshot : Option SnapshotTables) → IsSome (living_number snapshot) → IsSome snapshot
     by None some = absurd (false≢true some)
     by (Some it) some = refl
 
@@ -239,14 +239,14 @@ module _ (tables : PageTables) (sides : Sides) (st : TablesStandFor tables sides
 -- ---- what calls keep
 
 pub same-number : (old new : PageTables) → HasSameSnapshot old new → snapshot_number new ≡ snapshot_number old
-same-number old new same = ap number_of same
+same-number old new same = ap living_number same
 
 pub number-permissions : (old new : PageTables) → LeavesAllButPermissions old new → snapshot_number new ≡ snapshot_number old
-number-permissions old new alike = ap number_of alike.snapshot
+number-permissions old new alike = ap living_number alike.snapshot
 
 -- ---- new tables
 
-none-lives : (snapshot : Option SnapshotTables) → ((n : ℕ) → false ≡ holds_number (number_of snapshot) n) → number_of snapshot ≡ None
+none-lives : (snapshot : Option SnapshotTables) → ((n : ℕ) → false ≡ holds_number (living_number snapshot) n) → living_number snapshot ≡ None
 none-lives None none = refl
 none-lives (Some tables) none = absurd (false≢true (none tables.number ∙ eq-eqb tables.number tables.number refl))
 

@@ -8,7 +8,7 @@ use Rattle.std.proofs.lemmas.Bool.{cases_Bool, cases_eq, cond-false}
 use Rattle.vm_base.specs.Places.{cell_of}
 use Rattle.kernel_meaning.specs.Requests.{asked_in_row}
 use Rattle.kernel_meaning.specs.Leaves.{CellLeaves, without_versions}
-use Rattle.kernel_meaning.specs.CellActs.{Course, touched}
+use Rattle.kernel_meaning.specs.CellActs.{Course, course_touched}
 use Rattle.kernel_meaning.specs.FrameLaw.{Leaves, cell_at, with_cell, is_used, parent_cells}
 use Rattle.kernel_meaning.specs.EventRequests.{Progress, FrameRefusal, page_in_cell, course_at, page_version, without_page, without_pages, missing_tables, tables_answered, cell_touch_ended, page_touched, touch_goes_on, added_by, pages_touched_behind}
 use Rattle.page_tables.proofs.LeafMap.{find-apart}
@@ -75,7 +75,7 @@ module _ (P : ℕ → Type 0) (q : ℕ) where
 
   had-answered : (refused : Option ℕ) (page tables : ℕ) (progress : Progress) → P (cell_of page) → Had progress.leaves (tables_answered refused page tables progress).leaves
   had-answered None page tables progress passes =
-      let course : Course = touched (page_in_cell page) (course_at (cell_of page) progress) in
+      let course : Course = course_touched (page_in_cell page) (course_at (cell_of page) progress) in
       had-ended course.refused page tables _ progress.leaves (had-cell progress.leaves (cell_of page) course.cell passes)
   had-answered (Some at) page tables progress passes = λ there. inl there
 

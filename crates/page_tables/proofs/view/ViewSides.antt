@@ -20,7 +20,7 @@ use Rattle.page_tables.specs.Sides.{Sides}
 use Rattle.page_tables.specs.SlotViews.{SlotView, owner_in, pages_in, used_in, is_alone_at, is_alone_in, ready_in, lost_there, lost_in, is_waiting, with_waiting, waiting_in, AreViewsOf}
 use Rattle.page_tables.specs.TablesView.{views_of, pages_of}
 use Rattle.page_tables.specs.Standing.{TablesStandFor}
-use Rattle.page_tables.specs.Accesses.{IsReady}
+use Rattle.page_tables.specs.Accesses.{IsPageReady}
 use Rattle.page_tables.proofs.view.ViewReads.{LacksOwner, pages-lacking, pages-owned, used-lacking, used-owned, used-counted, alone-means, means-alone, alone-owned, ready-is, lost-lacking, lost-owned}
 use Rattle.page_tables.proofs.view.TablesShown.{shown}
 
@@ -121,7 +121,7 @@ module _ (views : List SlotView) (sides : Sides) (of : AreViewsOf sides views) w
   -- ---- pages that may be stored to
 
   -- a page is the parent's alone in the slots where it may be stored to on the sides
-  pub view-alone : (page : ℕ) → IsSome (get sides.pages page) → (is_alone_in views page ≡ true) ↔ IsReady sides.leaves page
+  pub view-alone : (page : ℕ) → IsSome (get sides.pages page) → (is_alone_in views page ≡ true) ↔ IsPageReady sides.leaves page
   view-alone page there =
       let at : HasSlot views (cell_of page) = home (cell_of page) (view-page-used page there) in
       let same : is_alone_in views page ≡ is_alone_at at.view.state.leaves (page % 512) = alone-owned page views of.once at.s at.view at.here at.mine in
@@ -132,7 +132,7 @@ module _ (views : List SlotView) (sides : Sides) (of : AreViewsOf sides views) w
 
   -- a page that may be stored to is ready and present, and its area may be written
   pub view-ready : (areas : List Area) (page : ℕ) → set.contains (ready_in areas views) page ≡ true
-      → IsReady sides.leaves page × (is_some (get sides.pages page) ≡ true) × (is_read_only (area_of areas page) ≡ false)
+      → IsPageReady sides.leaves page × (is_some (get sides.pages page) ≡ true) × (is_read_only (area_of areas page) ≡ false)
   view-ready areas page e =
       let parts : ((is_alone_in views page && not (is_read_only (area_of areas page))) ≡ true) × (is_some (get (pages_in views) page) ≡ true) =
       and_parts (is_alone_in views page && not (is_read_only (area_of areas page))) (is_some (get (pages_in views) page)) (sym (ready-is areas views page) ∙ e) in
@@ -141,7 +141,7 @@ module _ (views : List SlotView) (sides : Sides) (of : AreViewsOf sides views) w
       ((view-alone page present).0 both.0, present, not-true (is_read_only (area_of areas page)) both.1)
 
   -- and each such page may be stored to
-  pub ready-view : (areas : List Area) (page : ℕ) → IsReady sides.leaves page → is_some (get sides.pages page) ≡ true → is_read_only (area_of areas page) ≡ false
+  pub ready-view : (areas : List Area) (page : ℕ) → IsPageReady sides.leaves page → is_some (get sides.pages page) ≡ true → is_read_only (area_of areas page) ≡ false
       → set.contains (ready_in areas views) page ≡ true
   ready-view areas page ready present writable =
       ready-is areas views page ∙ and_from (is_alone_in views page && not (is_read_only (area_of areas page))) (is_some (get (pages_in views) page))
@@ -195,11 +195,11 @@ module _ (tables : PageTables) (sides : Sides) (st : TablesStandFor tables sides
 
   -- a page that may be stored to is ready and present, and its area may be written
   pub seen-ready : (areas : List Area) (page : ℕ) → set.contains (ready_in areas (views_of tables)) page ≡ true
-      → IsReady sides.leaves page × (is_some (get sides.pages page) ≡ true) × (is_read_only (area_of areas page) ≡ false)
+      → IsPageReady sides.leaves page × (is_some (get sides.pages page) ≡ true) × (is_read_only (area_of areas page) ≡ false)
   seen-ready = view-ready (views_of tables) sides (shown tables sides st)
 
   -- and each such page may be stored to
-  pub ready-seen : (areas : List Area) (page : ℕ) → IsReady sides.leaves page → is_some (get sides.pages page) ≡ true → is_read_only (area_of areas page) ≡ false
+  pub ready-seen : (areas : List Area) (page : ℕ) → IsPageReady sides.leaves page → is_some (get sides.pages page) ≡ true → is_read_only (area_of areas page) ≡ false
       → set.contains (ready_in areas (views_of tables)) page ≡ true
   ready-seen = ready-view (views_of tables) sides (shown tables sides st)
 

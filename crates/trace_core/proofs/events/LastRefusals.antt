@@ -9,7 +9,7 @@ use Rattle.vm_base.specs.Deals.{Deal, Granted, Denied, Returned}
 use Rattle.vm_base.specs.Places.{cell_of}
 use Rattle.kernel_meaning.specs.Requests.{Answer, Yes, No, Requests, RowEnd, deal_of, next_answer, asked, row_end, asked_in_row}
 use Rattle.kernel_meaning.specs.Leaves.{version_at, has_pages, is_shared, is_marked, is_named}
-use Rattle.kernel_meaning.specs.CellActs.{Course, asking, coming_answer, numbers_where, leaf_copied, leaf_copy_answered, leaves_copied, before_change, page_copy_answered, new_page_answered, new_page_asked, parent_leaf_answered, touched_as, touched}
+use Rattle.kernel_meaning.specs.CellActs.{Course, asking, coming_answer, numbers_where, leaf_copied, leaf_copy_answered, leaves_copied, before_change, page_copy_answered, new_page_answered, new_page_asked, parent_leaf_answered, touched_as, course_touched}
 use Rattle.kernel_meaning.specs.FrameLaw.{parent_cells}
 use Rattle.kernel_meaning.specs.RefusedRequests.{count_after}
 use Rattle.kernel_meaning.specs.EventRequests.{Progress, FrameRefusal, page_in_cell, course_at, with_course, missing_tables, tables_answered, cell_touch_ended, page_touched, touch_goes_on, added_by, pages_touched_behind}
@@ -174,7 +174,7 @@ ended-told (Some at) page tables progress none tells = told-back progress.reques
 answered-told : (refused : Option ℕ) (page tables : ℕ) (progress : Progress) → progress.refused ≡ None → Tells refused progress.requests.deals
     → Told (tables_answered refused page tables progress).refused (tables_answered refused page tables progress).requests.deals
 answered-told None page tables progress none tells =
-    let course : Course = touched (page_in_cell page) (course_at (cell_of page) progress) in
+    let course : Course = course_touched (page_in_cell page) (course_at (cell_of page) progress) in
     ended-told course.refused page tables (with_course (cell_of page) course progress) none
     (touch-tells (version_at (course_at (cell_of page) progress).cell.parent (page_in_cell page)) (page_in_cell page) (course_at (cell_of page) progress) refl)
 answered-told (Some at) page tables progress none tells = told-back progress.requests.deals tables at tells

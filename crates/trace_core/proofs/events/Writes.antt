@@ -14,7 +14,7 @@ use Rattle.kernel_meaning.specs.Requests.{Answer, answers_of}
 use Rattle.kernel_meaning.specs.FrameLaw.{held_frames, lacks_slots, used_cells, cells_without_slot}
 use Rattle.kernel_meaning.specs.EventRequests.{Progress, FrameRefusal, pages_touched}
 use Rattle.page_tables.specs.declared.tables.PageTables.{PageTables}
-use Rattle.page_tables.specs.Accesses.{IsReady}
+use Rattle.page_tables.specs.Accesses.{IsPageReady}
 use Rattle.page_tables.specs.Courses.{requests_between, progress_between}
 use Rattle.page_tables.specs.Held.{frames_of}
 use Rattle.page_tables.proofs.view.TablesShown.{held-shown, few-cells, same-number, opening-number}
@@ -54,7 +54,7 @@ touch_end machine state addr n answers = touch_judged machine state answers addr
 pub record TouchRan (parts new : KernelParts) (machine : Machine) (state : KernelState) (addr n : ℕ) (result : Result (Unit {0}) Fault) : Type 0 where
   pub ran : EventRan parts new machine (touch_end machine state addr n) (touch_outcome result)
   pub ready : OnOk result (AreReady ran.after.leaves addr n)
-  pub still : (page : ℕ) → IsReady state.leaves page → IsReady ran.after.leaves page
+  pub still : (page : ℕ) → IsPageReady state.leaves page → IsPageReady ran.after.leaves page
 
 -- the state behind it
 pub touch-leaves : (parts new : KernelParts) (machine : Machine) (state : KernelState) (addr n : ℕ) (result : Result (Unit {0}) Fault)

@@ -26,7 +26,7 @@ use Rattle.leaf_cell.specs.CellView.{without_snapshot}
 use Rattle.leaf_cell.specs.Renaming.{IsNamedBy}
 use Rattle.leaf_cell.specs.Touching.{IsAlone}
 use Rattle.page_tables.specs.declared.tables.PageTables.{PageTables}
-use Rattle.page_tables.specs.Accesses.{IsReady}
+use Rattle.page_tables.specs.Accesses.{IsPageReady}
 use Rattle.page_tables.proofs.DroppedLeaves.{cell-dropped}
 use Rattle.trace_events.specs.declared.outcome.Outcome.{Outcome}
 use Rattle.trace_events.specs.declared.outcome.Outcome.TheVariants.{Done, NoFrame, TooMany, NoSnap}
@@ -280,7 +280,7 @@ alone-without n cell page alone = record {
 
 module _ (old new : KernelParts) (machine : Machine) (state after : KernelState) (stands : KernelStands old machine state) (then : KernelStands new machine after) where
   -- where the parent's memory is as it was, and each page that was its alone still is
-  ready-then : (most later : ℕ) → parent_of new ≡ parent_of old → ((page : ℕ) → IsReady state.leaves page → IsReady after.leaves page) → KeepsReady (memory_of old most) (memory_of new later)
+  ready-then : (most later : ℕ) → parent_of new ≡ parent_of old → ((page : ℕ) → IsPageReady state.leaves page → IsPageReady after.leaves page) → KeepsReady (memory_of old most) (memory_of new later)
   ready-then most later same keeps = λ page ready.
       let was = seen-ready old.tables (sides_of state stands.pages) stands.tables old.areas page ready in
       let memory : after.world.parent ≡ state.world.parent = sym (stands-parent new machine after then) ∙ same ∙ stands-parent old machine state stands in
@@ -299,14 +299,14 @@ module _ (old new : KernelParts) (machine : Machine) (state : KernelState) (stan
       ungranted-leaves state n outcome ran.deals ran.after undone (nat_le machine.limit (len state.world.snapshots)) progress.refused progress
       (refused-leaves n mode row.refused row.granted (record (begun state (answers_of ran.deals)) { requests = row.requests }) refl) ran.ends in
       ready-then old new machine state ran.after stands ran.stands most later (fork-parent old new machine state stands n mode outcome ran)
-      (λ page ready. subst (λ leaves. IsReady leaves page) (sym same) ready)
+      (λ page ready. subst (λ leaves. IsPageReady leaves page) (sym same) ready)
 
   -- the same of a drop
   pub drop-ready : (outcome : Outcome) (most later : ℕ) → EventRan old new machine (λ answers. drop_end state answers n) outcome → KeepsReady (memory_of old most) (memory_of new later)
   drop-ready outcome most later ran =
       ready-then old new machine state ran.after stands ran.stands most later (drop-parent old new machine state stands n outcome ran)
-      (λ page ready. subst (λ end. IsReady end.after.leaves page) ran.ends
-      (drop-leaves (λ leaves. IsReady leaves page) state n ready (answers_of ran.deals)
+      (λ page ready. subst (λ end. IsPageReady end.after.leaves page) ran.ends
+      (drop-leaves (λ leaves. IsPageReady leaves page) state n ready (answers_of ran.deals)
       (subst (λ cell. IsAlone cell (page % 512)) (sym (cell-dropped n state.leaves stands.tables.kept (cell_of page))) (alone-without n (cell_at state.leaves (cell_of page)) (page % 512) ready))))
 
 -- ---- a sound kernel is sound behind each of them

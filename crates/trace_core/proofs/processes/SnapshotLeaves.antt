@@ -11,7 +11,7 @@ use Rattle.vm_base.specs.Deals.{Deal, Granted, Denied, Returned}
 use Rattle.vm_base.specs.Places.{cell_of}
 use Rattle.kernel_meaning.specs.Requests.{Answer, Yes, No, Requests, deal_of, next_answer, asked, row_end, asked_in_row}
 use Rattle.kernel_meaning.specs.Leaves.{Kept, Leaf, Own, Joined, Lost, CellLeaves, loss_at, kept_by, version_at, holds_number, is_own, is_joined, is_async, without_versions, has_pages, has_present, is_shared, is_marked, is_named, names_version, with_leaf}
-use Rattle.kernel_meaning.specs.CellActs.{Course, asking, coming_answer, is_number, numbers_where, leaf_copied, leaf_copy_answered, leaves_copied, before_change, page_copy_answered, new_page_answered, new_page_asked, parent_leaf_answered, touched_as, touched, pages_cleared, cleared, protected}
+use Rattle.kernel_meaning.specs.CellActs.{Course, asking, coming_answer, is_number, numbers_where, leaf_copied, leaf_copy_answered, leaves_copied, before_change, page_copy_answered, new_page_answered, new_page_asked, parent_leaf_answered, touched_as, course_touched, pages_cleared, cleared, protected}
 use Rattle.kernel_meaning.specs.FrameLaw.{Leaves, cell_at, with_cell, is_used, parent_cells}
 use Rattle.kernel_meaning.specs.RefusedRequests.{count_after}
 use Rattle.kernel_meaning.specs.EventRequests.{Progress, FrameRefusal, page_in_cell, course_at, with_course, missing_tables, tables_answered, cell_touch_ended, page_touched, without_page, without_pages, touch_goes_on, added_by, pages_touched_behind, pages_touched, first_in_cell, count_in_cell, changed_cells, directory_shrunk, unmapped_at, pages_unmapped, protected_at, pages_protected}
@@ -382,7 +382,7 @@ goes-answered : (refused : Option ℕ) (page tables : ℕ) (progress : Progress)
 goes-answered None page tables progress =
     let c : ℕ = cell_of page in
     let start : Course = course_at c progress in
-    let course : Course = touched (page_in_cell page) start in
+    let course : Course = course_touched (page_in_cell page) start in
     goes-on progress (with_course c course progress) _
     (goes-course c course progress (acts-touched (version_at start.cell.parent (page_in_cell page)) (page_in_cell page) start))
     (goes-ended course.refused page tables (with_course c course progress))

@@ -8,7 +8,7 @@ use Rattle.vm_base.specs.Places.{cell_of}
 use Rattle.vm_base.specs.Deals.{Deal, Granted, Denied, Returned}
 use Rattle.kernel_meaning.specs.Requests.{Answer, Yes, No, Requests, next_answer, deal_of, asked, given_back, RowEnd, row_end, asked_in_row}
 use Rattle.kernel_meaning.specs.Leaves.{Kept, has_pages, has_present, is_named, is_shared, is_marked, kept_by, version_at}
-use Rattle.kernel_meaning.specs.CellActs.{Course, coming_answer, asking, leaf_copy_answered, leaf_copied, leaves_copied, numbers_where, before_change, page_copy_answered, present_touched, new_page_answered, new_page_asked, parent_leaf_answered, absent_touched, touched_as, touched, pages_cleared, cleared, protected, copy_answered, copied_as}
+use Rattle.kernel_meaning.specs.CellActs.{Course, coming_answer, asking, leaf_copy_answered, leaf_copied, leaves_copied, numbers_where, before_change, page_copy_answered, present_touched, new_page_answered, new_page_asked, parent_leaf_answered, absent_touched, touched_as, course_touched, pages_cleared, cleared, protected, copy_answered, copied_as}
 use Rattle.kernel_meaning.specs.FrameLaw.{parent_cells}
 use Rattle.kernel_meaning.specs.EventRequests.{FrameRefusal, Progress, course_at, with_course, page_in_cell, missing_tables, cell_touch_ended, cell_touched, tables_answered, page_touched, touch_goes_on, pages_touched_behind, pages_touched, added_by, fork_wants, fork_answered, snapshot_forked, snapshot_copied, snapshot_dropped, unmapped_at, pages_unmapped, protected_at, pages_protected, first_in_cell, count_in_cell, changed_cells}
 use Rattle.trace_core.specs.Answering.{made_after}
@@ -95,7 +95,7 @@ module _ (start : ℕ) where
   tally-touched_as None page course before = tally-absent page course before
   tally-touched_as (Some version) page course before = tally-present page version (before_change course) (tally-before_change course before)
 
-  tally-touched : (page : ℕ) (course : Course) → At course → At (touched page course)
+  tally-touched : (page : ℕ) (course : Course) → At course → At (course_touched page course)
   tally-touched page course before = tally-touched_as (version_at course.cell.parent page) page course before
 
   tally-cleared : (first n : ℕ) (course : Course) → At course → At (cleared first n course)
@@ -138,7 +138,7 @@ module _ (start : ℕ) where
 
   tally-cell_touched : (page tables : ℕ) (progress : Progress) → Over progress → Over (cell_touched page tables progress)
   tally-cell_touched page tables progress before =
-      let course = touched (page_in_cell page) (course_at (cell_of page) progress) in
+      let course = course_touched (page_in_cell page) (course_at (cell_of page) progress) in
       tally-cell_touch_ended course.refused page tables (with_course (cell_of page) course progress)
       (tally-touched (page_in_cell page) (course_at (cell_of page) progress) before)
 

@@ -18,7 +18,7 @@ use Rattle.frame_pool.proofs.LeftLemmas.{left-taken, left-denied}
 use Rattle.frame_pool.proofs.SparingLemmas.{spares-taken, spares-denied, spares-parent}
 use Rattle.frame_pool.specs.declared.one_pool.Why.{Why}
 use Rattle.frame_pool.specs.declared.one_pool.Why.TheVariants.{Empty, Denied}
-use Rattle.trace_core.specs.SupplyState.{SupplyState, state_of, opening_supply, supply_ask, policy_sum, is_next, pending_behind, PoliciesStay, PoliciesDeny, IsGranted, IsRefused}
+use Rattle.trace_core.specs.SupplyState.{SupplyState, supply_state_of, opening_supply, supply_ask, policy_sum, is_next, pending_behind, PoliciesStay, PoliciesDeny, IsGranted, IsRefused}
 
 -- all spare the parent, as a test and as a fact of each
 abbrev spares_all : List PolicyView → Bool
@@ -84,7 +84,7 @@ same_state old new made out asker refused pending asks listed policies = λ i. r
 
 -- the ask of a supply is that of its pool
 same_ask : (want : Want) (pool : PoolView) (asker : Asker) (refused : ℕ) (pending : Option ℕ) → length pool.free ≤ pool.made
-    → ask_of asker want pool ≡ supply_ask want (state_of pool asker refused pending)
+    → ask_of asker want pool ≡ supply_ask want (supply_state_of pool asker refused pending)
 same_ask want pool asker refused pending within =
     let free : length pool.free ≡ pool.made - (pool.made - length pool.free) = omega (arith, within) in
     ap (λ free. record { asker = asker; want = want; free = free; place = next_count pool.asks }) free
@@ -92,7 +92,7 @@ same_ask want pool asker refused pending within =
 -- the pool gave a frame
 pub granted-taken : (want : Want) (frame : FrameView) (old new : PoolView) (asker : Asker) (refused : ℕ) (pending behind : Option ℕ)
     → length old.free ≤ old.made → is_next pending ≡ false → TakesOut asker want frame old new → behind ≡ pending_behind pending
-    → IsGranted want (state_of old asker refused pending) (state_of new asker refused behind)
+    → IsGranted want (supply_state_of old asker refused pending) (supply_state_of new asker refused behind)
 granted-taken want frame old new asker refused pending behind within unnamed taken is_behind =
     let fewer : length old.free ≡ length new.free + 1 = ap length taken.free ∙ length-append new.free (frame.number ∷ []) in
     let made : new.made ≡ old.made = taken.made in
@@ -101,23 +101,23 @@ granted-taken want frame old new asker refused pending behind within unnamed tak
       some_free = omega arith;
       asked = subst (λ ask. AllGrant ask (standing old.policies) new.policies) (same_ask want old asker refused pending within) taken.policies;
       policies = policies_stay asker want frame old new taken;
-      is = same_state _ (state_of new asker refused behind) made (omega arith) refl refl is_behind taken.asks refl refl;
+      is = same_state _ (supply_state_of new asker refused behind) made (omega arith) refl refl is_behind taken.asks refl refl;
     }
 
 -- the request was named, and the pool not asked
 pub refused-named : (want : Want) (pool : PoolView) (asker : Asker) (refused count at : ℕ) (pending behind : Option ℕ)
     → is_next pending ≡ true → count ≡ next_count refused → at ≡ count → behind ≡ pending_behind pending
-    → IsRefused want at (state_of pool asker refused pending) (state_of pool asker count behind)
+    → IsRefused want at (supply_state_of pool asker refused pending) (supply_state_of pool asker count behind)
 refused-named want pool asker refused count at pending behind named counted at_is is_behind = record {
   cause = inl (record { named = named; unasked = record { asks = refl; listed = refl; policies = refl } });
   count = at_is ∙ counted;
-  is = same_state _ (state_of pool asker count behind) refl refl refl counted is_behind refl refl refl;
+  is = same_state _ (supply_state_of pool asker count behind) refl refl refl counted is_behind refl refl refl;
 }
 
 -- no frame was there
 refused-spent : (want : Want) (old new : PoolView) (asker : Asker) (refused count at : ℕ) (pending behind : Option ℕ)
     → is_next pending ≡ false → old.free ≡ [] → new ≡ old → count ≡ next_count refused → at ≡ count → behind ≡ pending_behind pending
-    → IsRefused want at (state_of old asker refused pending) (state_of new asker count behind)
+    → IsRefused want at (supply_state_of old asker refused pending) (supply_state_of new asker count behind)
 refused-spent want old new asker refused count at pending behind unnamed spent same counted at_is is_behind =
     let none : length old.free ≡ 0 = ap length spent in
     record {
@@ -127,13 +127,13 @@ refused-spent want old new asker refused count at pending behind unnamed spent s
         unasked = record { asks = ap (λ pool. pool.asks) same; listed = ap (λ pool. pool.policies) same; policies = ap (λ pool. policy_sum pool.policies) same };
       }));
       count = at_is ∙ counted;
-      is = same_state _ (state_of new asker count behind) (ap (λ pool. pool.made) same) (ap (λ pool. pool.made - length pool.free) same) refl counted is_behind refl refl refl;
+      is = same_state _ (supply_state_of new asker count behind) (ap (λ pool. pool.made) same) (ap (λ pool. pool.made - length pool.free) same) refl counted is_behind refl refl refl;
     }
 
 -- a policy denied
 refused-denied : (want : Want) (place : ℕ) (old new : PoolView) (asker : Asker) (refused count at : ℕ) (pending behind : Option ℕ)
     → length old.free ≤ old.made → is_next pending ≡ false → IsDenied asker want place old new → count ≡ next_count refused → at ≡ count → behind ≡ pending_behind pending
-    → IsRefused want at (state_of old asker refused pending) (state_of new asker count behind)
+    → IsRefused want at (supply_state_of old asker refused pending) (supply_state_of new asker count behind)
 refused-denied want place old new asker refused count at pending behind within unnamed denied counted at_is is_behind =
     let made : new.made ≡ old.made = denied.made in
     let free : length new.free ≡ length old.free = ap length denied.free in
@@ -148,7 +148,7 @@ refused-denied want place old new asker refused count at pending behind within u
         policies = policies_deny asker want place old new denied;
       }));
       count = at_is ∙ counted;
-      is = same_state _ (state_of new asker count behind) made (omega arith) refl counted is_behind refl refl refl;
+      is = same_state _ (supply_state_of new asker count behind) made (omega arith) refl counted is_behind refl refl refl;
     }
 
 -- the pool refused, whatever its reason
@@ -157,7 +157,7 @@ pub refused-by_pool : {X : Type 0} (want : Want) (why : Why) (old new : PoolView
     → (IsErrOf {T = X} (Err why) Empty → old.free ≡ []) → (IsErrOf {T = X} (Err why) Empty → new ≡ old)
     → ((place : ℕ) → IsErrOf {T = X} (Err why) (Denied place) → IsDenied asker want place old new)
     → count ≡ next_count refused → at ≡ count → behind ≡ pending_behind pending
-    → IsRefused want at (state_of old asker refused pending) (state_of new asker count behind)
+    → IsRefused want at (supply_state_of old asker refused pending) (supply_state_of new asker count behind)
 refused-by_pool want Empty old new asker refused count at pending behind within unnamed empty unasked denied counted at_is is_behind =
     refused-spent want old new asker refused count at pending behind unnamed (empty refl) (unasked refl) counted at_is is_behind
 refused-by_pool want (Denied place) old new asker refused count at pending behind within unnamed empty unasked denied counted at_is is_behind =
@@ -166,9 +166,9 @@ refused-by_pool want (Denied place) old new asker refused count at pending behin
 -- all frames are there
 pub state_of-opening : (frames : ℕ) (pool : PoolView) (policies : List PolicyView)
     → pool ≡ record { made = frames; free = range_with_len 0 frames; asks = 0; policies = policies }
-    → state_of pool Parent 0 None ≡ opening_supply frames policies
+    → supply_state_of pool Parent 0 None ≡ opening_supply frames policies
 state_of-opening frames pool policies is =
     let made : pool.made ≡ frames = ap (λ pool. pool.made) is in
     let free : length pool.free ≡ frames = ap (λ pool. length pool.free) is ∙ length-range_with_len 0 frames in
-    same_state (opening_supply frames policies) (state_of pool Parent 0 None) made (omega arith) refl refl refl
+    same_state (opening_supply frames policies) (supply_state_of pool Parent 0 None) made (omega arith) refl refl refl
     (ap (λ pool. pool.asks) is) (ap (λ pool. pool.policies) is) (ap (λ pool. policy_sum pool.policies) is)

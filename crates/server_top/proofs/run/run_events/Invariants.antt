@@ -2,7 +2,7 @@
 use Rattle.std.proofs.Common.{◌≤◌, map, take, drop}
 use Rattle.trace_text.specs.ScriptGrammar.{AreForksRising}
 use Rattle.trace_text.specs.SoFar.{script_parts}
-use Rattle.trace_core.specs.SupplyState.{state_of}
+use Rattle.trace_core.specs.SupplyState.{supply_state_of}
 use Rattle.server_top.specs.RunPromise.{script_machine}
 use Rattle.server_top.proofs.Lines.{HasGoneOn}
 use Rattle.server_top.proofs.run.run_events.Given as goal
@@ -13,7 +13,7 @@ invariant-loop-place g l = record {
       (record {
         areas = l.fn.kernel.parts.areas;
         tables = l.fn.kernel.parts.tables;
-        supply = state_of (record {
+        supply = supply_state_of (record {
           made = l.fn.kernel.parts.supply.pool.stack.made;
           free = l.fn.kernel.parts.supply.pool.stack.free;
           asks = l.fn.kernel.parts.supply.pool.asks;
@@ -25,7 +25,7 @@ invariant-loop-place g l = record {
       (record {
         areas = l.kernel.parts.areas;
         tables = l.kernel.parts.tables;
-        supply = state_of (record {
+        supply = supply_state_of (record {
           made = l.kernel.parts.supply.pool.stack.made;
           free = l.kernel.parts.supply.pool.stack.free;
           asks = l.kernel.parts.supply.pool.asks;

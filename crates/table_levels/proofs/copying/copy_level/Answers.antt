@@ -3,7 +3,7 @@ use Rattle.std.proofs.Common.{◌≡◌, ◌+◌, ◌<◌, ◌∷◌, [], length
 use Rattle.std.proofs.lemmas.List.{length-replicate}
 use Rattle.vm_base.specs.Deals.{LeadsAlong}
 use Rattle.table_levels.specs.Requests.{granted, RefusesOne}
-use Rattle.table_levels.specs.Copies.{bytes_in}
+use Rattle.table_levels.specs.Copies.{table_bytes_in}
 use Rattle.table_levels.specs.Walks.{Place, table_at, tables_at}
 use Rattle.table_levels.proofs.Giving.{free, tables_at-take, tables_at-take_le}
 use Rattle.table_levels.proofs.Walking.{table_at-free, tables_at-free}
@@ -45,11 +45,11 @@ loop-i-preserved g c =
     let inside : i < length tables = omega (arith, c.loop-i-test.true) in
     let one : tables_at (d ∷ []) ≡ tables_at (get_or tables i d ∷ []) = ap (λ (p : Place). tables_at (p ∷ [])) c.index-tables-i.is in
     let count : tables_at (take (i + 1) tables) ≡ tables_at (take i tables) + tables_at (d ∷ []) = tables_at-take tables i d inside ∙ ap (λ n. tables_at (take i tables) + n) (sym one) in
-    let copies : bytes_in c.in-Ok.copy ≡ bytes_in d = c.in-Ok.ensures.copied in
+    let copies : table_bytes_in c.in-Ok.copy ≡ table_bytes_in d = c.in-Ok.ensures.copied in
     let same : c.count_of-copied.result ≡ tables_at (d ∷ []) =
     c.count_of-copied.ensures ∙ same_counted c.in-Ok.copy d copies in
     record {
-      first = copies_more c.loop-i.places.items tables i c.in-Ok.copy d inside c.loop-i.invariant.first (subst (λ p. bytes_in c.in-Ok.copy ≡ bytes_in p) c.index-tables-i.is c.in-Ok.ensures.copied);
+      first = copies_more c.loop-i.places.items tables i c.in-Ok.copy d inside c.loop-i.invariant.first (subst (λ p. table_bytes_in c.in-Ok.copy ≡ table_bytes_in p) c.index-tables-i.is c.in-Ok.ensures.copied);
       granted = subst (λ wants. LeadsAlong g.A.Allot.goes (g.A.Allot.state c.args.allot.now) (granted wants) (g.A.Allot.state c.copy_of.new.allot))
           (replicate-append c.args.want (tables_at (take i tables)) (tables_at (d ∷ [])) ∙ ap (λ n. replicate n c.args.want) (sym count))
           (grants_more g.A.Allot.goes (replicate (tables_at (take i tables)) c.args.want) (replicate (tables_at (d ∷ [])) c.args.want) _ _ _ c.loop-i.invariant.granted c.in-Ok.ensures.requests);
@@ -74,7 +74,7 @@ overflow_add-copied g c =
     let i = c.loop-i.i in
     let d = c.index-tables-i.result in
     let inside : i < length tables = omega (arith, c.loop-i-test.true) in
-    let copies : bytes_in c.in-Ok.copy ≡ bytes_in d = c.in-Ok.ensures.copied in
+    let copies : table_bytes_in c.in-Ok.copy ≡ table_bytes_in d = c.in-Ok.ensures.copied in
     let same : c.count_of-copied.result ≡ tables_at (d ∷ []) = c.count_of-copied.ensures ∙ same_counted c.in-Ok.copy d copies in
     let one : tables_at (d ∷ []) ≡ tables_at (get_or tables i d ∷ []) = ap (λ (p : Place). tables_at (p ∷ [])) c.index-tables-i.is in
     let count = c.loop-i.invariant.copied in

@@ -16,13 +16,13 @@ use Rattle.page_tables.proofs.ParentStore.{ready-view, stands-stored}
 use Rattle.page_tables.specs.declared.tables.PageTables.{PageTables}
 use Rattle.page_tables.specs.Sides.{Sides}
 use Rattle.page_tables.specs.Standing.{TablesStandFor}
-use Rattle.page_tables.specs.Accesses.{IsReady}
+use Rattle.page_tables.specs.Accesses.{IsPageReady}
 use Rattle.page_tables.proofs.KeptWriting.{keeps-writing, bits-set}
 use Rattle.page_tables.proofs.Known.{standing, known-owner, known-alone}
 use Rattle.page_tables.proofs.tables.PageTables.store_piece.Goals as goal
 
-standing-ready : (tables : PageTables) (address : ℕ) → ∥ ((sides : Sides) × (TablesStandFor tables sides × IsReady sides.leaves (page_of address))) ∥₁ → ∥ ((sides : Sides) × TablesStandFor tables sides) ∥₁
-standing-ready tables address known = standing tables (λ sides. IsReady sides.leaves (page_of address)) known
+standing-ready : (tables : PageTables) (address : ℕ) → ∥ ((sides : Sides) × (TablesStandFor tables sides × IsPageReady sides.leaves (page_of address))) ∥₁ → ∥ ((sides : Sides) × TablesStandFor tables sides) ∥₁
+standing-ready tables address known = standing tables (λ sides. IsPageReady sides.leaves (page_of address)) known
 
 pub index_mut-requires : goal.index_mut-requires
 index_mut-requires c =

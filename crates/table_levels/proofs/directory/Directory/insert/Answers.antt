@@ -7,7 +7,7 @@ use Rattle.std.proofs.lemmas.Result.{err_from_is_err_and}
 use Rattle.table_levels.specs.declared.frames.Wanted.{Wanted}
 use Rattle.table_levels.specs.Cells.{tables_of}
 use Rattle.table_levels.specs.Requests.{granted, missing_tables, wanted_tables, RefusesOne}
-use Rattle.table_levels.specs.Walks.{Levels, middle_at, cells_of, tables_at, tables_in, NamesUppers, IsDirectory}
+use Rattle.table_levels.specs.Walks.{Levels, middle_at, directory_cells, tables_at, tables_in, NamesUppers, IsDirectory}
 use Rattle.table_levels.proofs.Counting.{middle_tables_of-le}
 use Rattle.table_levels.proofs.Walking.{get-cells_of}
 use Rattle.table_levels.proofs.Linked.{wanted_for_missing, few_tables, few_wanted, wanted_same}
@@ -38,8 +38,8 @@ link-requires-clause-absent g c =
 pub link-requires-clause-fewer : goal.link-requires-clause-fewer
 link-requires-clause-fewer g c =
     let levels : Levels = record { top = c.self.inside.top; uppers = c.self.inside.uppers.items; middles = c.self.inside.middles.items } in
-    let few : map.len (cells_of levels) < 512 = subst (λ m. map.len m < 512) (sym c.self.view_is) c.requires.fewer in
-    omega (arith, c.self.invariant.directory.middles_taken, middle_tables_of-le (cells_of levels), few)
+    let few : map.len (directory_cells levels) < 512 = subst (λ m. map.len m < 512) (sym c.self.view_is) c.requires.fewer in
+    omega (arith, c.self.invariant.directory.middles_taken, middle_tables_of-le (directory_cells levels), few)
 
 pub invariant_of-self : goal.invariant_of-self
 invariant_of-self g c =
@@ -49,7 +49,7 @@ invariant_of-self g c =
     let asked = wanted_same levels c.args.cell c.is_none.result c.is_none-2.result c.is_none-3.result c.is_none.ensures (ap is_some (sym c.named_by.ensures) ∙ c.is_none-2.ensures)
     (ap is_some (sym (c.place_of.ensures ∙ ap (λ l. middle_at c.self.inside.top l (c.args.cell / 512)) c.deref.ensures.value)) ∙ c.is_none-3.ensures) in
     let missing = ap length (ap wanted_tables asked ∙ wanted_for_missing levels c.self.inside.tables known c.args.cell c.requires.cell) in
-    let total : tables_in new ≡ c.self.inside.tables + c.count.result = c.link.ensures.linked.counted ∙ ap (λ n. n + length (missing_tables (map.keys (cells_of levels)) c.args.cell)) (sym known.counted)
+    let total : tables_in new ≡ c.self.inside.tables + c.count.result = c.link.ensures.linked.counted ∙ ap (λ n. n + length (missing_tables (map.keys (directory_cells levels)) c.args.cell)) (sym known.counted)
     ∙ ap (λ n. c.self.inside.tables + n) (sym (c.count.ensures ∙ missing)) in
     record {
       directory = subst (IsDirectory new) total c.link.ensures.linked.directory;
@@ -75,7 +75,7 @@ returns-clause-out g c =
     (ap is_some (sym (c.place_of.ensures ∙ ap (λ l. middle_at c.self.inside.top l (c.args.cell / 512)) c.deref.ensures.value)) ∙ c.is_none-3.ensures) in
     let missing = ap length (ap wanted_tables asked ∙ wanted_for_missing levels c.self.inside.tables known c.args.cell c.requires.cell) in
     let before : tables_of c.args.self.now ≡ tables_in levels = ap tables_of (sym c.self.view_is) ∙ sym known.taken ∙ known.counted in
-    let after : tables_of (cells_of new) ≡ tables_in new = sym c.link.ensures.linked.directory.taken in
+    let after : tables_of (directory_cells new) ≡ tables_in new = sym c.link.ensures.linked.directory.taken in
     omega (arith, c.in_ok-fresh.ensures.out, before, after, c.link.ensures.linked.counted, missing)
 
 pub returns-in_err-fresh-clause-requests : goal.returns-in_err-fresh-clause-requests

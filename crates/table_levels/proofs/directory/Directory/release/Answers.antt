@@ -1,7 +1,7 @@
 -- All places are free, and as many frames given back as the cells took.
 use Rattle.std.proofs.Common.{◌≡◌, ◌+◌, ◌∷◌, [], replicate, refl, sym, ◌∙◌, ap, subst, arith}
 use Rattle.table_levels.specs.Cells.{tables_of}
-use Rattle.table_levels.specs.Walks.{Place, levels_of, cells_of, tables_at, IsDirectory}
+use Rattle.table_levels.specs.Walks.{Place, levels_of, directory_cells, tables_at, IsDirectory}
 use Rattle.table_levels.proofs.Giving.{free, gives_more}
 use Rattle.table_levels.proofs.Links.{tables_at-cons}
 use Rattle.table_levels.proofs.Walking.{bare_directory, no_levels, tables_at-free}
@@ -22,7 +22,7 @@ pub returns-clause-empty : goal.returns-clause-empty
 returns-clause-empty g c =
     let uppers = c.give_all-2.new.places.items in
     let middles = c.give_all.new.places.items in
-    ap (λ (top : Place). cells_of (levels_of top uppers middles)) c.take.ensures.after ∙ no_levels uppers middles
+    ap (λ (top : Place). directory_cells (levels_of top uppers middles)) c.take.ensures.after ∙ no_levels uppers middles
 
 pub returns-clause-given : goal.returns-clause-given
 returns-clause-given g c =

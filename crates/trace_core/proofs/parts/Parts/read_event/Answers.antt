@@ -4,7 +4,7 @@ use Rattle.trace_events.specs.declared.event.Event.TheVariants.{Read}
 use Rattle.trace_events.specs.declared.outcome.Outcome.TheVariants.{Bytes}
 use Rattle.trace_core.specs.EventMeaning.{read_outcome}
 use Rattle.vm_base.specs.FlatStep.{read_of}
-use Rattle.trace_core.specs.KernelStanding.{read_answer}
+use Rattle.trace_core.specs.KernelStanding.{buffer_answer}
 use Rattle.trace_core.proofs.runs.RunSteps.{read-follows, bytes-if-ok}
 use Rattle.trace_core.proofs.parts.Parts.read_event.Goals as goal
 
@@ -16,7 +16,7 @@ returns-in-Ok g c =
     record {
       ran = bytes-if-ok _ (Read c.args.addr c.args.len) c.bytes_outcome.result c.deref.result.now c.bytes_outcome.ensures
           (λ machine state st. read-follows _ machine state c.args.addr c.args.len _ st
-          (ap (λ n. read_outcome (read_of state.world.parent c.args.addr n)) (sym size) ∙ ap read_outcome (c.read.ensures.read machine state st) ∙ ap (λ answer. read_outcome (read_answer answer c.read.new.buf)) c.in-Ok.is ∙ ap Bytes (sym all)));
+          (ap (λ n. read_outcome (read_of state.world.parent c.args.addr n)) (sym size) ∙ ap read_outcome (c.read.ensures.read machine state st) ∙ ap (λ answer. read_outcome (buffer_answer answer c.read.new.buf)) c.in-Ok.is ∙ ap Bytes (sym all)));
     }
 
 pub returns : goal.returns
@@ -24,5 +24,5 @@ returns g c =
     let size = c.deref_mut.ensures.len ∙ c.in_ok-buf.ensures.len in
     record {
       ran = λ machine state st. read-follows _ machine state c.args.addr c.args.len _ st
-          (ap (λ n. read_outcome (read_of state.world.parent c.args.addr n)) (sym size) ∙ ap read_outcome (c.read.ensures.read machine state st) ∙ ap (λ answer. read_outcome (read_answer answer c.read.new.buf)) c.in-Err.is);
+          (ap (λ n. read_outcome (read_of state.world.parent c.args.addr n)) (sym size) ∙ ap read_outcome (c.read.ensures.read machine state st) ∙ ap (λ answer. read_outcome (buffer_answer answer c.read.new.buf)) c.in-Err.is);
     }
