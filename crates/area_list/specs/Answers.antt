@@ -12,6 +12,6 @@ refusal_of (Overlap page) = Taken page
 refusal_of AreasFull = TooManyAreas
 
 -- the list that the definition gives is there, or its refusal was answered and the list is as it was
-abbrev pub Alters : List Area → List Area → Result (Unit {0}) AreaFault → Result (List Area) Refusal → Type 0
-Alters old new (Ok done) answer = answer ≡ Ok new
-Alters old new (Err fault) answer = (answer ≡ Err (refusal_of fault)) × (new ≡ old)
+abbrev pub ChangesAreas : List Area → List Area → Result (Unit {0}) AreaFault → Result (List Area) Refusal → Type 0
+ChangesAreas old new (Ok done) answer = answer ≡ Ok new
+ChangesAreas old new (Err fault) answer = (answer ≡ Err (refusal_of fault)) × (new ≡ old)

@@ -2,7 +2,7 @@
 ghost use Rattle.std.specs.Prelude.{◌≡◌, ◌+◌, ◌++◌, ◌∷◌, [], None, IfOk, OnOk, OnErr, length, replicate};
 ghost use Rattle.vm_base.specs.declared.frame_request.Want.TheVariants.{Upper, Middle};
 ghost use Rattle.vm_base.specs.Deals.{Counts};
-ghost use Rattle.table_levels.specs.Requests.{Asks, Took};
+ghost use Rattle.table_levels.specs.Requests.{Asks, AddsFrames};
 ghost use Rattle.table_levels.specs.Copies.{Copies, HasRoom, table_bytes_in};
 ghost use Rattle.table_levels.specs.Walks.{tables_at};
 
@@ -26,7 +26,8 @@ pub(crate) fn copy_of<A: Allot>(
     ensures copied { IfOk result (λ copy. table_bytes_in copy ≡ table_bytes_in table.now) }
     ensures requests { Asks A.goes (A.state allot.old) (replicate (tables_at (table.now ∷ [])) want) result (A.state allot.new) }
     ensures counts { Counts A.refused (A.state allot.old) result (A.state allot.new) }
-    ensures out { Took A.out (A.state allot.old) (tables_at (table.now ∷ [])) result (A.state allot.new) }
+    ensures out { AddsFrames A.out (A.state allot.old) (tables_at (table.now ∷ [])) result
+        (A.state allot.new) }
     ensures untold { A.grants allot.new ≡ A.grants allot.old }
 {
     let Some(source) = table else {
@@ -52,7 +53,8 @@ fn copy_level<A: Allot>(
     ensures kept { OnErr result (places.new.items ≡ places.old.items) }
     ensures requests { Asks A.goes (A.state allot.old) (replicate (tables_at tables.now) want) result (A.state allot.new) }
     ensures counts { Counts A.refused (A.state allot.old) result (A.state allot.new) }
-    ensures out { Took A.out (A.state allot.old) (tables_at tables.now) result (A.state allot.new) }
+    ensures out { AddsFrames A.out (A.state allot.old) (tables_at tables.now) result
+        (A.state allot.new) }
     ensures untold { A.grants allot.new ≡ A.grants allot.old }
 {
     let mut copied = 0;
@@ -94,7 +96,7 @@ pub(crate) fn copy_lower<A: Allot>(
     // What the allot was asked for, and what it has afterwards.
     ensures requests { Asks A.goes (A.state allot.old) (replicate (tables_at upper_tables.now) Upper ++ replicate (tables_at middle_tables.now) Middle) result (A.state allot.new) }
     ensures counts { Counts A.refused (A.state allot.old) result (A.state allot.new) }
-    ensures out { Took A.out (A.state allot.old) (tables_at upper_tables.now + tables_at middle_tables.now) result (A.state allot.new) }
+    ensures out { AddsFrames A.out (A.state allot.old) (tables_at upper_tables.now + tables_at middle_tables.now) result (A.state allot.new) }
     ensures untold { A.grants allot.new ≡ A.grants allot.old }
 {
     copy_level(uppers, upper_tables, counts.uppers, Want::Upper, allot)?;

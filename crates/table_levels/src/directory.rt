@@ -4,7 +4,7 @@ ghost use Rattle.table_levels.specs.Walks.{entry_in, middle_at, NamesUppers};
 ghost use Rattle.std.specs.FinMap as map;
 ghost use Rattle.vm_base.specs.Deals.{LeadsAlong, Counts};
 ghost use Rattle.table_levels.specs.Cells.{first_from, tables_of, middle_tables_of};
-ghost use Rattle.table_levels.specs.Requests.{missing_tables, directory_wants, returned, Asks, Took};
+ghost use Rattle.table_levels.specs.Requests.{missing_tables, directory_wants, returned, Asks, AddsFrames};
 
 use crate::copying::{LowerTables, copy_lower, copy_of};
 use crate::frames::{Wanted, count_of, give_all, give_back, give_unused, take_fresh};
@@ -164,7 +164,7 @@ impl Directory {
         // What the allot was asked for, and what it has afterwards.
         ensures requests { Asks A.goes (A.state allot.old) (directory_wants (map.keys other.now)) result (A.state allot.new) }
         ensures counts { Counts A.refused (A.state allot.old) result (A.state allot.new) }
-        ensures out { Took A.out (A.state allot.old) (tables_of other.now) result (A.state allot.new) }
+        ensures out { AddsFrames A.out (A.state allot.old) (tables_of other.now) result (A.state allot.new) }
         ensures untold { A.grants allot.new ≡ A.grants allot.old }
     {
         let top = copy_of(&other.top, Want::Top, allot)?;

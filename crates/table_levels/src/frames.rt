@@ -2,7 +2,7 @@
 ghost use Rattle.std.specs.Prelude.{◌≡◌, ◌+◌, ◌≤◌, ◌++◌, ◌∷◌, [], None, IfOk, length, replicate};
 ghost use Rattle.vm_base.specs.declared.frame_request.Want.TheVariants.{Top, Upper, Middle};
 ghost use Rattle.vm_base.specs.Deals.{LeadsAlong, Counts};
-ghost use Rattle.table_levels.specs.Requests.{wanted_if, wanted_lower, wanted_tables, returned, Asks, Took};
+ghost use Rattle.table_levels.specs.Requests.{wanted_if, wanted_lower, wanted_tables, returned, Asks, AddsFrames};
 ghost use Rattle.table_levels.specs.Fresh.{IsFresh, AreFresh, HasFresh};
 ghost use Rattle.table_levels.specs.Walks.{tables_at};
 
@@ -40,7 +40,7 @@ pub(crate) fn take_fresh<A: Allot>(wanted: Wanted, allot: &mut A) -> Result<Fres
     ensures fresh { IfOk result (HasFresh wanted) }
     ensures requests { Asks A.goes (A.state allot.old) (wanted_tables wanted) result (A.state allot.new) }
     ensures counts { Counts A.refused (A.state allot.old) result (A.state allot.new) }
-    ensures out { Took A.out (A.state allot.old) (length (wanted_tables wanted)) result (A.state allot.new) }
+    ensures out { AddsFrames A.out (A.state allot.old) (length (wanted_tables wanted)) result (A.state allot.new) }
     ensures untold { A.grants allot.new ≡ A.grants allot.old }
 {
     let top = take_if(wanted.top, Want::Top, allot)?;
@@ -62,7 +62,7 @@ fn take_lower<A: Allot>(
     ensures fresh { IfOk result (AreFresh wanted) }
     ensures requests { Asks A.goes (A.state allot.old) (wanted_lower wanted) result (A.state allot.new) }
     ensures counts { Counts A.refused (A.state allot.old) result (A.state allot.new) }
-    ensures out { Took A.out (A.state allot.old) (length (wanted_lower wanted)) result (A.state allot.new) }
+    ensures out { AddsFrames A.out (A.state allot.old) (length (wanted_lower wanted)) result (A.state allot.new) }
     ensures untold { A.grants allot.new ≡ A.grants allot.old }
 {
     let upper = take_if(wanted.upper, Want::Upper, allot)?;
@@ -81,7 +81,7 @@ fn take_if<A: Allot>(is_wanted: bool, want: Want, allot: &mut A) -> Result<Optio
     ensures fresh { IfOk result (IsFresh is_wanted) }
     ensures requests { Asks A.goes (A.state allot.old) (wanted_if is_wanted want) result (A.state allot.new) }
     ensures counts { Counts A.refused (A.state allot.old) result (A.state allot.new) }
-    ensures out { Took A.out (A.state allot.old) (length (wanted_if is_wanted want)) result (A.state allot.new) }
+    ensures out { AddsFrames A.out (A.state allot.old) (length (wanted_if is_wanted want)) result (A.state allot.new) }
     ensures untold { A.grants allot.new ≡ A.grants allot.old }
 {
     if !is_wanted {

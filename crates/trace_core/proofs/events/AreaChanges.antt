@@ -10,7 +10,7 @@ use Rattle.kernel_meaning.specs.FrameLaw.{held_frames}
 use Rattle.kernel_meaning.specs.Requests.{Answer, answers_of}
 use Rattle.kernel_meaning.specs.EventRequests.{Progress, pages_unmapped, pages_protected}
 use Rattle.area_list.specs.declared.fault.AreaFault.{AreaFault}
-use Rattle.area_list.specs.Answers.{Alters, refusal_of}
+use Rattle.area_list.specs.Answers.{ChangesAreas, refusal_of}
 use Rattle.area_list.specs.Calls.{areas_mapped, areas_unmapped, areas_protected, on_memory, if_few}
 use Rattle.page_tables.specs.declared.tables.PageTables.{PageTables}
 use Rattle.page_tables.specs.Courses.{requests_between, progress_between}
@@ -150,7 +150,7 @@ module _ (parts : KernelParts) (machine : Machine) (state : KernelState) (st : K
     ran-mapped areas e = ran-areas_alone parts machine state st (map_of memory first n perm) (λ progress. progress) areas (map-is (Ok areas) e) (λ answers. refl)
 
     -- whatever the areas answer
-    pub ran-map : (areas : List Area) (answer : Result (Unit {0}) AreaFault) → Alters parts.areas areas answer (areas_mapped parts.areas first n perm)
+    pub ran-map : (areas : List Area) (answer : Result (Unit {0}) AreaFault) → ChangesAreas parts.areas areas answer (areas_mapped parts.areas first n perm)
         → EventRan parts (with_areas areas) machine (λ answers. mapped state answers first n perm) (area_outcome answer)
     ran-map areas (Ok done) changes = ran-mapped areas changes
     ran-map areas (Err fault) changes = ran-map_refused (refusal_of fault) areas (refusal_outcome (refusal_of fault)) changes.0 changes.1 refl
@@ -240,7 +240,7 @@ pub with_areas-same : (parts : KernelParts) (areas : List Area) → areas ≡ pa
 with_areas-same parts areas same = ap (λ (it : List Area). record parts { areas = it }) same
 
 -- so they are where the areas answered a fault
-pub refused-same : (parts : KernelParts) (areas : List Area) (answer : Result (Unit {0}) AreaFault) (change : Result (List Area) Refusal) → Alters parts.areas areas answer change
+pub refused-same : (parts : KernelParts) (areas : List Area) (answer : Result (Unit {0}) AreaFault) (change : Result (List Area) Refusal) → ChangesAreas parts.areas areas answer change
     → OnErr answer (record parts { areas = areas } ≡ parts)
 refused-same parts areas (Ok done) change changes = tt
 refused-same parts areas (Err fault) change changes = with_areas-same parts areas changes.1
