@@ -4,7 +4,8 @@ use Rattle.page_tables.specs.declared.tables.PageTables.{PageTables}
 use Rattle.page_tables.specs.Standing.{slot_count}
 use Rattle.page_tables.specs.Held.{frames_of}
 
--- so many frames are out, at least those that the tables hold, and the allot tells no number that it may still grant
+-- so many frames are out, at least those that the tables hold, and the allot tells no number of
+-- frames that it may still grant
 pub record IsLent (tables : PageTables) (out : ℕ) (grants : Option ℕ) : Type 0 where
   pub lent : frames_of tables ≤ out
   pub untold : grants ≡ None
