@@ -2,6 +2,7 @@
 ghost use Rattle.std.specs.Prelude.{◌≡◌, ◌≤◌, ◌<◌, IfOk, length, map, [], None, vec_capacity};
 ghost use Rattle.frame_pool.specs.Policies.{standing};
 ghost use Rattle.page_tables.specs.Permissions.{LetsNoneWrite};
+ghost use Rattle.trace_core.specs.declared.parts.TheConstants.{MOST_PAGES};
 ghost use Rattle.trace_core.specs.SupplyState.{supply_state_of, opening_supply, policy_sum};
 ghost use Rattle.trace_core.specs.KernelState.{opening_state};
 ghost use Rattle.trace_core.specs.KernelRun.{HasRun};
