@@ -33,4 +33,5 @@ pub mod AllowedActs
 pub mod AllowedPages
 pub mod ProtectMade
 pub mod LeafLost
+pub mod LeafForgotten
 pub mod LeafOwned

@@ -1,14 +1,14 @@
 //! A cell, and what is read of it.
 ghost use Rattle.std.specs.Prelude.{◌≡◌, ◌+◌, ◌<◌, ◌≤◌, ℕ, length, IfOk, Ok, Err, OnOk, OnErr, IfErr, replicate, None, Some, is_some, count_by, true};
 ghost use Rattle.std.specs.FinMap.{get};
-ghost use Rattle.kernel_meaning.specs.Leaves.{has_pages, has_present, kept_by, version_at};
+ghost use Rattle.kernel_meaning.specs.Leaves.{AreRising, has_pages, has_present, kept_by, version_at};
 ghost use Rattle.kernel_meaning.specs.CellAccount.{CellAccount, empty_account, account_share};
 ghost use Rattle.leaf_cell.specs.CellView.{new_view, parent_page, part_of, held_of, AreUnjoined};
 ghost use Rattle.leaf_cell.specs.Writable.{writable_at};
 ghost use Rattle.leaf_cell.specs.Permissions.{is_unshared};
 ghost use Rattle.leaf_cell.specs.Touching.{IsAlone};
 ghost use Rattle.leaf_cell.specs.Standing.{StandsFor, IsSnapRead};
-ghost use Rattle.leaf_cell.specs.States.{state_of, nth_number, snapshot_part};
+ghost use Rattle.leaf_cell.specs.States.{has_joined, state_of, nth_number, snapshot_part};
 
 use crate::frame_places::FramePlaces;
 use crate::leaf_table::{CELL_PAGES, LeafTable};
@@ -94,6 +94,9 @@ impl Cell {
     /// What the snapshot has here.
     pub fn state(&self, number: u32) -> LeafState
         ensures state { result ≡ state_of (kept_by self.now.leaves.kept number) }
+
+        // A leaf that is joined is the parent's, which is there.
+        ensures parent { has_joined (kept_by self.now.leaves.kept number) ≡ true → has_pages self.now.leaves.parent ≡ true }
         ensures account { (account : CellAccount) → StandsFor self.now account → result ≡ state_of (kept_by account.state.leaves.kept number) }
     {
         match &self.snapshot {
@@ -163,6 +166,7 @@ impl Cell {
     /// The number of the nth snapshot here, counted from 0 in rising order.
     pub fn snap(&self, nth: u32) -> Option<u32>
         ensures nth { result ≡ nth_number self.now.leaves.kept nth }
+        ensures rising { AreRising self.now.leaves.kept }
         ensures account { (account : CellAccount) → StandsFor self.now account → result ≡ nth_number account.state.leaves.kept nth }
     {
         match &self.snapshot {
