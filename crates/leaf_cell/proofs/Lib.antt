@@ -10,6 +10,7 @@ pub mod InsideFacts
 pub mod WholeCells
 pub mod PutPage
 pub mod TouchActs
+pub mod TouchRuns
 pub mod TouchMade
 pub mod PresentPage
 pub mod OpenedPlaces

@@ -1,0 +1,51 @@
+-- The copies of leaves that come before a change, and what they leave of a cell.
+use Rattle.std.specs.Prelude.{◌≡◌, ◌⊎◌, ℕ, ◌<◌, ◌≤◌, Bool, true, false, List, [], ◌∷◌, Some}
+use Rattle.vm_base.specs.Counts.{Rose}
+use Rattle.kernel_meaning.specs.Leaves.{Leaf, Own, Lost, Kept, is_joined, is_lost, is_shared, is_marked, kept_by}
+use Rattle.kernel_meaning.specs.CellActs.{Course, numbers_where, leaves_copied}
+use Rattle.leaf_cell.specs.CellView.{CellView, parent_page, kept_page}
+use Rattle.leaf_cell.specs.Touching.{IsAlone}
+use Rattle.leaf_cell.specs.Writable.{writable_at}
+use Rattle.share_cell.specs.declared.joining.Joining.{Joining}
+use Rattle.share_cell.specs.declared.joining.Joining.TheVariants.{Shared, Marked}
+
+-- the snapshot's leaf is the parent's, by a fork of this kind
+abbrev pub is_joined_by : Joining → Kept → Bool
+is_joined_by Shared kept = is_shared kept
+is_joined_by Marked kept = is_marked kept
+
+-- the leaves that pass a test are copied, in rising order of the snapshots' numbers
+abbrev pub copied_where : (Kept → Bool) → Course → Course
+copied_where test course = leaves_copied (numbers_where test course.cell) course
+
+-- what became of a leaf that was to be copied, or was not: it is the snapshot's own, or it is lost at a count of refused requests that was reached meanwhile; or it is as it was
+abbrev pub IsLeafCopied : Bool → ℕ → ℕ → Leaf → Leaf → Type 0
+IsLeafCopied false before after old new = new ≡ old
+IsLeafCopied true before after old new =
+    (new ≡ Own) ⊎ ((at : ℕ) × (new ≡ Lost at) × Rose before at × (at ≤ after))
+
+-- the same snapshots, one after another, of which the leaves that pass a test were copied
+abbrev pub AreCopied : (Kept → Bool) → ℕ → ℕ → List Kept → List Kept → Type 0
+AreCopied test before after [] [] = Unit {0}
+AreCopied test before after [] (it ∷ news) = ⊥
+AreCopied test before after (it ∷ olds) [] = ⊥
+AreCopied test before after (old ∷ olds) (new ∷ news) = (new.number ≡ old.number)
+    × (new.mode ≡ old.mode) × IsLeafCopied (test old) before after old.leaf new.leaf
+    × AreCopied test before after olds news
+
+-- the leaves that pass a test were copied, while the count of refused requests went from one number to another: nothing that a side reads has changed, and no more pages may be stored to as they are
+pub record Copies (test : Kept → Bool) (before after : ℕ) (old new : CellView) : Type 0 where
+  pub parent : new.leaves.parent ≡ old.leaves.parent
+  pub reads : (p : ℕ) → p < 512 → parent_page new p ≡ parent_page old p
+  pub kept : (n p : ℕ) (was is : Kept) → kept_by old.leaves.kept n ≡ Some was
+      → kept_by new.leaves.kept n ≡ Some is → is_lost is.leaf ≡ false → p < 512
+      → kept_page new is p ≡ kept_page old was p
+  pub still : (p : ℕ) → IsAlone old.leaves p → IsAlone new.leaves p
+  pub writable : (p : ℕ) → writable_at new.writable p ≡ true → writable_at old.writable p ≡ true
+  pub snapshots : AreCopied test before after old.leaves.kept new.leaves.kept
+  -- the count fell in no step, and rises only for a leaf that is lost
+  pub counted : before ≤ after
+
+-- a leaf that passes the test of any change: it is joined
+abbrev pub is_joined_kept : Kept → Bool
+is_joined_kept kept = is_joined kept.leaf
