@@ -1,0 +1,2 @@
+mod CopiedLeaves
+mod OneLeaf

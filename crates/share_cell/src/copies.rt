@@ -1,7 +1,7 @@
 //! The copies of leaves that come before a change.
 ghost use Rattle.std.specs.Prelude.{◌≡◌, ◌+◌, ◌≤◌, [], None, Some, true, IfSome};
 ghost use Rattle.std.specs.List.{slice_get};
-ghost use Rattle.kernel_meaning.specs.Leaves.{kept_by};
+ghost use Rattle.kernel_meaning.specs.Leaves.{AreRising, kept_by};
 ghost use Rattle.kernel_meaning.specs.CellActs.{leaf_copied, numbers_where, is_number};
 ghost use Rattle.leaf_cell.specs.CellView.{held_of};
 ghost use Rattle.leaf_cell.specs.States.{has_joined};
@@ -54,6 +54,7 @@ fn joined_state(joining: Joining) -> LeafState
 
 /// Copies the joined leaf of one snapshot, or lets the snapshot lose the cell.
 fn copy_leaf<A: Allot>(cell: &mut Cell, number: u32, allot: &mut A)
+    requires rising { AreRising cell.old.leaves.kept }
     requires joined { has_joined (kept_by cell.old.leaves.kept number) ≡ true }
     requires held { held_of cell.old ≤ A.out (A.state allot.old) }
     requires untold { A.grants allot.old ≡ None }
