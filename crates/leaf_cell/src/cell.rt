@@ -3,7 +3,7 @@ ghost use Rattle.std.specs.Prelude.{◌≡◌, ◌+◌, ◌<◌, ◌≤◌, ℕ,
 ghost use Rattle.std.specs.FinMap.{get};
 ghost use Rattle.kernel_meaning.specs.Leaves.{AreRising, has_pages, has_present, kept_by, version_at};
 ghost use Rattle.kernel_meaning.specs.CellAccount.{CellAccount, empty_account, account_share};
-ghost use Rattle.leaf_cell.specs.CellView.{new_view, parent_page, part_of, held_of, AreUnjoined};
+ghost use Rattle.leaf_cell.specs.CellView.{new_view, parent_page, part_of, held_of, most_kept, AreUnjoined};
 ghost use Rattle.leaf_cell.specs.Writable.{writable_at};
 ghost use Rattle.leaf_cell.specs.Permissions.{is_unshared};
 ghost use Rattle.leaf_cell.specs.Touching.{IsAlone};
@@ -167,6 +167,7 @@ impl Cell {
     pub fn snap(&self, nth: u32) -> Option<u32>
         ensures nth { result ≡ nth_number self.now.leaves.kept nth }
         ensures rising { AreRising self.now.leaves.kept }
+        ensures few { length self.now.leaves.kept ≤ most_kept }
         ensures account { (account : CellAccount) → StandsFor self.now account → result ≡ nth_number account.state.leaves.kept nth }
     {
         match &self.snapshot {

@@ -1,2 +1,3 @@
 mod CopiedLeaves
 mod OneLeaf
+mod JoinedNumbers

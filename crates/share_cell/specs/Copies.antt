@@ -4,6 +4,8 @@ use Rattle.std.specs.Option.{option_and_then}
 use Rattle.vm_base.specs.Counts.{Rose}
 use Rattle.kernel_meaning.specs.Leaves.{Leaf, Own, Lost, Kept, is_joined, is_lost, is_shared, is_marked, has_leaf_where, kept_by}
 use Rattle.kernel_meaning.specs.CellActs.{Course, numbers_where, leaves_copied}
+use Rattle.leaf_cell.specs.declared.snapshot.LeafState.{LeafState}
+use Rattle.leaf_cell.specs.declared.snapshot.LeafState.TheVariants as state
 use Rattle.leaf_cell.specs.CellView.{CellView, parent_page, kept_page}
 use Rattle.leaf_cell.specs.Touching.{IsAlone}
 use Rattle.leaf_cell.specs.Writable.{writable_at}
@@ -14,6 +16,19 @@ use Rattle.share_cell.specs.declared.joining.Joining.TheVariants.{Shared, Marked
 abbrev pub is_joined_by : Joining → Kept → Bool
 is_joined_by Shared kept = is_shared kept
 is_joined_by Marked kept = is_marked kept
+
+-- a leaf in this state is one that the parent's table is, by a fork of this kind
+abbrev pub is_state_joined : Joining → LeafState → Bool
+is_state_joined Shared state.Shared = true
+is_state_joined Shared state.Absent = false
+is_state_joined Shared state.Own = false
+is_state_joined Shared state.Marked = false
+is_state_joined Shared (state.Lost at) = false
+is_state_joined Marked state.Marked = true
+is_state_joined Marked state.Absent = false
+is_state_joined Marked state.Own = false
+is_state_joined Marked state.Shared = false
+is_state_joined Marked (state.Lost at) = false
 
 -- the leaves that pass a test are copied, in rising order of the snapshots' numbers
 abbrev pub copied_where : (Kept → Bool) → Course → Course

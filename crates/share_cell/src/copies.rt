@@ -6,7 +6,7 @@ ghost use Rattle.kernel_meaning.specs.CellActs.{leaf_copied, numbers_where, is_n
 ghost use Rattle.leaf_cell.specs.CellView.{held_of};
 ghost use Rattle.leaf_cell.specs.States.{has_joined};
 ghost use Rattle.share_cell.specs.Parts.{MadeWithin};
-ghost use Rattle.share_cell.specs.Copies.{Copies, copied_where, is_joined_by};
+ghost use Rattle.share_cell.specs.Copies.{Copies, copied_where, is_joined_by, is_state_joined};
 
 use crate::joining::Joining;
 use leaf_cell::{Cell, LeafState};
@@ -31,11 +31,12 @@ pub fn copy_leaves<A: Allot>(cell: &mut Cell, joining: Joining, allot: &mut A)
 
 /// The least number of a snapshot whose leaf is joined by a fork of this kind.
 fn first_joined(cell: &Cell, joining: Joining) -> Option<u32>
-    ensures { result ≡ slice_get (numbers_where (is_joined_by joining) cell.now.leaves) 0 }
+    ensures first { result ≡ slice_get (numbers_where (is_joined_by joining) cell.now.leaves) 0 }
+    ensures rising { AreRising cell.now.leaves.kept }
 {
     let mut nth = 0;
     while let Some(number) = cell.snap(nth) {
-        if cell.state(number) == joined_state(joining) {
+        if is_joined(joining, cell.state(number)) {
             return Some(number);
         }
         nth += 1;
@@ -43,12 +44,13 @@ fn first_joined(cell: &Cell, joining: Joining) -> Option<u32>
     None
 }
 
-/// What a cell says of a leaf that is joined by a fork of this kind.
-fn joined_state(joining: Joining) -> LeafState
+/// Whether a leaf in this state is joined by a fork of this kind.
+fn is_joined(joining: Joining, state: LeafState) -> bool
+    ensures { result ≡ is_state_joined joining state }
 {
     match joining {
-        Joining::Shared => LeafState::Shared,
-        Joining::Marked => LeafState::Marked,
+        Joining::Shared => matches!(state, LeafState::Shared),
+        Joining::Marked => matches!(state, LeafState::Marked),
     }
 }
 
