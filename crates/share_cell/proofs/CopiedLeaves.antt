@@ -50,7 +50,7 @@ with_leaf-above n leaf (k ∷ ks) above =
     ap (λ b. cond b (record k { leaf = leaf }) k ∷ with_leaf (is_number n) leaf ks) (ne_eqb k.number n (λ e. absurd (omega (arith, e, above.0))))
     ∙ ap (λ rest. k ∷ rest) (with_leaf-above n leaf ks above.1)
 
-joined-unlost : (leaf : Leaf) → is_joined leaf ≡ true → is_lost leaf ≡ false
+pub joined-unlost : (leaf : Leaf) → is_joined leaf ≡ true → is_lost leaf ≡ false
 joined-unlost Own joined = refl
 joined-unlost Joined joined = refl
 joined-unlost (Lost at) joined = absurd (false≢true joined)

@@ -2,12 +2,14 @@
 use Rattle.std.proofs.Common.{◌≡◌, ℕ, zero, suc, ◌+◌, ◌<◌, ◌≤◌, List, [], ◌∷◌, length, Option, Some, None, refl, sym, ◌∙◌, ap, subst, arith, inl, inr}
 use Rattle.std.specs.Prelude.{Bool, true, false, not, ◌&&◌, cond, map, filter, drop, is_some, unwrap_or, ◌==◌}
 use Rattle.std.specs.List.{slice_get, AllByRecursion}
+use Rattle.std.specs.Option.{option_map}
+use Rattle.std.proofs.lemmas.Option.{slice_get_within}
 use Rattle.std.proofs.lemmas.Bool.{false≢true, and_parts, eqb-true, ne_eqb, cases_eq}
 use Rattle.vm_base.specs.declared.fork_mode.Mode.{Mode}
 use Rattle.vm_base.specs.declared.fork_mode.Mode.TheVariants.{Eager, OnDemand, Async}
 use Rattle.kernel_meaning.specs.Leaves.{Leaf, Own, Joined, Lost, Kept, is_joined, is_async, has_joined, kept_by, AreAbove, AreRising}
 use Rattle.kernel_meaning.specs.CellActs.{is_number}
-use Rattle.leaf_cell.specs.States.{leaf_state}
+use Rattle.leaf_cell.specs.States.{leaf_state, state_of, nth_number}
 use Rattle.leaf_cell.specs.Renaming.{AreKeptAlike}
 use Rattle.leaf_cell.proofs.Renamed.{eqb-refl}
 use Rattle.share_cell.specs.declared.joining.Joining.{Joining}
@@ -22,7 +24,7 @@ abbrev head_of : List ℕ → ℕ
 head_of [] = 0
 head_of (x ∷ xs) = x
 
-abbrev tail_of : List ℕ → List ℕ
+abbrev pub tail_of : List ℕ → List ℕ
 tail_of [] = []
 tail_of (x ∷ xs) = xs
 
@@ -94,6 +96,50 @@ found-nth (k ∷ others) (suc nth) it rising there =
     ap (λ b. cond b (Some k) (kept_by others it.number)) (ne_eqb k.number it.number (λ e. absurd (omega (arith, e, above-nth others nth it k.number rising.0 there))))
     ∙ found-nth others nth it rising.1 there
 
+-- the nth snapshot, where its number is known
+pub record IsNth (kept : List Kept) (nth n : ℕ) : Type 0 where
+  pub it : Kept
+  pub there : slice_get kept nth ≡ Some it
+  pub number : it.number ≡ n
+
+pub is-nth : (kept : List Kept) (nth n : ℕ) → nth_number kept nth ≡ Some n → IsNth kept nth n
+is-nth kept nth n e = by (slice_get kept nth) refl e
+  where
+    by : (o : Option Kept) → slice_get kept nth ≡ o → option_map (λ it. it.number) o ≡ Some n → IsNth kept nth n
+    by None is e = absurd (false≢true (ap is_some e))
+    by (Some it) is e = record { it = it; there = is; number = ap (λ o. unwrap_or o it.number) e }
+
+module _ (joining : Joining) (kept : List Kept) (nth : ℕ) (in-front : numbers (is_joined_by joining) (drop nth kept) ≡ numbers (is_joined_by joining) kept) where
+  -- it is the first that passes
+  pub found-first : (n : ℕ) → AreRising kept → nth_number kept nth ≡ Some n → is_state_joined joining (state_of (kept_by kept n)) ≡ true
+      → Some n ≡ slice_get (numbers (is_joined_by joining) kept) 0
+  found-first n rising number told =
+      let here : IsNth kept nth n = is-nth kept nth n number in
+      let found : kept_by kept n ≡ Some here.it = subst (λ x. kept_by kept x ≡ Some here.it) here.number (found-nth kept nth here.it rising here.there) in
+      let passes : is_joined_by joining here.it ≡ true = sym (state-tells joining here.it) ∙ ap (λ o. is_state_joined joining (state_of o)) (sym found) ∙ told in
+      ap Some (sym here.number)
+      ∙ ap (λ b. slice_get (map (λ it. it.number) (cond b (here.it ∷ filter (is_joined_by joining) (drop (suc nth) kept)) (filter (is_joined_by joining) (drop (suc nth) kept)))) 0) (sym passes)
+      ∙ ap (λ xs. slice_get (numbers (is_joined_by joining) xs) 0) (sym (one-more kept nth here.it here.there))
+      ∙ ap (λ ns. slice_get ns 0) in-front
+
+  -- it does not pass
+  pub passed-by : (n : ℕ) → AreRising kept → nth_number kept nth ≡ Some n → is_state_joined joining (state_of (kept_by kept n)) ≡ false
+      → (numbers (is_joined_by joining) (drop (suc nth) kept) ≡ numbers (is_joined_by joining) kept) × (nth < length kept)
+  passed-by n rising number told =
+      let here : IsNth kept nth n = is-nth kept nth n number in
+      let found : kept_by kept n ≡ Some here.it = subst (λ x. kept_by kept x ≡ Some here.it) here.number (found-nth kept nth here.it rising here.there) in
+      let fails : is_joined_by joining here.it ≡ false = sym (state-tells joining here.it) ∙ ap (λ o. is_state_joined joining (state_of o)) (sym found) ∙ told in
+      (ap (λ b. map (λ it. it.number) (cond b (here.it ∷ filter (is_joined_by joining) (drop (suc nth) kept)) (filter (is_joined_by joining) (drop (suc nth) kept)))) (sym fails)
+      ∙ ap (numbers (is_joined_by joining)) (sym (one-more kept nth here.it here.there)) ∙ in-front, slice_get_within kept nth here.it here.there)
+
+  -- there are no more
+  pub none-first : nth_number kept nth ≡ None → None ≡ slice_get (numbers (is_joined_by joining) kept) 0
+  none-first none = ap (λ xs. slice_get (numbers (is_joined_by joining) xs) 0) (sym (past-end kept nth (nothing (slice_get kept nth) none))) ∙ ap (λ ns. slice_get ns 0) in-front
+    where
+      nothing : (o : Option Kept) → option_map (λ it. it.number) o ≡ None → o ≡ None
+      nothing None e = refl
+      nothing (Some it) e = absurd (false≢true (sym (ap is_some e)))
+
 -- ---- the first of them
 
 head-above : (test : Kept → Bool) (n m : ℕ) (kept : List Kept) (rest : List ℕ) → AreAbove n kept → numbers test kept ≡ m ∷ rest → n < m
@@ -114,6 +160,10 @@ first-joined joining n (k ∷ others) rest rising e = by (is_joined_by joining k
     by false is e later = ap (λ b. has_joined (cond b (Some k) (kept_by others n)))
         (ne_eqb k.number n (λ same. absurd (omega (arith, same, head-above (is_joined_by joining) k.number n others rest rising.0 e)))) ∙ later e
 
+none-above : (joining : Joining) (n : ℕ) (kept : List Kept) → AreAbove n kept → AllByRecursion (λ it. (it.number == n) ≡ true → is_joined_by joining it ≡ true) kept
+none-above joining n [] above = tt
+none-above joining n (it ∷ others) above = ((λ same. absurd (omega (arith, eqb-true it.number n same, above.0))), none-above joining n others above.1)
+
 -- the snapshot of this number passes the test, where one has it
 pub first-passes : (joining : Joining) (n : ℕ) (kept : List Kept) (rest : List ℕ) → AreRising kept → numbers (is_joined_by joining) kept ≡ n ∷ rest
     → AllByRecursion (λ it. (it.number == n) ≡ true → is_joined_by joining it ≡ true) kept
@@ -123,12 +173,8 @@ first-passes joining n (k ∷ others) rest rising e = by (is_joined_by joining k
     by : (b : Bool) → is_joined_by joining k ≡ b → map (λ it. it.number) (cond b (k ∷ filter (is_joined_by joining) others) (filter (is_joined_by joining) others)) ≡ n ∷ rest
         → (numbers (is_joined_by joining) others ≡ n ∷ rest → AllByRecursion (λ it. (it.number == n) ≡ true → is_joined_by joining it ≡ true) others)
         → ((k.number == n) ≡ true → is_joined_by joining k ≡ true) × AllByRecursion (λ it. (it.number == n) ≡ true → is_joined_by joining it ≡ true) others
-    by true is e later = ((λ same. is), none-above others (subst (λ x. AreAbove x others) (ap head_of e) rising.0))
+    by true is e later = ((λ same. is), none-above joining n others (subst (λ x. AreAbove x others) (ap head_of e) rising.0))
     by false is e later = ((λ same. absurd (omega (arith, eqb-true k.number n same, head-above (is_joined_by joining) k.number n others rest rising.0 e))), later e)
-
-    none-above : (kept : List Kept) → AreAbove n kept → AllByRecursion (λ it. (it.number == n) ≡ true → is_joined_by joining it ≡ true) kept
-    none-above [] above = tt
-    none-above (it ∷ others) above = ((λ same. absurd (omega (arith, eqb-true it.number n same, above.0))), none-above others above.1)
 
 -- a leaf that was copied is not joined
 copied-unjoined : (joining : Joining) (before after : ℕ) (old new : Kept) → IsLeafCopied true before after old.leaf new.leaf → is_joined_by joining new ≡ false
@@ -186,3 +232,13 @@ numbers-alike joining name [] (m ∷ ms) alike = absurd alike
 numbers-alike joining name (v ∷ vs) [] alike = absurd alike
 numbers-alike joining name (v ∷ vs) (m ∷ ms) alike = same-head joining v m vs ms (sym alike.0.number) (same-test joining v m (sym alike.0.mode) (sym alike.0.leaf))
     (numbers-alike joining name vs ms alike.1)
+
+-- ---- lists of numbers
+
+pub head-is : (ns : List ℕ) (n : ℕ) → Some n ≡ slice_get ns 0 → ns ≡ n ∷ tail_of ns
+head-is [] n e = absurd (false≢true (sym (ap is_some e)))
+head-is (m ∷ ns) n e = ap (λ o. unwrap_or o n ∷ ns) (sym e)
+
+pub none-is : (ns : List ℕ) → None ≡ slice_get ns 0 → ns ≡ []
+none-is [] e = refl
+none-is (m ∷ ns) e = absurd (false≢true (ap is_some e))

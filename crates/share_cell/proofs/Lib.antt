@@ -1,3 +1,4 @@
 mod CopiedLeaves
 mod OneLeaf
 mod JoinedNumbers
+mod SomeLeaves
