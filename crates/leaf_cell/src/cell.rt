@@ -1,5 +1,5 @@
 //! A cell, and what is read of it.
-ghost use Rattle.std.specs.Prelude.{◌≡◌, ◌+◌, ◌<◌, ◌≤◌, ℕ, length, IfOk, Ok, Err, OnOk, OnErr, IfErr, replicate, None, Some, is_some, count_by, true};
+ghost use Rattle.std.specs.Prelude.{◌≡◌, ◌+◌, ◌<◌, ◌≤◌, ℕ, length, IfOk, Ok, Err, OnOk, OnErr, IfErr, replicate, None, Some, is_some, count_by, false, true};
 ghost use Rattle.std.specs.FinMap.{get};
 ghost use Rattle.kernel_meaning.specs.Leaves.{AreRising, has_pages, has_present, kept_by, version_at};
 ghost use Rattle.kernel_meaning.specs.CellAccount.{CellAccount, empty_account, account_share};
@@ -8,7 +8,7 @@ ghost use Rattle.leaf_cell.specs.Writable.{writable_at};
 ghost use Rattle.leaf_cell.specs.Permissions.{is_unshared};
 ghost use Rattle.leaf_cell.specs.Touching.{IsAlone};
 ghost use Rattle.leaf_cell.specs.Standing.{StandsFor, IsSnapRead};
-ghost use Rattle.leaf_cell.specs.States.{has_joined, state_of, nth_number, snapshot_part};
+ghost use Rattle.leaf_cell.specs.States.{state_of, nth_number, snapshot_part};
 
 use crate::frame_places::FramePlaces;
 use crate::leaf_table::{CELL_PAGES, LeafTable};
@@ -94,9 +94,6 @@ impl Cell {
     /// What the snapshot has here.
     pub fn state(&self, number: u32) -> LeafState
         ensures state { result ≡ state_of (kept_by self.now.leaves.kept number) }
-
-        // A leaf that is joined is the parent's, which is there.
-        ensures parent { has_joined (kept_by self.now.leaves.kept number) ≡ true → has_pages self.now.leaves.parent ≡ true }
         ensures account { (account : CellAccount) → StandsFor self.now account → result ≡ state_of (kept_by account.state.leaves.kept number) }
     {
         match &self.snapshot {
@@ -125,6 +122,9 @@ impl Cell {
     /// Whether the parent has a page here. It reads no entry: a leaf table that is there has one.
     pub fn has_pages(&self) -> bool
         ensures pages { result ≡ has_pages self.now.leaves.parent }
+
+        // A leaf that is joined is the parent's table, which is there.
+        ensures unjoined { has_pages self.now.leaves.parent ≡ false → AreUnjoined self.now.leaves.kept }
         ensures account { (account : CellAccount) → StandsFor self.now account → result ≡ has_pages account.state.leaves.parent }
     {
         self.parent.is_some()
