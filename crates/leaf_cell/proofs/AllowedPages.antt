@@ -114,6 +114,7 @@ inside-allowed may first n (Some table) snapshot frames inside = record {
     size = length-with_writable (λ p. may && is_apart (own_places snapshot) table.places p) first n table.writable;
     apart = apart-allowed may (own_places snapshot) first n table inside.writable.apart;
   };
+  joined = λ is. refl;
 }
 
 -- who has a leaf of its own and names a version names it

@@ -22,7 +22,7 @@ use Rattle.leaf_cell.specs.Places.{TableView, without_entries}
 use Rattle.leaf_cell.specs.Writable.{none_writable, writable_at, without_writable}
 use Rattle.leaf_cell.specs.CellView.{CellView, AreUnjoined, held_of, bytes_in, parent_page}
 use Rattle.leaf_cell.specs.Clearing.{gone_if, IsLeft}
-use Rattle.leaf_cell.specs.Inside.{AreInside, IsPlaceOf, table_of, table_places, table_writable, own_places, is_apart, snapshot_places, leaf_value, kept_value, kept_values, cell_value}
+use Rattle.leaf_cell.specs.Inside.{AreInside, IsPlaceOf, table_of, table_places, table_writable, own_places, is_apart, is_joined_here, snapshot_places, leaf_value, kept_value, kept_values, cell_value}
 use Rattle.leaf_cell.specs.Releasing.{Releasing}
 use Rattle.leaf_cell.specs.Renaming.{AreKeptAlike, IsNamedBy, IsLive, IsRenaming}
 use Rattle.leaf_cell.specs.Standing.{StandsFor, TakesAccount, MadeAct}
@@ -59,6 +59,11 @@ found-own places (Some it) n kept unjoined found unlost = by (it.number == n) fo
         ap (λ k. k.versions) (sym same) ∙ own_versions places it.leaf unjoined.0 (ap (λ k. is_lost k.leaf) same ∙ unlost)
     by false e = absurd (false≢true (ap is_some e))
 
+-- where no leaf is joined the snapshot's is not
+never-joined : (places : Versions) (snapshot : Option Snapshot) → AreUnjoined (kept_values places snapshot) → is_joined_here snapshot ≡ false
+never-joined places None unjoined = refl
+never-joined places (Some it) unjoined = unjoined.0
+
 get-beyond : (pages : PageMap) (first n p : ℕ) → get (retain_keys pages (is_beyond first n)) p ≡ cond (is_beyond first n p) (get pages p) None
 get-beyond pages first n p = get-retain_keys pages (is_beyond first n) p (λ x same. ap (is_beyond first n) (sym (exact_unsigned p x same)))
 
@@ -68,7 +73,8 @@ one-table false = refl
 
 module _ {State : Type 0} (goes : State → Deal → State → Type 0) (from middle to : State) (parent : Option TableView) (snapshot : Option Snapshot) (frames new : List (Option FrameView)) (next : Option TableView) (first n : ℕ)
     (inside : AreInside parent snapshot frames) (there : is_some parent ≡ true) (fits : first + n ≤ 512)
-    (released : Releasing goes from middle (table_places parent) (own_places snapshot) frames new first (first + n)) (left : IsLeft goes middle to (table_of parent) first n next) where
+    (released : Releasing goes from middle (table_places parent) (own_places snapshot) frames new first (first + n)) (left : IsLeft goes middle to (table_of parent) first n next)
+    (unjoined : AreUnjoined (kept_values (table_places parent) snapshot)) where
   abbrev places : Versions
   places = table_places parent
 
@@ -164,6 +170,7 @@ module _ {State : Type 0} (goes : State → Deal → State → Type 0) (from mid
     parent_size = ap length next_places ∙ length-without places first n fits-table ∙ inside.parent_size;
     own_size = inside.own_size;
     writable = record { size = ap length next_writable ∙ length-with_writable (λ page. false) first n (table_writable parent); apart = next_apart };
+    joined = λ is. absurd (false≢true (sym (never-joined places snapshot unjoined) ∙ is));
   }
     where
       by : (table : TableView) (b : Bool) → has_pages rest ≡ b → cond b (Some (without_entries (table_of parent) first n)) None ≡ Some table → has_pages table.places ≡ true
@@ -181,15 +188,15 @@ module _ {State : Type 0} (goes : State → Deal → State → Type 0) (from mid
   less = omega (arith, released.taken, sym (held-share parent snapshot frames inside), sym (held-share next snapshot new inside-cleared), one-table (is_some next), table_counts)
 
   -- the frames that the cell holds afterwards
-  pub held-cleared : AreUnjoined (kept_values places snapshot) → (out between then : ℕ) → between + count_by is_some frames ≡ out + count_by is_some new → then + gone_if next ≡ between
+  pub held-cleared : (out between then : ℕ) → between + count_by is_some frames ≡ out + count_by is_some new → then + gone_if next ≡ between
       → then + held_of before ≡ out + held_of after
-  held-cleared unjoined out between then pages table =
+  held-cleared out between then pages table =
       let old : parent_leaves before.leaves ≡ 1 = ap (λ b. cond b 1 0) (old-leaf parent snapshot frames inside) ∙ table_counts in
       let now : ◌≡◌ {A = ℕ} (parent_leaves after.leaves) (cond (is_some next) 1 0) = ap (λ b. cond b 1 0) (old-leaf next snapshot new inside-cleared) in
       let own : own_leaves after.leaves ≡ own_leaves before.leaves = ap (count_by (λ it. is_own it.leaf)) (kept-unjoined places (table_places next) snapshot unjoined) in
       omega (arith, pages, table, old, now, own, one-table (is_some next))
 
-  module _ (unjoined : AreUnjoined (kept_values places snapshot)) (present : has_present places first n ≡ true) where
+  module _ (present : has_present places first n ≡ true) where
     same_kept : after.leaves.kept ≡ before.leaves.kept
     same_kept = kept-unjoined places (table_places next) snapshot unjoined
 

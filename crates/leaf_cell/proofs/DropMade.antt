@@ -159,6 +159,7 @@ inside-dropped goes from to parent it frames new tables inside released = record
     size = inside.writable.size;
     apart = λ page may. apart-alone (own_places (Some it)) (table_places parent) page (inside.writable.apart page may);
   };
+  joined = λ is. absurd (false≢true is);
 }
 
 pub bytes-kept : (old new : List (Option FrameView)) (o : Option ℕ) → ((q : ℕ) → o ≡ Some q → slice_index_or new q None ≡ slice_index_or old q None) → bytes_in new o ≡ bytes_in old o

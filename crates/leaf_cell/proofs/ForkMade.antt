@@ -10,7 +10,7 @@ use Rattle.vm_base.specs.declared.frame_request.Want.TheVariants as want
 use Rattle.vm_base.specs.Deals.{Granted, Denied}
 use Rattle.vm_base.specs.Frames.{FrameView}
 use Rattle.vm_base.proofs.NumberedMaps.{get_inserted_here}
-use Rattle.kernel_meaning.specs.Leaves.{Versions, no_versions, version_at, Leaf, Own, Joined, Kept, CellLeaves, kept_by, with_kept}
+use Rattle.kernel_meaning.specs.Leaves.{Versions, no_versions, version_at, has_pages, is_joined, Leaf, Own, Joined, Kept, CellLeaves, kept_by, with_kept}
 use Rattle.kernel_meaning.specs.CellAccount.{Fork, CellAccount}
 use Rattle.leaf_cell.specs.declared.snapshot.Snapshot.{Snapshot}
 use Rattle.leaf_cell.specs.declared.snapshot.SnapshotLeaf.TheVariants as code
@@ -18,7 +18,7 @@ use Rattle.leaf_cell.specs.Places.{TableView}
 use Rattle.leaf_cell.specs.CellView.{CellView, kept_page}
 use Rattle.leaf_cell.specs.Writable.{none_writable, writable_at}
 use Rattle.leaf_cell.proofs.WritablePages.{never-writable}
-use Rattle.leaf_cell.specs.Inside.{AreInside, table_of, table_places, table_writable, own_places, kept_value, kept_values, cell_value}
+use Rattle.leaf_cell.specs.Inside.{AreInside, table_of, table_places, table_writable, own_places, leaf_value, kept_value, kept_values, cell_value}
 use Rattle.leaf_cell.specs.Renaming.{AreKeptAlike, IsLive, IsRenaming}
 use Rattle.leaf_cell.specs.Standing.{StandsFor, TakesAccount}
 use Rattle.leaf_cell.proofs.NewCell.{none_is_not_some}
@@ -121,11 +121,16 @@ module _ (view : CellView) (account : CellAccount) (stands : StandsFor view acco
   fork-lazy alone OnDemand lazy seat = record { allowed = allowed-stands view account stands (Fork n OnDemand seat); stands = stands_forked OnDemand Joined view account stands n alone account.made (omega arith); asked = refl; ended = refl }
   fork-lazy alone Async lazy seat = record { allowed = allowed-stands view account stands (Fork n Async seat); stands = stands_forked Async Joined view account stands n alone account.made (omega arith); asked = refl; ended = refl }
 
+-- where the parent has a page there is its table
+table-of-pages : (parent : Option TableView) → has_pages (table_places parent) ≡ true → is_some parent ≡ true
+table-of-pages None present = absurd (false≢true present)
+table-of-pages (Some table) present = refl
+
 -- the order of a cell whose one snapshot has the parent's table
 pub inside-lazy : (parent : Option TableView) (snapshot : Option Snapshot) (frames : List (Option FrameView)) (n : ℕ) (mode : Mode) → AreInside parent snapshot frames
-    → kept_values (table_places parent) snapshot ≡ [] → AreInside parent (Some (record { number = n; mode = mode; leaf = code.Joined })) frames
-inside-lazy parent (Some other) frames n mode inside alone = absurd (not_nil (kept_value (table_places parent) other) [] alone)
-inside-lazy parent None frames n mode inside alone = record {
+    → kept_values (table_places parent) snapshot ≡ [] → has_pages (table_places parent) ≡ true → AreInside parent (Some (record { number = n; mode = mode; leaf = code.Joined })) frames
+inside-lazy parent (Some other) frames n mode inside alone present = absurd (not_nil (kept_value (table_places parent) other) [] alone)
+inside-lazy parent None frames n mode inside alone present = record {
   room = inside.room;
   parent_home = inside.parent_home;
   own_home = inside.own_home;
@@ -134,6 +139,7 @@ inside-lazy parent None frames n mode inside alone = record {
   parent_size = inside.parent_size;
   own_size = inside.own_size;
   writable = inside.writable;
+  joined = λ is. table-of-pages parent present;
 }
 
 -- the order of a cell whose snapshot gets a table of its own
@@ -156,6 +162,7 @@ inside-own parent snapshot frames it inside without leaf none =
         size = inside.writable.size;
         apart = λ page may. absurd (false≢true (sym (ap (λ ws. writable_at ws page) none ∙ never-writable page) ∙ may));
       };
+      joined = λ is. absurd (false≢true (sym (ap (λ l. is_joined (leaf_value l)) leaf) ∙ is));
     }
 
 -- the order of the cell afterwards

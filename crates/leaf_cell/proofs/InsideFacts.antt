@@ -1,19 +1,19 @@
 -- What the order of tables and frames in a cell gives.
 use Rattle.std.proofs.Common.{◌≡◌, ℕ, zero, suc, ◌+◌, ◌<◌, List, [], ◌∷◌, length, Option, Some, None, refl, sym, ◌∙◌, ap, arith, inl, inr, ◌⊎◌}
-use Rattle.std.specs.Prelude.{is_some, IsSome, true, false, cond, unwrap_or, slice_set, slice_index_or, count_by}
+use Rattle.std.specs.Prelude.{Bool, is_some, IsSome, true, false, cond, unwrap_or, slice_set, slice_index_or, count_by}
 use Rattle.std.proofs.lemmas.Bool.{cases_lt, false≢true}
 use Rattle.std.proofs.lemmas.List.{get_or_past}
 use Rattle.std.proofs.lemmas.List.Sums.{sum_by-set}
 use Rattle.vm_base.specs.Frames.{FrameView}
-use Rattle.kernel_meaning.specs.Leaves.{Versions, no_versions, version_at, has_pages, is_lost}
+use Rattle.kernel_meaning.specs.Leaves.{Versions, no_versions, version_at, has_pages, is_joined, is_lost}
 use Rattle.leaf_cell.specs.declared.snapshot.Snapshot.{Snapshot}
 use Rattle.leaf_cell.specs.declared.snapshot.SnapshotLeaf.{SnapshotLeaf}
 use Rattle.leaf_cell.specs.declared.snapshot.SnapshotLeaf.TheVariants as code
 use Rattle.leaf_cell.specs.Places.{TableView}
-use Rattle.leaf_cell.specs.Inside.{AreInside, IsPlaceOf, table_places, own_places, snapshot_places, leaf_value, cell_value}
+use Rattle.leaf_cell.specs.Inside.{AreInside, IsPlaceOf, is_joined_here, table_places, own_places, snapshot_places, leaf_value, kept_values, cell_value}
 use Rattle.leaf_cell.specs.Releasing.{AreHome}
 use Rattle.std.specs.Option.{option_map}
-use Rattle.leaf_cell.specs.CellView.{parent_page, bytes_in}
+use Rattle.leaf_cell.specs.CellView.{AreUnjoined, parent_page, bytes_in}
 use Rattle.leaf_cell.proofs.NewCell.{none_is_not_some}
 use Rattle.leaf_cell.proofs.NewVersion.{AreFilled}
 
@@ -105,3 +105,13 @@ count-filled frames place frame inside free =
     sum_by-set (λ o. cond (is_some o) 1 0) frames place (Some frame) None inside in
     let none : ◌≡◌ {A = ℕ} (cond (is_some (slice_index_or frames place None)) 1 0) 0 = ap (λ o. cond (is_some o) 1 0) free in
     omega (arith, moved, none)
+
+-- where there is no table of the parent's no leaf is joined
+pub none-joined : (parent : Option TableView) (snapshot : Option Snapshot) → (is_joined_here snapshot ≡ true → is_some parent ≡ true) → is_some parent ≡ false
+    → AreUnjoined (kept_values (table_places parent) snapshot)
+none-joined parent None joined none = tt
+none-joined parent (Some it) joined none = (by (is_joined (leaf_value it.leaf)) joined, tt)
+  where
+    by : (b : Bool) → (b ≡ true → is_some parent ≡ true) → b ≡ false
+    by true there = absurd (false≢true (sym none ∙ there refl))
+    by false there = refl

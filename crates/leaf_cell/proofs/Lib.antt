@@ -10,6 +10,7 @@ pub mod InsideFacts
 pub mod WholeCells
 pub mod PutPage
 pub mod TouchActs
+pub mod TouchRuns
 pub mod TouchMade
 pub mod PresentPage
 pub mod OpenedPlaces
@@ -33,4 +34,5 @@ pub mod AllowedActs
 pub mod AllowedPages
 pub mod ProtectMade
 pub mod LeafLost
+pub mod LeafForgotten
 pub mod LeafOwned

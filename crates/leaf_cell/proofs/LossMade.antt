@@ -96,6 +96,7 @@ module _ {State : Type 0} (goes : State → Deal → State → Type 0) (from to 
         parent_size = gone.parent_size;
         own_size = gone.own_size;
         writable = gone.writable;
+        joined = λ is. absurd (false≢true is);
       }
 
   -- as many frames go back as the share shrinks by

@@ -46,6 +46,7 @@ inside_new frames is = record {
   parent_size = length-replicate {A = Option ℕ} 512 None;
   own_size = length-replicate {A = Option ℕ} 512 None;
   writable = record { size = length-replicate {A = Bool} 512 false; apart = λ page may. absurd (false≢true (sym (never-writable page) ∙ may)) };
+  joined = λ is. absurd (false≢true is);
 }
 
 -- no version lives in a cell that nobody has

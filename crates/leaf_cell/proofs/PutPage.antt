@@ -109,6 +109,7 @@ module _ (parent : Option TableView) (snapshot : Option Snapshot) (frames : List
     parent_size = ap length put.named ∙ length-set (table_places parent) page (Some put.place) ∙ inside.parent_size;
     own_size = inside.own_size;
     writable = record { size = ap length set ∙ length-set (table_writable parent) page true ∙ inside.writable.size; apart = new_apart set };
+    joined = λ is. there;
   }
 
   pub count_put : count_by is_some new ≡ count_by is_some frames + 1

@@ -118,6 +118,7 @@ module _ (parent : Option TableView) (snapshot : Option Snapshot) (frames : List
     parent_size = inside.parent_size;
     own_size = inside.own_size;
     writable = inside.writable;
+    joined = inside.joined;
   }
 
   -- as many frames

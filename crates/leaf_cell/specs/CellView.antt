@@ -12,6 +12,10 @@ pub record CellView : Type 0 where
   pub frames : List (Option FrameView)
   pub writable : List Bool
 
+-- so many snapshots have a cell at one time, at most
+abbrev pub most_kept : ℕ
+most_kept = 1
+
 -- a cell that nobody has: room for two frames of each page
 abbrev pub new_view : CellView
 new_view = record { leaves = unused_cell; frames = replicate 1024 None; writable = none_writable }

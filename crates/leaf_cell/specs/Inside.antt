@@ -1,8 +1,8 @@
 -- What lies in a cell: its tables and its frames, and where they are.
-use Rattle.std.specs.Prelude.{◌≡◌, ℕ, ◌+◌, ◌<◌, ◌⊎◌, Bool, true, not, ◌&&◌, nat_eq, List, [], ◌∷◌, length, Option, Some, None, is_some, IsSome, slice_index_or}
+use Rattle.std.specs.Prelude.{◌≡◌, ℕ, ◌+◌, ◌<◌, ◌⊎◌, Bool, true, false, not, ◌&&◌, nat_eq, List, [], ◌∷◌, length, Option, Some, None, is_some, IsSome, slice_index_or}
 use Rattle.std.specs.Option.{option_eq}
 use Rattle.vm_base.specs.Frames.{FrameView}
-use Rattle.kernel_meaning.specs.Leaves.{Versions, no_versions, version_at, has_pages, Leaf, Own, Joined, Lost, Kept}
+use Rattle.kernel_meaning.specs.Leaves.{Versions, no_versions, version_at, has_pages, Leaf, Own, Joined, Lost, is_joined, Kept}
 use Rattle.leaf_cell.specs.declared.snapshot.Snapshot.{Snapshot}
 use Rattle.leaf_cell.specs.declared.snapshot.SnapshotLeaf.{SnapshotLeaf}
 use Rattle.leaf_cell.specs.declared.snapshot.SnapshotLeaf.TheVariants as code
@@ -62,6 +62,11 @@ abbrev pub own_places : Option Snapshot → Versions
 own_places None = no_versions
 own_places (Some snapshot) = snapshot_places no_versions snapshot.leaf
 
+-- the snapshot's table is the parent's
+abbrev pub is_joined_here : Option Snapshot → Bool
+is_joined_here None = false
+is_joined_here (Some snapshot) = is_joined (leaf_value snapshot.leaf)
+
 -- a page has one of two places of its own
 abbrev pub IsPlaceOf : ℕ → ℕ → Type 0
 IsPlaceOf page place = (place ≡ page) ⊎ (place ≡ page + 512)
@@ -91,3 +96,4 @@ pub record AreInside (parent : Option TableView) (snapshot : Option Snapshot) (f
   pub parent_size : length (table_places parent) ≡ 512
   pub own_size : length (own_places snapshot) ≡ 512
   pub writable : AreWritable parent (own_places snapshot)
+  pub joined : is_joined_here snapshot ≡ true → is_some parent ≡ true

@@ -13,3 +13,4 @@ pub mod Clearing
 pub mod Touching
 pub mod Permissions
 pub mod Codes
+pub mod Courses

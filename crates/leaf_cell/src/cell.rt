@@ -1,9 +1,9 @@
 //! A cell, and what is read of it.
-ghost use Rattle.std.specs.Prelude.{◌≡◌, ◌+◌, ◌<◌, ◌≤◌, ℕ, length, IfOk, Ok, Err, OnOk, OnErr, IfErr, replicate, None, Some, is_some, count_by, true};
+ghost use Rattle.std.specs.Prelude.{◌≡◌, ◌+◌, ◌<◌, ◌≤◌, ℕ, length, IfOk, Ok, Err, OnOk, OnErr, IfErr, replicate, None, Some, is_some, count_by, false, true};
 ghost use Rattle.std.specs.FinMap.{get};
-ghost use Rattle.kernel_meaning.specs.Leaves.{has_pages, has_present, kept_by, version_at};
+ghost use Rattle.kernel_meaning.specs.Leaves.{AreRising, has_pages, has_present, kept_by, version_at};
 ghost use Rattle.kernel_meaning.specs.CellAccount.{CellAccount, empty_account, account_share};
-ghost use Rattle.leaf_cell.specs.CellView.{new_view, parent_page, part_of, held_of, AreUnjoined};
+ghost use Rattle.leaf_cell.specs.CellView.{new_view, parent_page, part_of, held_of, most_kept, AreUnjoined};
 ghost use Rattle.leaf_cell.specs.Writable.{writable_at};
 ghost use Rattle.leaf_cell.specs.Permissions.{is_unshared};
 ghost use Rattle.leaf_cell.specs.Touching.{IsAlone};
@@ -122,6 +122,9 @@ impl Cell {
     /// Whether the parent has a page here. It reads no entry: a leaf table that is there has one.
     pub fn has_pages(&self) -> bool
         ensures pages { result ≡ has_pages self.now.leaves.parent }
+
+        // A leaf that is joined is the parent's table, which is there.
+        ensures unjoined { has_pages self.now.leaves.parent ≡ false → AreUnjoined self.now.leaves.kept }
         ensures account { (account : CellAccount) → StandsFor self.now account → result ≡ has_pages account.state.leaves.parent }
     {
         self.parent.is_some()
@@ -163,6 +166,8 @@ impl Cell {
     /// The number of the nth snapshot here, counted from 0 in rising order.
     pub fn snap(&self, nth: u32) -> Option<u32>
         ensures nth { result ≡ nth_number self.now.leaves.kept nth }
+        ensures rising { AreRising self.now.leaves.kept }
+        ensures few { length self.now.leaves.kept ≤ most_kept }
         ensures account { (account : CellAccount) → StandsFor self.now account → result ≡ nth_number account.state.leaves.kept nth }
     {
         match &self.snapshot {

@@ -5,8 +5,8 @@ ghost use Rattle.vm_base.specs.declared.fork_mode.Mode.TheVariants as modes;
 ghost use Rattle.kernel_meaning.specs.Requests.{Yes, No};
 ghost use Rattle.kernel_meaning.specs.Leaves.{has_pages, kept_by, Own, Joined};
 ghost use Rattle.kernel_meaning.specs.CellActs.{leaf_copy_answered, with_fork, with_leaf_where, is_number};
-ghost use Rattle.kernel_meaning.specs.CellAccount.{CellAccount, Fork};
-ghost use Rattle.leaf_cell.specs.CellView.{held_of};
+ghost use Rattle.kernel_meaning.specs.CellAccount.{CellAccount, Fork, Unmark};
+ghost use Rattle.leaf_cell.specs.CellView.{held_of, without_snapshot};
 ghost use Rattle.leaf_cell.specs.Losing.{IsLost};
 ghost use Rattle.leaf_cell.specs.Standing.{StandsFor, TakesAccount, TakesPart, MadePart};
 ghost use Rattle.leaf_cell.specs.States.{has_leaf, has_joined, with_own};
@@ -55,6 +55,19 @@ impl Cell {
         }
     }
 
+    /// Takes a snapshot out whose leaf is the parent's, as where its fork is taken back. Nothing is
+    /// given back.
+    pub fn forget(&mut self, number: u32)
+        requires joined { has_joined (kept_by self.old.leaves.kept number) ≡ true }
+        ensures unmarked { (account : CellAccount) → StandsFor self.old account → TakesAccount (Unmark number) self.old self.new [] None account }
+        ensures cell { self.new ≡ record self.old { leaves = without_snapshot number self.old.leaves } }
+        ensures held { held_of self.new ≡ held_of self.old }
+    {
+        if is_snapshot(&self.snapshot, number) {
+            take_out(&mut self.snapshot);
+        }
+    }
+
     /// A snapshot loses the cell at this count of refused requests. Its own table and the frames
     /// that it alone names go back; a leaf that is the parent's leaves nothing to give back.
     pub fn lose<A: Allot>(&mut self, number: u32, at: u64, allot: &mut A)
@@ -87,4 +100,11 @@ fn own_joined(snapshot: &mut Option<Snapshot>, parent: &Option<LeafTable>, frame
     if let Some(snapshot) = snapshot {
         snapshot.leaf = SnapshotLeaf::Own(own_table(frame, parent));
     }
+}
+
+/// No snapshot is there any more.
+fn take_out(snapshot: &mut Option<Snapshot>)
+    ensures { snapshot.new ≡ None }
+{
+    let _gone = snapshot.take();
 }

@@ -21,7 +21,7 @@ use Rattle.leaf_cell.proofs.Releases.{replicate-both}
 use Rattle.table_levels.specs.Requests.{returned}
 use Rattle.page_tables.specs.Clearing.{cell_without, cell_unmapped}
 use Rattle.page_tables.specs.Courses.{progress_between, Runs}
-use Rattle.page_tables.proofs.TouchRuns.{answers-returned}
+use Rattle.leaf_cell.proofs.TouchRuns.{answers-returned}
 
 -- the frames that a cell gives back with these pages
 abbrev pub share_freed : ℕ → ℕ → CellLeaves → ℕ

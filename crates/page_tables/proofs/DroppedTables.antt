@@ -29,7 +29,7 @@ use Rattle.page_tables.specs.Held.{shares_in}
 use Rattle.page_tables.specs.Standing.{owner_at, state_in, AreKept, AreCellsOf, AreSlotsOf, StandFor, living_number}
 use Rattle.page_tables.specs.Forking.{AllBecome, Becomes, AreFreed, owner_if_used, dropped_state, snapshots_without, MadeOfSnapshots}
 use Rattle.page_tables.specs.Returning.{Returning}
-use Rattle.page_tables.proofs.TouchRuns.{answers-returned}
+use Rattle.leaf_cell.proofs.TouchRuns.{answers-returned}
 use Rattle.page_tables.proofs.LeafMap.{same_number}
 use Rattle.page_tables.proofs.HeldFrames.{frames-law}
 use Rattle.page_tables.proofs.ForkSlots.{stands-alone, alone-viewed, pages-alike}

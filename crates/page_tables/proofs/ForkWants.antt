@@ -12,7 +12,7 @@ use Rattle.kernel_meaning.specs.EventRequests as event
 use Rattle.kernel_meaning.specs.EventRequests.{Progress, FrameRefusal, fork_wants, fork_answered, snapshot_forked, with_fork_at}
 use Rattle.table_levels.specs.Requests.{directory_wants, granted, returned}
 use Rattle.page_tables.specs.Courses.{requests_between, progress_between, Runs}
-use Rattle.page_tables.proofs.TouchRuns.{answers-append, answers-returned}
+use Rattle.leaf_cell.proofs.TouchRuns.{answers-append, answers-returned}
 use Rattle.page_tables.proofs.Rows.{row-granted, row-refused, deals_up_to}
 
 -- a directory wants as many tables as it takes

@@ -26,7 +26,7 @@ use Rattle.page_tables.specs.Courses.{requests_between, course_between, progress
 use Rattle.page_tables.specs.Standing.{owner_at, state_in, StandFor, TablesStandFor}
 use Rattle.page_tables.specs.Accesses.{IsPageReady}
 use Rattle.page_tables.specs.Making.{page_refusal, pages_with, Follows, FollowsTouch}
-use Rattle.page_tables.proofs.TouchRuns.{touch-runs}
+use Rattle.leaf_cell.proofs.TouchRuns.{touch-runs}
 use Rattle.page_tables.proofs.TouchShapes.{IsTouchCourse, EndsTouch, touch-course, touch-size, touch-unjoined, touch-numbers, page-there}
 use Rattle.page_tables.proofs.LeafMap.{found-with_cell, length-with_cell, cell_at-here, cell_at-apart}
 use Rattle.page_tables.proofs.Missing.{missing-known}

@@ -1,4 +1,3 @@
-mod TouchRuns
 pub mod LeafMap
 mod SlotLemmas
 mod Acting

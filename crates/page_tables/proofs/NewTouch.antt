@@ -29,7 +29,7 @@ use Rattle.page_tables.specs.Courses.{course_between, RunsAt, Runs}
 use Rattle.page_tables.specs.Standing.{owner_at, state_in, StandFor, TablesStandFor, IsSlotFor}
 use Rattle.page_tables.specs.Accesses.{IsPageReady}
 use Rattle.page_tables.specs.Making.{pages_with, Follows, FollowsTouch}
-use Rattle.page_tables.proofs.TouchRuns.{touch-runs}
+use Rattle.leaf_cell.proofs.TouchRuns.{touch-runs}
 use Rattle.page_tables.proofs.TouchShapes.{IsTouchCourse, EndsTouch, touch-course, touch-size, touch-unjoined, touch-numbers, page-there}
 use Rattle.page_tables.proofs.LeafMap.{found-with_cell, length-with_cell, cell_at-here, cell_at-apart}
 use Rattle.page_tables.proofs.PageMaps.{with_page-inside, with_page-outside}

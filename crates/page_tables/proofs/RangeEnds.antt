@@ -31,7 +31,7 @@ use Rattle.page_tables.proofs.PageMaps.{present_or_zeros, with_page-apart, with_
 use Rattle.page_tables.proofs.RangeRoom.{among-range}
 use Rattle.page_tables.proofs.RangeSteps.{sides_then, before-page, get-with_pages_above}
 use Rattle.page_tables.proofs.WithoutPages.{version-left, ready-left}
-use Rattle.page_tables.proofs.TouchRuns.{answers-append, answers-returned}
+use Rattle.leaf_cell.proofs.TouchRuns.{answers-append, answers-returned}
 
 -- ---- what is left of the sides
 

@@ -19,7 +19,7 @@ use Rattle.page_tables.specs.Standing.{TablesStandFor}
 use Rattle.page_tables.specs.Accesses.{IsPageReady}
 use Rattle.page_tables.specs.Making.{FollowsTouch}
 use Rattle.page_tables.specs.Ranges.{cells_of_pages, absent_pages, IsTouchedUpTo, FollowsRange}
-use Rattle.page_tables.proofs.TouchRuns.{answers-append}
+use Rattle.leaf_cell.proofs.TouchRuns.{answers-append}
 use Rattle.page_tables.proofs.PageMaps.{with_page-apart}
 use Rattle.page_tables.proofs.RangeRoom.{is_among, page-among, room-then}
 

@@ -11,7 +11,7 @@ use Rattle.kernel_meaning.specs.CellActs.{course_touched}
 use Rattle.kernel_meaning.specs.EventRequests.{Progress, page_touched, missing_tables, tables_answered, cell_touch_ended, with_course}
 use Rattle.table_levels.specs.Requests.{granted, returned}
 use Rattle.page_tables.specs.Courses.{requests_between, progress_between, RunsAt, Runs}
-use Rattle.page_tables.proofs.TouchRuns.{answers-append, answers-returned}
+use Rattle.leaf_cell.proofs.TouchRuns.{answers-append, answers-returned}
 use Rattle.page_tables.proofs.KnownTouch.{refusal_at}
 
 -- a row that is granted whole

@@ -22,7 +22,7 @@ use Rattle.page_tables.specs.Courses.{progress_between}
 use Rattle.page_tables.specs.Making.{Follows, MadeEvent}
 use Rattle.page_tables.specs.Clearing.{cell_without, sides_without, pages_without, has_some, IsOutOf}
 use Rattle.page_tables.specs.Standing.{TablesStandFor}
-use Rattle.page_tables.proofs.TouchRuns.{answers-append}
+use Rattle.leaf_cell.proofs.TouchRuns.{answers-append}
 use Rattle.page_tables.proofs.LeafMap.{cell_at-here}
 use Rattle.page_tables.proofs.GoneCell.{cell_at-gone}
 use Rattle.page_tables.proofs.ClearedCell.{get-retained, beyond-within, beyond-outside}

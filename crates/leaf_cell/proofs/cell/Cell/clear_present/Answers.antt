@@ -33,6 +33,7 @@ invariant_of-self g c = inside-cleared g.A.Allot.goes (g.A.Allot.state c.args.al
     c.self.inside.parent c.self.inside.snapshot c.self.inside.frames c.release_range.new.frames c.clear_table.new.parent c.args.first c.args.pages c.self.invariant
     (table-there c.self.inside.parent c.args.first c.args.pages (ap (λ view. has_present view.leaves.parent c.args.first c.args.pages) c.self.view_is ∙ c.requires.present))
     c.requires.range c.release_range.ensures.released c.clear_table.ensures.left
+    (subst (λ view. AreUnjoined view.leaves.kept) (sym c.self.view_is) c.requires.unjoined)
 
 pub returns-clause-held : goal.returns-clause-held
 returns-clause-held g c =
@@ -70,4 +71,5 @@ returns-clause-writable g c =
     c.self.inside.parent c.self.inside.snapshot c.self.inside.frames c.release_range.new.frames c.clear_table.new.parent c.args.first c.args.pages c.self.invariant
     (table-there c.self.inside.parent c.args.first c.args.pages (ap (λ view. has_present view.leaves.parent c.args.first c.args.pages) c.self.view_is ∙ c.requires.present))
     c.requires.range c.release_range.ensures.released c.clear_table.ensures.left
+    (subst (λ view. AreUnjoined view.leaves.kept) (sym c.self.view_is) c.requires.unjoined)
     ∙ ap (λ view. without_writable c.args.first c.args.pages view.writable) c.self.view_is

@@ -1,4 +1,5 @@
 use Rattle.std.proofs.Common.{◌∙◌, ℕ, ap, subst, [], Some, None}
+use Rattle.kernel_meaning.specs.Leaves.{has_pages}
 use Rattle.kernel_meaning.specs.CellAccount.{CellAccount, Fork}
 use Rattle.leaf_cell.specs.CellView.{CellView}
 use Rattle.leaf_cell.specs.declared.snapshot.SnapshotLeaf.TheVariants as code
@@ -9,7 +10,7 @@ use Rattle.leaf_cell.proofs.cell.Cell.set_lazy.Goals as goal
 
 pub invariant_of-self : goal.invariant_of-self
 invariant_of-self c = inside-lazy c.self.inside.parent c.self.inside.snapshot c.self.inside.frames c.args.number c.args.mode c.self.invariant
-    (ap (λ view. view.leaves.kept) c.self.view_is ∙ c.requires.alone)
+    (ap (λ view. view.leaves.kept) c.self.view_is ∙ c.requires.alone) (ap (λ view. has_pages view.leaves.parent) c.self.view_is ∙ c.requires.present)
 
 pub returns-clause-forked : goal.returns-clause-forked
 returns-clause-forked c =

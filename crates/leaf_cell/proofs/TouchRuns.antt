@@ -8,7 +8,7 @@ use Rattle.kernel_meaning.specs.Leaves.{CellLeaves, version_at, has_pages, is_na
 use Rattle.kernel_meaning.specs.CellActs.{Course, course_touched, new_page_asked, parent_leaf_answered, present_touched, page_copy_answered, coming_answer, asking, with_leaf_where, before_change}
 use Rattle.leaf_cell.specs.CellView.{AreUnjoined}
 use Rattle.leaf_cell.proofs.TouchCourses.{before_change-none, touched-absent, touched-first, touched-present}
-use Rattle.page_tables.specs.Courses.{requests_between, course_between, RunsAt}
+use Rattle.leaf_cell.specs.Courses.{requests_between, course_between, RunsAt}
 
 -- what is behind a course that made its deals, with other deals before it and more answers to come
 abbrev pub behind : List Deal → List Answer → Course → Course
