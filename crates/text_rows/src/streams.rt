@@ -1,5 +1,5 @@
 //! Reads and writes through the traits' bounds, with cuts and faults at each place.
-use crate::{
+use io_face::{
     Failed, Folder, MemFolder, MemSink, MemSource, ReadAllError, Sink, Source, read_all, write_all,
 };
 use std::alloc::Global;

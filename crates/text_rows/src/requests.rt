@@ -1,7 +1,7 @@
 //! Streams and replies whose answers come from the protocol's tables.
 ghost use Rattle.std.specs.Prelude.{◌<◌};
 
-use super::*;
+use resp_text::{ErrorKind, FeedFault, ProtocolKind, Reply, Requests, reply_text};
 use std::alloc::{AllocError, Global};
 use std::test::Fail;
 use vm_base::Bytes;

@@ -1,8 +1,7 @@
 //! Which fields an event may have, case by case.
-use crate::area_row::AreaRow;
-use crate::event::Event;
 use area_list::Area;
 use std::test::Fail;
+use trace_events::{AreaRow, Event};
 use vm_base::{Bytes, Mode, Perm};
 
 const PERM: Perm = Perm::ReadWrite;

@@ -1,11 +1,9 @@
 //! Which texts are scripts, at which line the others break, and what outcomes print, case by case.
-use crate::fault::ScriptFault;
-use crate::printer::outcome_text;
-use crate::reader::read_script;
 use area_list::Area;
 use std::alloc::Global;
 use std::test::Fail;
 use trace_events::{AreaRow, Event, Outcome};
+use trace_text::{ScriptFault, outcome_text, read_script};
 use vm_base::{Bytes, Mode, Perm};
 
 fn breaks_at(alloc: Global, text: &[u8], line: u64) -> bool {

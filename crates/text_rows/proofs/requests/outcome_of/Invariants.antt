@@ -1,5 +1,5 @@
 use Rattle.std.proofs.Common.{◌+◌, ◌-◌, ◌≤◌, length}
-use Rattle.resp_text.proofs.tests.outcome_of.Given as goal
+use Rattle.text_rows.proofs.requests.outcome_of.Given as goal
 
 abbrev pub decreases-loop-at : goal.decreases-loop-at
 decreases-loop-at l = length l.bytes - l.at

@@ -1,5 +1,5 @@
 //! Images whose bytes come from the format's table.
-use super::*;
+use image_text::{PairList, write_image};
 use io_face::MemSink;
 use std::alloc::Global;
 use std::test::Fail;
