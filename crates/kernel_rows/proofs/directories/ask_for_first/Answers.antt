@@ -4,7 +4,7 @@ use Rattle.std.specs.Ordering.{nat_cmp}
 use Rattle.std.specs.FinMap.{get, len, get-empty, len-empty}
 use Rattle.table_levels.specs.Cells.{tables_of}
 use Rattle.table_levels.proofs.Counting.{tables_of-empty}
-use Rattle.table_levels.proofs.tests.ask_for_first.Goals as goal
+use Rattle.kernel_rows.proofs.directories.ask_for_first.Goals as goal
 
 pub insert-answer-requires-clause-absent : goal.insert-answer-requires-clause-absent
 insert-answer-requires-clause-absent c = ap (λ m. get m c.args.cell) c.in_ok-directory.ensures ∙ get-empty nat_cmp c.args.cell

@@ -1,63 +1,12 @@
 //! Directories over an allot that counts.
-ghost use Rattle.std.specs.Prelude.{◌+◌, ◌<◌, ◌≤◌, ◌^◌, ⊤, ℕ, None};
+ghost use Rattle.std.specs.Prelude.{◌+◌, ◌<◌, ◌≤◌, ◌^◌, None};
 ghost use Rattle.std.specs.FinMap as map;
 
-use super::*;
+use crate::supply::Supply;
 use std::alloc::Global;
 use std::test::Fail;
-use vm_base::{Allot, Frame, NoMemory, Refused, Want};
-
-/// So many frames, and what was asked of them.
-#[derive(Drop)]
-struct Supply {
-    alloc: Global,
-    left: u32,
-    out: u64,
-    refused: u64,
-    asked: Vec<Want>,
-}
-
-impl Supply {
-    fn new(alloc: Global, left: u32) -> Supply {
-        Supply {
-            alloc,
-            left,
-            out: 0,
-            refused: 0,
-            asked: Vec::new(alloc),
-        }
-    }
-}
-
-impl Allot for Supply {
-    ghost State = { ℕ × ℕ };
-
-    ghost state = { λ s. (s.refused, s.out) };
-
-    ghost refused = { λ s. s.0 };
-
-    ghost out = { λ s. s.1 };
-
-    ghost goes = { λ old deal new. ⊤ };
-
-    fn take(&mut self, want: Want) -> Result<Frame, Refused> {
-        let _ = self.asked.push(want);
-        if self.left > 0 && self.out < 1000 {
-            if let Ok(frame) = Frame::new(self.alloc, self.left) {
-                self.left -= 1;
-                self.out += 1;
-                return Ok(frame);
-            }
-        }
-        self.refused = self.refused.saturating_add(1);
-        Err(Refused { at: self.refused })
-    }
-
-    fn give(&mut self, _frame: Frame) {
-        self.left = self.left.saturating_add(1);
-        self.out -= 1;
-    }
-}
+use table_levels::Directory;
+use vm_base::{NoMemory, Refused, Want};
 
 /// What an empty directory tells after it was asked for one cell, and the frames that were out
 /// then. The directory has been released since.

@@ -5,7 +5,7 @@ use Rattle.std.specs.FinMap.{len, insert, contains_key, len-insert}
 use Rattle.std.proofs.lemmas.Bool.{cases_Bool, cond-true, cond-false}
 use Rattle.vm_base.specs.declared.refusals.Refused.{Refused}
 use Rattle.table_levels.specs.Cells.{CellMap}
-use Rattle.table_levels.proofs.tests.add.Goals as goal
+use Rattle.kernel_rows.proofs.directories.add.Goals as goal
 
 one_more : (m : CellMap) (cell slot : ℕ) → len (insert m cell slot) ≤ len m + 1
 one_more m cell slot = elim (cases_Bool (contains_key m cell)) [

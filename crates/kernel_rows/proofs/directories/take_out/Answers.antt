@@ -4,7 +4,7 @@ use Rattle.std.specs.Ordering.{nat_cmp}
 use Rattle.std.specs.FinMap.{get, len, get-empty, len-empty}
 use Rattle.table_levels.specs.Cells.{tables_of}
 use Rattle.table_levels.proofs.Counting.{tables_of-empty}
-use Rattle.table_levels.proofs.tests.take_out.Goals as goal
+use Rattle.kernel_rows.proofs.directories.take_out.Goals as goal
 
 pub insert-requires-clause-absent : goal.insert-requires-clause-absent
 insert-requires-clause-absent c = ap (λ m. get m c.args.cell) c.in_ok-directory.ensures ∙ get-empty nat_cmp c.args.cell
