@@ -12,6 +12,3 @@ mod write;
 
 pub use pair_list::PairList;
 pub use write::write_image;
-
-#[cfg(test)]
-mod tests;

@@ -14,8 +14,6 @@ mod mem_sink;
 mod mem_source;
 mod sink;
 mod source;
-#[cfg(test)]
-mod tests;
 
 pub use failed::Failed;
 pub use folder::Folder;

@@ -19,6 +19,3 @@ pub use laws::{break_is_final, one_break, one_reading, one_spelling};
 pub use reply::{ErrorKind, Reply, reply_text};
 pub use request::Request;
 pub use requests::Requests;
-
-#[cfg(test)]
-mod tests;

@@ -12,8 +12,6 @@ mod frames;
 mod linking;
 mod search;
 mod table;
-#[cfg(test)]
-mod tests;
 mod unlinking;
 
 pub use directory::Directory;

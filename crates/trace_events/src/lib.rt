@@ -9,8 +9,6 @@ mod area_row;
 mod bounds;
 mod event;
 mod outcome;
-#[cfg(test)]
-mod tests;
 
 pub use area_row::AreaRow;
 pub use event::Event;

@@ -14,8 +14,6 @@ mod number;
 mod printer;
 mod reader;
 mod script;
-#[cfg(test)]
-mod tests;
 mod tokens;
 
 pub use fault::ScriptFault;

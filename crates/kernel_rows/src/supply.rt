@@ -1,0 +1,57 @@
+//! An allot that counts, and denies nothing while it has a frame.
+ghost use Rattle.std.specs.Prelude.{⊤, ℕ};
+
+use std::alloc::Global;
+use vm_base::{Allot, Frame, Refused, Want};
+
+/// So many frames, and what was asked of them.
+#[derive(Drop)]
+pub(crate) struct Supply {
+    pub(crate) alloc: Global,
+    pub(crate) left: u32,
+    pub(crate) out: u64,
+    pub(crate) refused: u64,
+    pub(crate) asked: Vec<Want>,
+}
+
+impl Supply {
+    pub(crate) fn new(alloc: Global, left: u32) -> Supply {
+        Supply {
+            alloc,
+            left,
+            out: 0,
+            refused: 0,
+            asked: Vec::new(alloc),
+        }
+    }
+}
+
+impl Allot for Supply {
+    ghost State = { ℕ × ℕ };
+
+    ghost state = { λ s. (s.refused, s.out) };
+
+    ghost refused = { λ s. s.0 };
+
+    ghost out = { λ s. s.1 };
+
+    ghost goes = { λ old deal new. ⊤ };
+
+    fn take(&mut self, want: Want) -> Result<Frame, Refused> {
+        let _ = self.asked.push(want);
+        if self.left > 0 && self.out < 1000 {
+            if let Ok(frame) = Frame::new(self.alloc, self.left) {
+                self.left -= 1;
+                self.out += 1;
+                return Ok(frame);
+            }
+        }
+        self.refused = self.refused.saturating_add(1);
+        Err(Refused { at: self.refused })
+    }
+
+    fn give(&mut self, _frame: Frame) {
+        self.left = self.left.saturating_add(1);
+        self.out -= 1;
+    }
+}
