@@ -1,4 +1,0 @@
-mod CopiedLeaves
-mod OneLeaf
-mod JoinedNumbers
-mod SomeLeaves
