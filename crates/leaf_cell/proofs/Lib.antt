@@ -34,3 +34,4 @@ pub mod AllowedPages
 pub mod ProtectMade
 pub mod LeafLost
 pub mod LeafOwned
+pub mod BlockPages
