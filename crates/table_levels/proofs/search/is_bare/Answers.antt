@@ -1,5 +1,5 @@
 -- Bytes that are all zero.
-use Rattle.std.proofs.Common.{◌≡◌, ◌∙◌, ◌+◌, ◌-◌, ◌*◌, sym, ap, arith}
+use Rattle.std.proofs.Common.{◌∙◌, ◌+◌, ◌-◌, ◌*◌, sym, ap, arith}
 use Rattle.table_levels.specs.Tables.{entry_at}
 use Rattle.table_levels.proofs.BareEntries.{bare_entry}
 use Rattle.table_levels.proofs.search.is_bare.Goals as goal
