@@ -39,7 +39,8 @@ pub(crate) fn replace_few(
     requires few { length list.old.items ≤ 16 }
     requires within { AreWithin list.old.items }
     requires between_within { IfSome between (λ area. area.first + area.pages ≤ 2 ^ 36) }
-    ensures { Rejoins list.old.items list.new.items result (pieces first end between list.old.items) }
+    ensures { Rejoins list.old.items list.new.items result
+        (pieces first end between list.old.items) }
 {
     let mut before: ArrayVec<Area, 16> = ArrayVec::new();
     let copied = before.try_extend_from_slice(list.as_slice());

@@ -32,7 +32,8 @@ same_bytes (x ∷ xs) (y ∷ ys) same zero = eqb-true x y (and_parts (nat_eq x y
 same_bytes (x ∷ xs) (y ∷ ys) same (suc k) = same_bytes xs ys (and_parts (nat_eq x y) (pointwise nat_eq xs ys) same).1 k
 
 -- eight entries whose bytes are all zero have no page
-pub bare_page : (bytes : List ℕ) (first n : ℕ) → n ≡ 64 → first + 8 ≤ 512 → pointwise nat_eq (take n (drop (8 * first) bytes)) (replicate 64 0) ≡ true
+pub bare_page : (bytes : List ℕ) (first n : ℕ) → n ≡ 64 → first + 8 ≤ 512
+    → pointwise nat_eq (take n (drop (8 * first) bytes)) (replicate 64 0) ≡ true
     → (k : ℕ) → first ≤ k → k < first + 8 → version_at (places_of bytes) k ≡ None
 bare_page bytes first n size room same k above below =
     version_at-places_of bytes k (omega (arith, room, below))
@@ -50,14 +51,17 @@ bare_page bytes first n size room same k above below =
     ∙ zero_word k)
 
 -- a range of absent pages
-pub has_present-absent : (places : Versions) (first n : ℕ) → ((k : ℕ) → first ≤ k → k < first + n → version_at places k ≡ None) → has_present places first n ≡ false
+pub has_present-absent : (places : Versions) (first n : ℕ) → ((k : ℕ) → first ≤ k → k < first + n → version_at places k ≡ None)
+    → has_present places first n ≡ false
 has_present-absent places first zero none = refl
 has_present-absent places first (suc n) none = has_present-more places first n
-    ∙ ap (λ b. b || is_some (version_at places (first + n))) (has_present-absent places first n (λ k above below. none k above (omega (arith, below))))
+    ∙ ap (λ b. b || is_some (version_at places (first + n)))
+    (has_present-absent places first n (λ k above below. none k above (omega (arith, below))))
     ∙ ap is_some (none (first + n) (omega arith) (omega arith))
 
 -- a range of pages, and one behind it
-pub has_present-both : (places : Versions) (first a n : ℕ) → has_present places first (a + n) ≡ (has_present places first a || has_present places (first + a) n)
+pub has_present-both : (places : Versions) (first a n : ℕ)
+    → has_present places first (a + n) ≡ (has_present places first a || has_present places (first + a) n)
 has_present-both places first a zero = ap (has_present places first) none ∙ sym (or-false (has_present places first a))
   where
     none : a + zero ≡ a
@@ -88,7 +92,8 @@ pub pages-there : (places : Versions) (a : ℕ) → has_present places 0 a ≡ f
 pages-there places a none there =
     sym (ap (list_any is_some) (take_all (a + 8 + length places) places (omega arith)))
     ∙ has_present-both places 0 (a + 8) (length places)
-    ∙ ap (λ b. b || has_present places (0 + (a + 8)) (length places)) (block-more places a ∙ ap (λ b. b || has_present places a 8) none ∙ there)
+    ∙ ap (λ b. b || has_present places (0 + (a + 8)) (length places)) (block-more places a ∙ ap (λ b. b || has_present places a 8) none
+    ∙ there)
   where
     block-more : (places : Versions) (a : ℕ) → has_present places 0 (a + 8) ≡ (has_present places 0 a || has_present places a 8)
     block-more places a = has_present-both places 0 a 8 ∙ ap (λ i. has_present places 0 a || has_present places i 8) start
@@ -96,7 +101,8 @@ pages-there places a none there =
         start : 0 + a ≡ a
         start = omega arith
 
-pub block-none : (places : Versions) (a next : ℕ) → next ≡ a + 8 → has_present places 0 a ≡ false → has_present places a 8 ≡ false → has_present places 0 next ≡ false
+pub block-none : (places : Versions) (a next : ℕ) → next ≡ a + 8 → has_present places 0 a ≡ false → has_present places a 8 ≡ false
+    → has_present places 0 next ≡ false
 block-none places a next is none absent = ap (has_present places 0) is ∙ has_present-both places 0 a 8
     ∙ ap (λ b. b || has_present places (0 + a) 8) none ∙ ap (λ i. has_present places i 8) start ∙ absent
   where
@@ -107,7 +113,8 @@ pub pages-none : (places : Versions) (a : ℕ) → length places ≤ a → has_p
 pages-none places a all none = sym (ap (list_any is_some) (take_all a places all)) ∙ none
 
 -- no frame of a range of absent pages is given back
-pub releasing-bare : {State : Type 0} (goes : State → Deal → State → Type 0) (state : State) (own other : Versions) (frames : List (Option FrameView)) (first upto : ℕ)
+pub releasing-bare : {State : Type 0} (goes : State → Deal → State
+    → Type 0) (state : State) (own other : Versions) (frames : List (Option FrameView)) (first upto : ℕ)
     → ((k : ℕ) → first ≤ k → k < upto → version_at own k ≡ None) → Releasing goes state state own other frames frames first upto
 releasing-bare goes state own other frames first upto none = record {
   count = 0;
@@ -121,8 +128,10 @@ releasing-bare goes state own other frames first upto none = record {
 }
 
 -- the frames of a range are given back, and then those of the range behind it
-pub releasing-both : {State : Type 0} (goes : State → Deal → State → Type 0) (from middle to : State) (own other : Versions) (old now new : List (Option FrameView)) (first page upto : ℕ)
-    → first ≤ page → page ≤ upto → Releasing goes from middle own other old now first page → Releasing goes middle to own other now new page upto
+pub releasing-both : {State : Type 0} (goes : State → Deal → State
+    → Type 0) (from middle to : State) (own other : Versions) (old now new : List (Option FrameView)) (first page upto : ℕ)
+    → first ≤ page → page ≤ upto → Releasing goes from middle own other old now first page
+    → Releasing goes middle to own other now new page upto
     → Releasing goes from to own other old new first upto
 releasing-both goes from middle to own other old now new first page upto begun ended before after = record {
   count = before.count + after.count;
@@ -135,7 +144,8 @@ releasing-both goes from middle to own other old now new first page upto begun e
     | inr none ↦ inr none
   ];
   kept = λ p q named. after.kept p q named ∙ before.kept p q named;
-  apart = λ p q small home outside. after.apart p q small home (elim outside [ inl below ↦ inl (omega (arith, below, begun)) | inr above ↦ inr above ])
+  apart = λ p q small home outside. after.apart p q small home
+      (elim outside [ inl below ↦ inl (omega (arith, below, begun)) | inr above ↦ inr above ])
       ∙ before.apart p q small home (elim outside [ inl below ↦ inl below | inr above ↦ inr (omega (arith, above, ended)) ]);
   gone = λ p q above below named unnamed. elim (cases_lt p page) [
     | inl earlier ↦ elim (after.each q) [
@@ -160,13 +170,15 @@ bare-allowed may other first n table writable none = λ i. record {
     never true = refl
     never false = refl
 
-    by : (page : ℕ) (b : Bool) → writable_at table.writable page ≡ b → (writable_at table.writable page ≡ true → is_apart other table.places page ≡ true)
+    by : (page : ℕ) (b : Bool) → writable_at table.writable page ≡ b
+        → (writable_at table.writable page ≡ true → is_apart other table.places page ≡ true)
         → is_apart other table.places page ≡ false → b ≡ false
     by page true may apart absent = absurd (false≢true (sym absent ∙ apart may))
     by page false may apart absent = refl
 
 -- pages that may be written to are apart, whatever was allowed
-pub writable-allowed : (may : Bool) (other : Versions) (first n : ℕ) (table : TableView) → AreWritable (Some table) other → AreWritable (Some (table_allowed may other first n table)) other
+pub writable-allowed : (may : Bool) (other : Versions) (first n : ℕ) (table : TableView) → AreWritable (Some table) other
+    → AreWritable (Some (table_allowed may other first n table)) other
 writable-allowed may other first n table writable = record {
   size = length-with_writable (λ p. may && is_apart other table.places p) first n table.writable;
   apart = apart-allowed may other first n table writable.apart;
@@ -181,7 +193,8 @@ module _ (test : ℕ → Bool) (first n m : ℕ) (writable : List Bool) where
   beside b page = cond b (writable_at writable page) (test page)
 
   with_writable-both : with_writable test (first + n) m before ≡ with_writable test first (n + m) writable
-  with_writable-both = with_writable-is test first (n + m) writable (with_writable test (first + n) m before) (length-with_writable test (first + n) m before)
+  with_writable-both = with_writable-is test first (n + m) writable (with_writable test (first + n) m before)
+      (length-with_writable test (first + n) m before)
       (λ page small. elim (cases_lt page first) [
         | inl below ↦ writable_at-outside test (first + n) m before page small (inl (omega (arith, below)))
             ∙ writable_at-outside test first n writable page small (inl below)
@@ -200,7 +213,8 @@ module _ (test : ℕ → Bool) (first n m : ℕ) (writable : List Bool) where
         ]
       ])
 
-pub both-allowed : (may : Bool) (other : Versions) (first n m : ℕ) (table : TableView) → table_allowed may other (first + n) m (table_allowed may other first n table) ≡ table_allowed may other first (n + m) table
+pub both-allowed : (may : Bool) (other : Versions) (first n m : ℕ) (table : TableView)
+    → table_allowed may other (first + n) m (table_allowed may other first n table) ≡ table_allowed may other first (n + m) table
 both-allowed may other first n m table = λ i. record {
   places = table.places;
   writable = with_writable-both (λ p. may && is_apart other table.places p) first n m table.writable i;

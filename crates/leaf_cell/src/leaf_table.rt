@@ -160,7 +160,8 @@ impl LeafTable {
     /// Whether the entries of a block of pages are all zero, so that none of them is present.
     pub(crate) fn is_bare(&self, first: u16) -> bool
         requires { first + 8 ≤ CELL_PAGES }
-        ensures { IsTrue result → (k : ℕ) → first ≤ k → k < first + 8 → version_at self.now.places k ≡ None }
+        ensures { IsTrue result → (k : ℕ) → first ≤ k → k < first + 8
+            → version_at self.now.places k ≡ None }
     {
         let bytes: &[u8] = self.frame.bytes();
         let begin = ENTRY_BYTES * first as usize;

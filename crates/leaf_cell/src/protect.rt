@@ -84,7 +84,8 @@ fn allow_pages(
 )
     requires range { first + pages ≤ CELL_PAGES }
     requires writable { AreWritable (Some table.old) (own_places snapshot.now) }
-    ensures { table.new ≡ table_allowed is_writable (own_places snapshot.now) first pages table.old }
+    ensures { table.new
+        ≡ table_allowed is_writable (own_places snapshot.now) first pages table.old }
 {
     for page in first..first + pages {
         if let Some(place) = table.get(page) {

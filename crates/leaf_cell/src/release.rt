@@ -68,14 +68,15 @@ fn release_block<A: Allot>(
     frames: &mut FramePlaces,
     allot: &mut A,
 )
-    requires range { first + 8 ≤ CELL_PAGES }
     requires size { length frames.old ≡ 1024 }
-    requires home { AreHome table.now.places }
-    requires others { AreHome (table_places other.now) }
+    requires home { (first + 8 ≤ CELL_PAGES)
+        × (AreHome table.now.places × AreHome (table_places other.now)) }
     requires out { count_by is_some frames.old ≤ A.out (A.state allot.old) }
     requires untold { A.grants allot.old ≡ None }
-    ensures released { Releasing A.goes (A.state allot.old) (A.state allot.new) table.now.places (table_places other.now) frames.old frames.new first (first + 8) }
-    ensures out { A.out (A.state allot.new) + count_by is_some frames.old ≡ A.out (A.state allot.old) + count_by is_some frames.new }
+    ensures released { Releasing A.goes (A.state allot.old) (A.state allot.new)
+        table.now.places (table_places other.now) frames.old frames.new first (first + 8) }
+    ensures out { A.out (A.state allot.new) + count_by is_some frames.old
+        ≡ A.out (A.state allot.old) + count_by is_some frames.new }
     ensures untold { A.grants allot.new ≡ None }
     ensures unrefused { A.refused (A.state allot.new) ≡ A.refused (A.state allot.old) }
 {

@@ -21,9 +21,11 @@ pub bare_entry : (bytes : List ℕ) (begin n : ℕ) → n ≡ 64 → pointwise n
 bare_entry bytes begin n size same k above below = entry_same bytes zero_page k (λ j le lt.
     let place : 8 * begin + (j - 8 * begin) ≡ j = omega (arith, above) in
     let small : j - 8 * begin < n = omega (arith, size, below) in
-    let zero_there : get_or (take n (drop (8 * begin) bytes)) (j - 8 * begin) 0 ≡ 0 = same_bytes (take n (drop (8 * begin) bytes)) (replicate 64 0) same (j - 8 * begin)
+    let zero_there : get_or (take n (drop (8 * begin) bytes)) (j - 8 * begin) 0 ≡ 0 = same_bytes (take n (drop (8 * begin) bytes))
+    (replicate 64 0) same (j - 8 * begin)
     ∙ zero_byte 64 (j - 8 * begin) in
     subst (λ i. get_or bytes i 0 ≡ get_or zero_page j 0) place
-    (sym (get_or-drop (8 * begin) bytes (j - 8 * begin) 0) ∙ sym (get_or-take n (drop (8 * begin) bytes) (j - 8 * begin) 0 small) ∙ zero_there
+    (sym (get_or-drop (8 * begin) bytes (j - 8 * begin) 0) ∙ sym (get_or-take n (drop (8 * begin) bytes) (j - 8 * begin) 0 small)
+    ∙ zero_there
     ∙ sym (zero_byte 4096 j)))
     ∙ entry_at-zeros k

@@ -8,4 +8,5 @@ pub returns : goal.returns
 returns c = λ is k above below.
     ap (λ table. version_at table.places k) (sym c.self.view_is)
     ∙ ap (λ bytes. version_at (places_of bytes) k) (sym c.bytes.ensures.bytes)
-    ∙ bare_page c.bytes.result.now c.args.first (8 * c.args.first + 64 - 8 * c.args.first) (omega arith) c.requires (sym c.eq.ensures ∙ is) k above below
+    ∙ bare_page c.bytes.result.now c.args.first (8 * c.args.first + 64 - 8 * c.args.first) (omega arith) c.requires (sym c.eq.ensures
+    ∙ is) k above below
