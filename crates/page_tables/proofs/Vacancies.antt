@@ -51,18 +51,22 @@ module _ (tables : PageTables) (sides : Sides) (st : TablesStandFor tables sides
       ]
 
 -- one cell more of a range
-pub missing-push : (leaves : Leaves) (first n : ℕ) → missing_in leaves first (n + 1) ≡ missing_in leaves first n + cond (is_some (find nat_cmp (first + n) leaves)) 0 1
+pub missing-push : (leaves : Leaves) (first n : ℕ) → missing_in leaves first (n + 1) ≡ missing_in leaves first n + cond
+    (is_some (find nat_cmp (first + n) leaves)) 0 1
 missing-push leaves first n =
     let test : ℕ → Bool = λ cell. not (is_some (find nat_cmp cell leaves)) in
     let one : length (filter test ((first + n) ∷ [])) ≡ cond (is_some (find nat_cmp (first + n) leaves)) 0 1 =
-    elim (is_some (find nat_cmp (first + n) leaves)) as (λ b. length (cond (not b) ((first + n) ∷ []) []) ≡ cond b 0 1) [ true ↦ refl | false ↦ refl ] in
+    elim (is_some (find nat_cmp (first + n) leaves)) as (λ b. length (cond (not b) ((first + n) ∷ []) []) ≡ cond b 0 1)
+    [ true ↦ refl | false ↦ refl ] in
     ap (λ xs. length (filter test xs)) (range-split first n 1) ∙ ap length (filter-append test (range_with_len first n) ((first + n) ∷ []))
     ∙ length-append (filter test (range_with_len first n)) (filter test ((first + n) ∷ [])) ∙ ap (λ k. missing_in leaves first n + k) one
 
 -- slots of which some are looked at: no more of the others have an owner than there are
-pub owned-beyond : (slots : List Slot) (i : ℕ) → count_by (λ slot. is_some slot.owner) slots ≤ count_by (λ slot. is_some slot.owner) (take i slots) + (length slots - i)
+pub owned-beyond : (slots : List Slot) (i : ℕ) → count_by (λ slot. is_some slot.owner) slots ≤ count_by (λ slot. is_some slot.owner)
+    (take i slots) + (length slots - i)
 owned-beyond slots i =
-    let split : count_by (λ slot. is_some slot.owner) (take i slots) + count_by (λ slot. is_some slot.owner) (drop i slots) ≡ count_by (λ slot. is_some slot.owner) slots =
+    let split : count_by (λ slot. is_some slot.owner) (take i slots) + count_by (λ slot. is_some slot.owner) (drop i slots) ≡ count_by
+    (λ slot. is_some slot.owner) slots =
     sum_by-take-drop (λ slot. cond (is_some slot.owner) 1 0) slots i in
     omega (arith, split, count_by-le-length (λ slot. is_some slot.owner) (drop i slots), length-drop i slots)
 
@@ -79,23 +83,27 @@ module _ (tables : PageTables) (sides : Sides) (st : TablesStandFor tables sides
       let owned : count_by (λ slot. is_some slot.owner) tables.slots.items ≡ length sides.leaves = st.slots_of.counted in
       let used : length (used_cells sides.leaves) ≡ length sides.leaves = length-map sides.leaves (λ e. e.0) in
       let left : slot_count tables - length (used_cells sides.leaves) ≡ free = omega arith in
-      both ∙ sym (ap (λ cells. nat_lt (slot_count tables - length (used_cells sides.leaves)) (length (cells_without_slot sides.leaves cells))) cells ∙ ap (λ k. nat_lt k missing) left)
+      both ∙ sym (ap (λ cells. nat_lt (slot_count tables - length (used_cells sides.leaves))
+      (length (cells_without_slot sides.leaves cells))) cells ∙ ap (λ k. nat_lt k missing) left)
     where
       both : (nat_lt 0 missing && nat_lt free missing) ≡ nat_lt free missing
       both = elim (cases_Bool (nat_lt free missing)) [
         | inl more ↦ let pos : nat_lt 0 missing ≡ true = grind (arith, nat_tests) in ap (λ b. b && nat_lt free missing) pos
-        | inr few ↦ ap (λ b. nat_lt 0 missing && b) few ∙ elim (nat_lt 0 missing) as (λ b. (b && false) ≡ false) [ true ↦ refl | false ↦ refl ] ∙ sym few
+        | inr few ↦ ap (λ b. nat_lt 0 missing && b) few ∙ elim (nat_lt 0 missing) as (λ b. (b && false) ≡ false)
+            [ true ↦ refl | false ↦ refl ] ∙ sym few
       ]
 
 -- the same by a test of whether as many slots are free as are wanted
 pub lacking-free : (tables : PageTables) (sides : Sides) → TablesStandFor tables sides → (first n wanted : ℕ) → 0 < n
     → wanted ≡ missing_in sides.leaves (cell_of first) (cell_of (first + n - 1) + 1 - cell_of first) → (b : Bool)
-    → ((free : ℕ) → free + count_by (λ slot. is_some slot.owner) tables.slots.items ≡ length tables.slots.items → b ≡ not (nat_lt free wanted))
+    → ((free : ℕ) → free + count_by (λ slot. is_some slot.owner) tables.slots.items ≡ length tables.slots.items
+    → b ≡ not (nat_lt free wanted))
     → (nat_lt 0 wanted && not b) ≡ lacks_slots (slot_count tables) sides.leaves (cells_of_pages first n)
 lacking-free tables sides st first n wanted some is b told =
     let owned : ℕ = count_by (λ slot. is_some slot.owner) tables.slots.items in
     let free : ℕ = length tables.slots.items - owned in
-    let counted : free + owned ≡ length tables.slots.items = omega (arith, count_by-le-length (λ slot. is_some slot.owner) tables.slots.items) in
+    let counted : free + owned ≡ length tables.slots.items = omega
+    (arith, count_by-le-length (λ slot. is_some slot.owner) tables.slots.items) in
     ap (λ x. nat_lt 0 wanted && x) (ap not (told free counted) ∙ not-not (nat_lt free wanted))
     ∙ ap (λ k. nat_lt 0 k && nat_lt free k) is
     ∙ lacking-told tables sides st first n free some counted
@@ -107,11 +115,13 @@ pub lacking-none : (tables : PageTables) (sides : Sides) → TablesStandFor tabl
 lacking-none tables sides st first n wanted some is none =
     let owned : ℕ = count_by (λ slot. is_some slot.owner) tables.slots.items in
     let free : ℕ = length tables.slots.items - owned in
-    let counted : free + owned ≡ length tables.slots.items = omega (arith, count_by-le-length (λ slot. is_some slot.owner) tables.slots.items) in
+    let counted : free + owned ≡ length tables.slots.items = omega
+    (arith, count_by-le-length (λ slot. is_some slot.owner) tables.slots.items) in
     none ∙ sym (ap (λ b. b && nat_lt free wanted) none)
     ∙ ap (λ k. nat_lt 0 k && nat_lt free k) is
     ∙ lacking-told tables sides st first n free some counted
 
 -- a slot that nobody has counts
-pub free-push : (slots : List Slot) (slot : Slot) → count_by (λ it. is_some it.owner) (slots ++ slot ∷ []) ≡ count_by (λ it. is_some it.owner) slots + cond (is_some slot.owner) 1 0
+pub free-push : (slots : List Slot) (slot : Slot) → count_by (λ it. is_some it.owner) (slots ++ slot ∷ []) ≡ count_by
+    (λ it. is_some it.owner) slots + cond (is_some slot.owner) 1 0
 free-push slots slot = sum_by_push (λ it. cond (is_some it.owner) 1 0) slots slot

@@ -69,7 +69,8 @@ impl PageTables {
 
 /// Whether nobody has so many slots. It looks at no slot behind the last of them.
 fn has_free(slots: &[Slot], wanted: usize) -> bool
-    ensures { (free : ℕ) → free + count_by (λ slot. is_some slot.owner) slots.now ≡ length slots.now → result ≡ not (nat_lt free wanted) }
+    ensures { (free : ℕ) → free + count_by (λ slot. is_some slot.owner) slots.now ≡ length slots.now
+        → result ≡ not (nat_lt free wanted) }
 {
     let mut free = 0;
     for slot in slots {

@@ -8,11 +8,14 @@ pub returns-then-missing-gt0 : goal.returns-then-missing-gt0
 returns-then-missing-gt0 c = λ sides st.
     let some : nat_lt 0 c.missing_slots-missing.result ≡ true = grind (arith, nat_tests, c.if-missing-gt0.true) in
     sym (ap (λ b. b && not c.has_free.result) some)
-    ∙ lacking-free c.args.self.now sides st c.args.first c.args.count c.missing_slots-missing.result c.requires.some (c.missing_slots-missing.ensures sides st) c.has_free.result
-    (subst (λ slots. (free : ℕ) → free + count_by (λ slot. is_some slot.owner) slots ≡ length slots → c.has_free.result ≡ not (nat_lt free c.missing_slots-missing.result)) c.deref.ensures.value
+    ∙ lacking-free c.args.self.now sides st c.args.first c.args.count c.missing_slots-missing.result c.requires.some
+    (c.missing_slots-missing.ensures sides st) c.has_free.result
+    (subst (λ slots. (free : ℕ) → free + count_by (λ slot. is_some slot.owner) slots ≡ length slots
+    → c.has_free.result ≡ not (nat_lt free c.missing_slots-missing.result)) c.deref.ensures.value
     c.has_free.ensures)
 
 pub returns-else-missing-gt0 : goal.returns-else-missing-gt0
 returns-else-missing-gt0 c = λ sides st.
     let none : nat_lt 0 c.missing_slots-missing.result ≡ false = grind (arith, nat_tests, c.if-missing-gt0.false) in
-    lacking-none c.args.self.now sides st c.args.first c.args.count c.missing_slots-missing.result c.requires.some (c.missing_slots-missing.ensures sides st) none
+    lacking-none c.args.self.now sides st c.args.first c.args.count c.missing_slots-missing.result c.requires.some
+    (c.missing_slots-missing.ensures sides st) none
