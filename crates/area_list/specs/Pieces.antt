@@ -50,3 +50,9 @@ Pushes old new result more = (before : List Area) → old ≡ joined before → 
 abbrev pub Joins : Result (ArrayVec Area) AreaFault → List Area → Type 0
 Joins (Ok list) pieces = (list.items ≡ joined pieces) × (length list.items ≤ 128)
 Joins (Err fault) pieces = (fault ≡ AreasFull) × (128 < length (joined pieces))
+
+-- the same for a list that is changed, which stays where the pieces joined are too many
+abbrev pub Rejoins : List Area → List Area → Result (Unit {0}) AreaFault → List Area → Type 0
+Rejoins old new (Ok done) pieces = (new ≡ joined pieces) × (length new ≤ 128)
+Rejoins old new (Err fault) pieces =
+    (fault ≡ AreasFull) × ((128 < length (joined pieces)) × (new ≡ old))

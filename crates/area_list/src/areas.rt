@@ -11,13 +11,16 @@ ghost use Rattle.area_list.specs.Answers.{ChangesAreas};
 use crate::area::Area;
 use crate::fault::AreaFault;
 use crate::lookup::{area_at, lowest_outside, lowest_taken};
-use crate::pieces::replaced;
+use crate::pieces::{replace_few, replaced};
 use arrayvec::ArrayVec;
 use std::marker::Model;
 use vm_base::Perm;
 
 /// How many areas a list may have.
 pub const MOST_AREAS: usize = 128;
+
+/// How many areas are changed in place.
+const FEW_AREAS: usize = 16;
 
 /// Areas in rising order of their pages, which never touch where they may be used alike. Contracts
 /// see the list of areas. It lies in the value itself: no call takes memory.
@@ -130,7 +133,11 @@ impl Areas {
         ensures pages { OnOk result (Sets self.old self.new first pages (option_map (λ area. area.perm) area)) }
         ensures form { IsAreaList self.old }
     {
-        self.list = replaced(self.list(), first, first + pages, area)?;
+        let end = first + pages;
+        if self.list().len() <= FEW_AREAS {
+            return replace_few(&mut self.list, first, end, area);
+        }
+        self.list = replaced(self.list(), first, end, area)?;
         Ok(())
     }
 }

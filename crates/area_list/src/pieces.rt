@@ -1,8 +1,8 @@
 //! A new list of areas from pieces of an old one.
-ghost use Rattle.std.specs.Prelude.{◌≡◌, ◌+◌, ◌≤◌, ◌<◌, ◌^◌, [], ◌∷◌, IfSome};
+ghost use Rattle.std.specs.Prelude.{◌≡◌, ◌+◌, ◌≤◌, ◌<◌, ◌^◌, [], ◌∷◌, length, IfSome};
 ghost use Rattle.vm_base.specs.FlatStep.{area_between};
 ghost use Rattle.area_list.specs.AreaList.{AreWithin};
-ghost use Rattle.area_list.specs.Pieces.{areas_below, areas_from, area_or_none, pieces, Joins, Pushes};
+ghost use Rattle.area_list.specs.Pieces.{areas_below, areas_from, area_or_none, pieces, Joined, Joins, Rejoins, Pushes};
 
 use crate::area::Area;
 use crate::areas::MOST_AREAS;
@@ -22,12 +22,62 @@ pub(crate) fn replaced(
     ensures { Joins result (pieces first end between areas.now) }
 {
     let mut list = ArrayVec::new();
-    push_below(&mut list, areas, first)?;
-    push_if_some(&mut list, between)?;
-    push_from(&mut list, areas, end)?;
+    push_pieces(&mut list, areas, first, end, between)?;
     let count = list.len();
     prove!(count <= MOST_AREAS);
     Ok(list)
+}
+
+/// The same in the list itself, where it has a few areas: a copy of these is made, and no list of
+/// as many places as there may be. After a refusal it is as before.
+pub(crate) fn replace_few(
+    list: &mut ArrayVec<Area, 128>,
+    first: u64,
+    end: u64,
+    between: Option<Area>,
+) -> Result<(), AreaFault>
+    requires few { length list.old.items ≤ 16 }
+    requires within { AreWithin list.old.items }
+    requires between_within { IfSome between (λ area. area.first + area.pages ≤ 2 ^ 36) }
+    ensures { Rejoins list.old.items list.new.items result
+        (pieces first end between list.old.items) }
+{
+    let mut before: ArrayVec<Area, 16> = ArrayVec::new();
+    let copied = before.try_extend_from_slice(list.as_slice());
+    prove!(copied.is_ok());
+    list.clear();
+    match push_pieces(list, before.as_slice(), first, end, between) {
+        Ok(()) => {
+            let count = list.len();
+            prove!(count <= MOST_AREAS);
+            Ok(())
+        }
+        Err(fault) => {
+            list.clear();
+            let back = list.try_extend_from_slice(before.as_slice());
+            prove!(back.is_ok());
+            Err(fault)
+        }
+    }
+}
+
+/// Puts the pieces of areas into an empty list: those below the pages, those in their place, and
+/// those behind them.
+fn push_pieces(
+    list: &mut ArrayVec<Area, 128>,
+    areas: &[Area],
+    first: u64,
+    end: u64,
+    between: Option<Area>,
+) -> Result<(), AreaFault>
+    requires empty { list.old.items ≡ [] }
+    requires within { AreWithin areas.now }
+    requires between_within { IfSome between (λ area. area.first + area.pages ≤ 2 ^ 36) }
+    ensures { Joined list.new.items result (pieces first end between areas.now) }
+{
+    push_below(list, areas, first)?;
+    push_if_some(list, between)?;
+    push_from(list, areas, end)
 }
 
 /// Adds an area, if there is one.

@@ -88,7 +88,7 @@ skip-allowed may other first n table now page is next absent apart =
     by false may none = refl
 
 -- a page that may be written to then is apart
-apart-allowed : (may : Bool) (other : Versions) (first n : ℕ) (table : TableView) → ((page : ℕ) → writable_at table.writable page ≡ true → is_apart other table.places page ≡ true)
+pub apart-allowed : (may : Bool) (other : Versions) (first n : ℕ) (table : TableView) → ((page : ℕ) → writable_at table.writable page ≡ true → is_apart other table.places page ≡ true)
     → (page : ℕ) → writable_at (with_writable (λ p. may && is_apart other table.places p) first n table.writable) page ≡ true → is_apart other table.places page ≡ true
 apart-allowed may other first n table apart page is =
     let small : page < 512 = writable-below (with_writable (λ p. may && is_apart other table.places p) first n table.writable) page (length-with_writable (λ p. may && is_apart other table.places p) first n table.writable) is in

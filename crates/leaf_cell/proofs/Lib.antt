@@ -36,3 +36,4 @@ pub mod ProtectMade
 pub mod LeafLost
 pub mod LeafForgotten
 pub mod LeafOwned
+pub mod BlockPages

@@ -18,7 +18,7 @@ use Rattle.leaf_cell.proofs.WritablePages.{beyond-within, beyond-outside, with_w
 use Rattle.leaf_cell.proofs.Without.{in-or-out, length-without, without-within, without-outside}
 
 -- a number depends on its bytes alone
-little_from-same : (xs ys : List ℕ) (i n : ℕ) → ((j : ℕ) → i ≤ j → j < i + n → slice_index xs j ≡ slice_index ys j) → little_from i n xs ≡ little_from i n ys
+pub little_from-same : (xs ys : List ℕ) (i n : ℕ) → ((j : ℕ) → i ≤ j → j < i + n → slice_index xs j ≡ slice_index ys j) → little_from i n xs ≡ little_from i n ys
 little_from-same xs ys i zero same = refl
 little_from-same xs ys i (suc n) same =
     let first : slice_index xs i ≡ slice_index ys i = same i (omega arith) (omega arith) in
@@ -152,13 +152,13 @@ writable_of-with_word bytes page word whole small fits = sym (told (with_word by
     ]))
 
 -- zeros hold no place
-zero_byte : (i : ℕ) → slice_index zero_page i ≡ 0
+pub zero_byte : (i : ℕ) → slice_index zero_page i ≡ 0
 zero_byte i = elim (cases_lt i 4096) [
   | inl small ↦ get_or-replicate 4096 i 0 0 small
   | inr large ↦ get_or_past zero_page i 0 large
 ]
 
-zero_word : (i : ℕ) → word_at zero_page i ≡ 0
+pub zero_word : (i : ℕ) → word_at zero_page i ≡ 0
 zero_word i = little_from-same (drop (8 * i) zero_page) [] 0 8 (λ j above below. get_or-drop (8 * i) zero_page j 0 ∙ zero_byte (8 * i + j))
 
 pub places_of-zeros : places_of zero_page ≡ no_versions

@@ -1,5 +1,5 @@
 //! A leaf table: the places of the frames of 512 pages, in a frame of its own.
-ghost use Rattle.std.specs.Prelude.{◌≡◌, ◌<◌, ◌*◌, ◌+◌, ◌≤◌, slice_set, Some, None, length, replicate, count_by, is_some, cond};
+ghost use Rattle.std.specs.Prelude.{ℕ, IsTrue, ◌≡◌, ◌<◌, ◌*◌, ◌+◌, ◌≤◌, slice_set, Some, None, length, replicate, count_by, is_some, cond};
 ghost use Rattle.byteorder.specs.Endian.{little_bytes};
 ghost use Rattle.vm_base.specs.FlatMemory.{zero_page, spliced};
 ghost use Rattle.kernel_meaning.specs.Leaves.{version_at, has_pages, has_present};
@@ -16,6 +16,9 @@ pub(crate) const CELL_PAGES: u16 = 512;
 
 /// Bytes of a table entry.
 const ENTRY_BYTES: usize = 8;
+
+/// How many entries are looked at together.
+pub(crate) const BLOCK: u16 = 8;
 
 /// For each page of a cell the place of its frame, or none, and whether the page may be written
 /// to. It is in a frame, with an entry for each page.
@@ -131,11 +134,39 @@ impl LeafTable {
         false
     }
 
-    /// Whether a page is present. It reads no entry after that of the first one.
+    /// Whether a page is present. It looks at no block of entries behind that of the first one.
     pub(crate) fn has_pages(&self) -> bool
         ensures { result ≡ has_pages self.now.places }
     {
-        self.covers(0, self.entries())
+        for block in 0..self.entries() / BLOCK {
+            if self.covers_block(BLOCK * block) {
+                return true;
+            }
+        }
+        false
+    }
+
+    /// Whether one of a block of pages is present.
+    fn covers_block(&self, first: u16) -> bool
+        requires { first + 8 ≤ CELL_PAGES }
+        ensures { result ≡ has_present self.now.places first 8 }
+    {
+        if self.is_bare(first) {
+            return false;
+        }
+        self.covers(first, BLOCK)
+    }
+
+    /// Whether the entries of a block of pages are all zero, so that none of them is present.
+    pub(crate) fn is_bare(&self, first: u16) -> bool
+        requires { first + 8 ≤ CELL_PAGES }
+        ensures { IsTrue result → (k : ℕ) → first ≤ k → k < first + 8
+            → version_at self.now.places k ≡ None }
+    {
+        let bytes: &[u8] = self.frame.bytes();
+        let begin = ENTRY_BYTES * first as usize;
+        let zeros: &[u8] = &[0; 64];
+        &bytes[begin..begin + 64] == zeros
     }
 
     /// The frame that the table was in.

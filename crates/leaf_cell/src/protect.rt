@@ -1,14 +1,14 @@
 //! What the parent's pages may be used for.
-ghost use Rattle.std.specs.Prelude.{◌≡◌, ◌+◌, ◌<◌, ◌≤◌, slice_set, None, true};
+ghost use Rattle.std.specs.Prelude.{◌≡◌, ◌+◌, ◌<◌, ◌≤◌, slice_set, Some, None, true};
 ghost use Rattle.kernel_meaning.specs.Leaves.{has_present};
 ghost use Rattle.kernel_meaning.specs.CellAccount.{Protect};
 ghost use Rattle.leaf_cell.specs.CellView.{AreUnjoined};
 ghost use Rattle.leaf_cell.specs.Inside.{AreWritable, own_places};
-ghost use Rattle.leaf_cell.specs.Permissions.{allowed, is_unshared, with_allowed};
+ghost use Rattle.leaf_cell.specs.Permissions.{allowed, is_unshared, table_allowed, with_allowed};
 ghost use Rattle.leaf_cell.specs.Standing.{MadeAct};
 
 use crate::cell::Cell;
-use crate::leaf_table::{CELL_PAGES, LeafTable};
+use crate::leaf_table::{BLOCK, CELL_PAGES, LeafTable};
 use crate::lookups::names_place;
 use crate::snapshot::Snapshot;
 use vm_base::{Allot, Perm};
@@ -40,6 +40,7 @@ impl Cell {
 }
 
 /// Whether the pages of a range may be written to, but for those that a snapshot's own table names.
+/// It goes block after block, and passes over a block without a page.
 pub(crate) fn allow_range(
     parent: &mut Option<LeafTable>,
     snapshot: &Option<Snapshot>,
@@ -52,11 +53,44 @@ pub(crate) fn allow_range(
     ensures { parent.new ≡ with_allowed is_writable (own_places snapshot.now) first pages parent.old }
 {
     if let Some(table) = parent {
-        for page in first..first + pages {
-            if let Some(place) = table.get(page) {
-                let is_alone = !names_place(snapshot, page, place);
-                table.set(page, place, is_writable && is_alone);
-            }
+        let blocks = pages / BLOCK;
+        for block in 0..blocks {
+            allow_block(table, snapshot, first + BLOCK * block, is_writable);
+        }
+        let done = BLOCK * blocks;
+        allow_pages(table, snapshot, first + done, pages - done, is_writable);
+    }
+}
+
+/// The same for a block of pages of a table.
+fn allow_block(table: &mut LeafTable, snapshot: &Option<Snapshot>, first: u16, is_writable: bool)
+    requires range { first + 8 ≤ CELL_PAGES }
+    requires writable { AreWritable (Some table.old) (own_places snapshot.now) }
+    ensures { table.new ≡ table_allowed is_writable (own_places snapshot.now) first 8 table.old }
+{
+    if table.is_bare(first) {
+        return;
+    }
+    allow_pages(table, snapshot, first, BLOCK, is_writable);
+}
+
+/// The same for any pages of a table, one after another.
+fn allow_pages(
+    table: &mut LeafTable,
+    snapshot: &Option<Snapshot>,
+    first: u16,
+    pages: u16,
+    is_writable: bool,
+)
+    requires range { first + pages ≤ CELL_PAGES }
+    requires writable { AreWritable (Some table.old) (own_places snapshot.now) }
+    ensures { table.new
+        ≡ table_allowed is_writable (own_places snapshot.now) first pages table.old }
+{
+    for page in first..first + pages {
+        if let Some(place) = table.get(page) {
+            let is_alone = !names_place(snapshot, page, place);
+            table.set(page, place, is_writable && is_alone);
         }
     }
 }

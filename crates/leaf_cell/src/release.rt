@@ -6,7 +6,7 @@ ghost use Rattle.leaf_cell.specs.Inside.{table_places, own_places, snapshot_plac
 ghost use Rattle.leaf_cell.specs.Releasing.{one_if, own_if, IsLeafReleased, AreHome, Releasing, IsReleased};
 
 use crate::frame_places::FramePlaces;
-use crate::leaf_table::{CELL_PAGES, LeafTable};
+use crate::leaf_table::{BLOCK, CELL_PAGES, LeafTable};
 use crate::lookups::{own_place, place_in};
 use crate::snapshot::{Snapshot, SnapshotLeaf};
 use vm_base::{Allot, Frame};
@@ -55,7 +55,35 @@ fn release_pages<A: Allot>(
     ensures untold { A.grants allot.new ≡ None }
     ensures unrefused { A.refused (A.state allot.new) ≡ A.refused (A.state allot.old) }
 {
-    for page in 0..CELL_PAGES {
+    for block in 0..CELL_PAGES / BLOCK {
+        release_block(table, other, BLOCK * block, frames, allot);
+    }
+}
+
+/// The same for a block of pages, which has nothing to give back where no page is present.
+fn release_block<A: Allot>(
+    table: &LeafTable,
+    other: &Option<LeafTable>,
+    first: u16,
+    frames: &mut FramePlaces,
+    allot: &mut A,
+)
+    requires size { length frames.old ≡ 1024 }
+    requires home { (first + 8 ≤ CELL_PAGES)
+        × (AreHome table.now.places × AreHome (table_places other.now)) }
+    requires out { count_by is_some frames.old ≤ A.out (A.state allot.old) }
+    requires untold { A.grants allot.old ≡ None }
+    ensures released { Releasing A.goes (A.state allot.old) (A.state allot.new)
+        table.now.places (table_places other.now) frames.old frames.new first (first + 8) }
+    ensures out { A.out (A.state allot.new) + count_by is_some frames.old
+        ≡ A.out (A.state allot.old) + count_by is_some frames.new }
+    ensures untold { A.grants allot.new ≡ None }
+    ensures unrefused { A.refused (A.state allot.new) ≡ A.refused (A.state allot.old) }
+{
+    if table.is_bare(first) {
+        return;
+    }
+    for page in first..first + BLOCK {
         release_entry(table, other, page, frames, allot);
     }
 }

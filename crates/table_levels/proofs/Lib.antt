@@ -1,3 +1,4 @@
+pub mod BareEntries
 pub mod CellLemmas
 pub mod Counting
 pub mod TableLemmas

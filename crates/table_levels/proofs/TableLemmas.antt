@@ -18,7 +18,7 @@ number_same (suc n) i xs ys same =
     ∙ ap (λ r. get_or ys i 0 + 256 * r) (number_same n (suc i) xs ys (λ k le lt. same k (omega arith) (omega arith)))
 
 -- an entry is that of its eight bytes
-entry_same : (xs ys : List ℕ) (i : ℕ) → ((k : ℕ) → 8 * i ≤ k → k < 8 * i + 8 → get_or xs k 0 ≡ get_or ys k 0) → entry_at xs i ≡ entry_at ys i
+pub entry_same : (xs ys : List ℕ) (i : ℕ) → ((k : ℕ) → 8 * i ≤ k → k < 8 * i + 8 → get_or xs k 0 ≡ get_or ys k 0) → entry_at xs i ≡ entry_at ys i
 unfolding entry_at
 entry_same xs ys i same =
     ap entry_value (number_same 8 0 (drop (8 * i) xs) (drop (8 * i) ys) (λ k le lt.
@@ -70,7 +70,7 @@ zero_number (suc n) i xs zeros =
     let first : get_or xs i 0 ≡ 0 = zeros i in
     omega arith
 
-zero_byte : (n k : ℕ) → ◌≡◌ {A = ℕ} (get_or (replicate n 0) k 0) 0
+pub zero_byte : (n k : ℕ) → ◌≡◌ {A = ℕ} (get_or (replicate n 0) k 0) 0
 zero_byte zero k = refl
 zero_byte (suc n) zero = refl
 zero_byte (suc n) (suc k) = zero_byte n k

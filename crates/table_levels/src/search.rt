@@ -6,7 +6,7 @@ ghost use Rattle.table_levels.specs.Walks.{entry_in, middle_at, slot_of, levels_
 ghost use Rattle.table_levels.specs.Links.{AreInUse};
 
 use crate::directory::place_of;
-use crate::table::{ENTRIES, entry, is_zero};
+use crate::table::{ENTRIES, entry};
 use vm_base::Frame;
 
 /// How many entries are looked at together.
@@ -63,12 +63,9 @@ fn is_bare(table: &Frame, begin: usize) -> bool
     ensures { IsTrue result → (k : ℕ) → begin ≤ k → k < begin + 8
         → entry_at table.now.bytes k ≡ None }
 {
-    for i in begin..begin + BLOCK {
-        if !is_zero(table, i) {
-            return false;
-        }
-    }
-    true
+    let bytes: &[u8] = table.bytes();
+    let zeros: &[u8] = &[0; 8 * BLOCK];
+    &bytes[8 * begin..8 * (begin + BLOCK)] == zeros
 }
 
 /// The first middle table from an index on, by its index in all and its place.

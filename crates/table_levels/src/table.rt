@@ -22,15 +22,6 @@ pub(crate) fn entry(table: &Frame, i: usize) -> Option<u32>
     }
 }
 
-/// Whether an entry is zero, and so not present.
-pub(crate) fn is_zero(table: &Frame, i: usize) -> bool
-    requires { i < 512 }
-    ensures { IsTrue result → entry_at table.now.bytes i ≡ None }
-{
-    let bytes: &[u8] = table.bytes();
-    LittleEndian::read_u64(&bytes[8 * i..]) == 0
-}
-
 /// Names a number in an entry, or takes the entry out.
 pub(crate) fn set_entry(table: &mut Frame, i: usize, number: Option<u32>)
     requires { i < 512 }

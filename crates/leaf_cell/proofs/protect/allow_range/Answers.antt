@@ -1,48 +1,43 @@
-use Rattle.std.proofs.Common.{◌≡◌, ◌∙◌, ◌+◌, ◌-◌, ◌<◌, sym, ap, subst, arith, Some}
-use Rattle.std.specs.Prelude.{not, ◌&&◌, nat_eq}
-use Rattle.std.specs.Option.{option_eq}
-use Rattle.kernel_meaning.specs.Leaves.{version_at}
-use Rattle.leaf_cell.specs.Places.{with_entry}
+use Rattle.std.proofs.Common.{◌≡◌, ◌∙◌, ◌+◌, ◌-◌, ◌*◌, ◌/◌, ℕ, sym, ap, subst, arith, Some}
 use Rattle.leaf_cell.specs.Inside.{AreWritable, own_places}
 use Rattle.leaf_cell.specs.Permissions.{table_allowed, with_allowed}
-use Rattle.leaf_cell.proofs.AllowedPages.{next-allowed, skip-allowed, no-allowed}
+use Rattle.leaf_cell.proofs.AllowedPages.{no-allowed}
+use Rattle.leaf_cell.proofs.BlockPages.{writable-allowed, both-allowed}
 use Rattle.leaf_cell.proofs.protect.allow_range.Goals as goal
-use Rattle.leaf_cell.proofs.protect.allow_range.Goals.{in-Some-get, then-is_writable, else-is_writable, in_default-get}
 
-pub loop-page-init : goal.loop-page-init
-loop-page-init c =
-    let none : c.args.first - c.args.first ≡ 0 = omega arith in
-    subst (λ n. c.in-Some.table ≡ table_allowed c.args.is_writable (own_places c.args.snapshot.now) c.args.first n c.in-Some.table) (sym none)
-    (no-allowed c.args.is_writable (own_places c.args.snapshot.now) c.args.first c.in-Some.table
-    (subst (λ parent. AreWritable parent (own_places c.args.snapshot.now)) c.in-Some.is c.requires.writable).size)
+pub loop-block-init : goal.loop-block-init
+loop-block-init c = no-allowed c.args.is_writable (own_places c.args.snapshot.now) c.args.first c.in-Some.table
+    (subst (λ parent. AreWritable parent (own_places c.args.snapshot.now)) c.in-Some.is c.requires.writable).size
 
-pub loop-page-preserved : goal.loop-page-preserved
-loop-page-preserved c =
-    let place : c.args.first + (c.loop-page.page - c.args.first) ≡ c.loop-page.page = omega (arith, c.loop-page.auto.page) in
-    let next : c.loop-page.page + 1 - c.args.first ≡ c.loop-page.page - c.args.first + 1 = omega (arith, c.loop-page.auto.page) in
-    let small : c.loop-page.page < 512 = omega (arith, c.loop-page-test.true, c.requires.range) in
-    subst (λ n. c.match-get.table ≡ table_allowed c.args.is_writable (own_places c.args.snapshot.now) c.args.first n c.in-Some.table) (sym next)
-    (elim c.match-get.branch [
-      | in-Some-get w ↦
-          let may : w.if-is_writable.set ≡ (c.args.is_writable && not (option_eq nat_eq (version_at (own_places c.args.snapshot.now) c.loop-page.page) (Some w.in-Some-get.place))) =
-          elim w.if-is_writable.branch [
-            | then-is_writable v ↦ v.set-is ∙ ap not w.names_place-is_alone.ensures
-                ∙ sym (ap (λ b. b && not (option_eq nat_eq (version_at (own_places c.args.snapshot.now) c.loop-page.page) (Some w.in-Some-get.place))) v.if-is_writable.true)
-            | else-is_writable v ↦ v.set-is ∙ v.if-is_writable.false
-                ∙ sym (ap (λ b. b && not (option_eq nat_eq (version_at (own_places c.args.snapshot.now) c.loop-page.page) (Some w.in-Some-get.place))) v.if-is_writable.false)
-          ] in
-          w.table-is ∙ w.set.ensures ∙ ap (with_entry c.loop-page.table c.loop-page.page w.in-Some-get.place) may
-          ∙ next-allowed c.args.is_writable (own_places c.args.snapshot.now) c.args.first (c.loop-page.page - c.args.first) c.in-Some.table c.loop-page.table c.loop-page.page w.in-Some-get.place
-          c.loop-page.invariant place small (sym c.get.ensures ∙ w.in-Some-get.is)
-      | in_default-get w ↦
-          w.table-is
-          ∙ skip-allowed c.args.is_writable (own_places c.args.snapshot.now) c.args.first (c.loop-page.page - c.args.first) c.in-Some.table c.loop-page.table c.loop-page.page
-          c.loop-page.invariant place (sym c.get.ensures ∙ w.in_default-get.is)
-          ((subst (λ parent. AreWritable parent (own_places c.args.snapshot.now)) c.in-Some.is c.requires.writable).apart c.loop-page.page)
-    ])
+pub allow_block-requires-clause-writable : goal.allow_block-requires-clause-writable
+allow_block-requires-clause-writable c =
+    subst (λ table. AreWritable (Some table) (own_places c.args.snapshot.now)) (sym c.loop-block.invariant)
+    (writable-allowed c.args.is_writable (own_places c.args.snapshot.now) c.args.first (8 * c.loop-block.block) c.in-Some.table
+    (subst (λ parent. AreWritable parent (own_places c.args.snapshot.now)) c.in-Some.is c.requires.writable))
 
-pub returns-after-loop-page : goal.returns-after-loop-page
-returns-after-loop-page c =
-    let all : c.loop-page.page - c.args.first ≡ c.args.pages = omega (arith, c.loop-page.auto.page, c.loop-page.auto.page-end, c.loop-page-test.false) in
-    ap Some (c.loop-page.invariant ∙ ap (λ n. table_allowed c.args.is_writable (own_places c.args.snapshot.now) c.args.first n c.in-Some.table) all)
+pub loop-block-preserved : goal.loop-block-preserved
+loop-block-preserved c =
+    let next : 8 * c.loop-block.block + 8 ≡ 8 * (c.loop-block.block + 1) = omega arith in
+    c.allow_block.ensures
+    ∙ ap (table_allowed c.args.is_writable (own_places c.args.snapshot.now) (c.args.first + 8 * c.loop-block.block) 8) c.loop-block.invariant
+    ∙ both-allowed c.args.is_writable (own_places c.args.snapshot.now) c.args.first (8 * c.loop-block.block) 8 c.in-Some.table
+    ∙ ap (λ n. table_allowed c.args.is_writable (own_places c.args.snapshot.now) c.args.first n c.in-Some.table) next
+
+pub allow_pages-requires-clause-writable : goal.allow_pages-requires-clause-writable
+allow_pages-requires-clause-writable c =
+    subst (λ table. AreWritable (Some table) (own_places c.args.snapshot.now)) (sym c.loop-block.invariant)
+    (writable-allowed c.args.is_writable (own_places c.args.snapshot.now) c.args.first (8 * c.loop-block.block) c.in-Some.table
+    (subst (λ parent. AreWritable parent (own_places c.args.snapshot.now)) c.in-Some.is c.requires.writable))
+
+pub returns-after-loop-block : goal.returns-after-loop-block
+returns-after-loop-block c =
+    let blocks : ℕ = c.args.pages / 8 in
+    let all : 8 * c.loop-block.block ≡ 8 * blocks = omega (arith, c.loop-block.auto.block-end, c.loop-block-test.false) in
+    let whole : 8 * blocks + (c.args.pages - 8 * blocks) ≡ c.args.pages = omega arith in
+    let done : c.loop-block.table ≡ table_allowed c.args.is_writable (own_places c.args.snapshot.now) c.args.first (8 * blocks) c.in-Some.table = c.loop-block.invariant
+    ∙ ap (λ n. table_allowed c.args.is_writable (own_places c.args.snapshot.now) c.args.first n c.in-Some.table) all in
+    ap Some (c.allow_pages.ensures
+    ∙ ap (table_allowed c.args.is_writable (own_places c.args.snapshot.now) (c.args.first + 8 * blocks) (c.args.pages - 8 * blocks)) done
+    ∙ both-allowed c.args.is_writable (own_places c.args.snapshot.now) c.args.first (8 * blocks) (c.args.pages - 8 * blocks) c.in-Some.table
+    ∙ ap (λ n. table_allowed c.args.is_writable (own_places c.args.snapshot.now) c.args.first n c.in-Some.table) whole)
     ∙ ap (with_allowed c.args.is_writable (own_places c.args.snapshot.now) c.args.first c.args.pages) (sym c.in-Some.is)
