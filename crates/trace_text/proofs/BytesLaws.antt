@@ -105,7 +105,8 @@ behind_none (Some others) = refl
 abbrev pub behind_if : Bool → List ℕ → Option (List ℕ) → Option (List ℕ)
 behind_if are_spelled read bytes = cond are_spelled (behind read bytes) None
 
-pair_behind : (before spelled : Bool) (read : List ℕ) (byte : ℕ) (pair : Option ℕ) (bytes : Option (List ℕ)) → spelled ≡ is_some pair → IfSome pair (λ b. byte ≡ b)
+pair_behind : (before spelled : Bool) (read : List ℕ) (byte : ℕ) (pair : Option ℕ) (bytes : Option (List ℕ))
+    → spelled ≡ is_some pair → IfSome pair (λ b. byte ≡ b)
     → behind_if (before && spelled) (read ++ byte ∷ []) bytes ≡ behind_if before read (pair >>= λ b. bytes >>= λ others. Some (b ∷ others))
 pair_behind false spelled read byte pair bytes tells is = refl
 pair_behind true spelled read byte None bytes tells is = rw tells refl
@@ -123,8 +124,11 @@ pair_read digits list i byte before spelled pairs inside tells is so_far =
     let one = drop_more digits (2 * i) 0 (omega arith) in
     let two = drop_more digits (2 * i + 1) 0 (omega arith) in
     let end : 2 * i + 1 + 1 ≡ 2 * (i + 1) = omega arith in
-    let rest : drop (2 * i) digits ≡ high ∷ low ∷ drop (2 * (i + 1)) digits = one ∙ ap (λ (xs : List ℕ). high ∷ xs) (two ∙ ap (λ n. low ∷ drop n digits) end) in
-    let bytes : bytes_of (drop (2 * i) digits) ≡ (byte_of (high ∷ low ∷ []) >>= λ b. bytes_of (drop (2 * (i + 1)) digits) >>= λ others. Some (b ∷ others)) = ap bytes_of rest in
+    let behind_both : List ℕ = drop (2 * (i + 1)) digits in
+    let rest : drop (2 * i) digits ≡ high ∷ low ∷ behind_both =
+    one ∙ ap (λ (xs : List ℕ). high ∷ xs) (two ∙ ap (λ n. low ∷ drop n digits) end) in
+    let bytes : bytes_of (drop (2 * i) digits) ≡ (byte_of (high ∷ low ∷ []) >>= λ b. bytes_of behind_both >>= λ others. Some (b ∷ others)) =
+    ap bytes_of rest in
     ap (λ (read : List ℕ). behind_if (before && spelled) read (bytes_of (drop (2 * (i + 1)) digits))) (take_more_set list i byte inside)
     ∙ pair_behind before spelled (take i list) byte (byte_of (high ∷ low ∷ [])) (bytes_of (drop (2 * (i + 1)) digits)) tells is
     ∙ ap (behind_if before (take i list)) (sym bytes) ∙ so_far
@@ -136,7 +140,8 @@ all_read digits list i false pairs past so_far = so_far
 all_read digits list i true pairs past so_far =
     let none : drop (2 * i) digits ≡ [] = drop_all (2 * i) digits (omega arith) in
     let all : take i list ≡ list = take_all i list past in
-    sym (ap (λ (read : List ℕ). behind read (bytes_of (drop (2 * i) digits))) all ∙ ap (λ (rest : List ℕ). behind list (bytes_of rest)) none ∙ ap (λ (read : List ℕ). Some read) (append-nil list))
+    sym (ap (λ (read : List ℕ). behind read (bytes_of (drop (2 * i) digits))) all
+    ∙ ap (λ (rest : List ℕ). behind list (bytes_of rest)) none ∙ ap (λ (read : List ℕ). Some read) (append-nil list))
     ∙ so_far
 
 -- an odd number of digits spells nothing
@@ -158,7 +163,8 @@ encode_append [] other = refl
 encode_append (byte ∷ one) other = ap (λ (text : List ℕ). encode_lower (byte ∷ []) ++ text) (encode_append one other)
 
 -- the digits of a piece, without the line feeds behind them
-digits_alone : (piece : List ℕ) (n : ℕ) → n ≡ 2 * length piece → (feeds : List ℕ) → take n (encode_lower piece ++ feeds) ≡ encode_lower piece
+digits_alone : (piece : List ℕ) (n : ℕ) → n ≡ 2 * length piece → (feeds : List ℕ)
+    → take n (encode_lower piece ++ feeds) ≡ encode_lower piece
 digits_alone piece n is feeds =
     let long : n ≡ length (encode_lower piece) = is ∙ sym (length-encode_with lower_digits piece) in
     rw long (take-append_seam (encode_lower piece) feeds)
@@ -167,10 +173,12 @@ digits_alone piece n is feeds =
 abbrev pub feeds_behind : List ℕ → List ℕ
 feeds_behind piece = replicate (65 - 2 * length piece) 10
 
-pub line_is : (piece digits : List ℕ) → digits ≡ encode_lower piece → digits ++ drop (2 * length piece) (replicate 65 10) ≡ encode_lower piece ++ feeds_behind piece
+pub line_is : (piece digits : List ℕ) → digits ≡ encode_lower piece
+    → digits ++ drop (2 * length piece) (replicate 65 10) ≡ encode_lower piece ++ feeds_behind piece
 line_is piece digits is = rw is (ap (λ (feeds : List ℕ). encode_lower piece ++ feeds) (drop-replicate (2 * length piece) 65 10))
 
-pub line_holds : (n : ℕ) (line piece : List ℕ) → n ≤ 65 → length piece ≤ 32 → line ≡ encode_lower piece ++ feeds_behind piece → n ≡ length (take n line)
+pub line_holds : (n : ℕ) (line piece : List ℕ) → n ≤ 65 → length piece ≤ 32
+    → line ≡ encode_lower piece ++ feeds_behind piece → n ≡ length (take n line)
 line_holds n line piece small few is =
     let long = ap length is ∙ length-append (encode_lower piece) (feeds_behind piece) in
     let digits = length-encode_with lower_digits piece in
@@ -179,21 +187,28 @@ line_holds n line piece small few is =
     sym (length-take-le n line (omega (arith, long, digits, feeds)))
 
 -- a piece was printed
-pub piece_printed : (out new text rest piece others line : List ℕ) → 32 < length rest → piece ≡ take 32 rest → others ≡ drop 32 rest → line ≡ encode_lower piece ++ feeds_behind piece → new ≡ out ++ take 64 line
+pub piece_printed : (out new text rest piece others line : List ℕ) → 32 < length rest → piece ≡ take 32 rest
+    → others ≡ drop 32 rest → line ≡ encode_lower piece ++ feeds_behind piece → new ≡ out ++ take 64 line
     → out ++ (encode_lower rest ++ 10 ∷ []) ≡ text → new ++ (encode_lower others ++ 10 ∷ []) ≡ text
 piece_printed out new text rest piece others line more front back is pushed so_far =
     let few : 64 ≡ 2 * length piece = sym (ap (λ n. 2 * n) (ap length front ∙ length-take-le 32 rest (omega arith))) in
-    let digits : take 64 line ≡ encode_lower piece = ap (λ (line : List ℕ). take 64 line) is ∙ digits_alone piece 64 few (feeds_behind piece) in
-    let both : piece ++ others ≡ rest = ap (λ (piece : List ℕ). piece ++ others) front ∙ ap (λ (others : List ℕ). take 32 rest ++ others) back ∙ take-append-drop 32 rest in
-    let whole : encode_lower piece ++ encode_lower others ≡ encode_lower rest = sym (encode_append piece others) ∙ ap encode_lower both in
+    let digits : take 64 line ≡ encode_lower piece =
+    ap (λ (line : List ℕ). take 64 line) is ∙ digits_alone piece 64 few (feeds_behind piece) in
+    let both : piece ++ others ≡ rest =
+    ap (λ (piece : List ℕ). piece ++ others) front ∙ ap (λ (others : List ℕ). take 32 rest ++ others) back
+    ∙ take-append-drop 32 rest in
+    let whole : encode_lower piece ++ encode_lower others ≡ encode_lower rest =
+    sym (encode_append piece others) ∙ ap encode_lower both in
     let last : List ℕ = encode_lower others ++ 10 ∷ [] in
     ap (λ (front : List ℕ). front ++ last) (pushed ∙ ap (λ (front : List ℕ). out ++ front) digits)
     ∙ append_assoc out (encode_lower piece) last
-    ∙ ap (λ (back : List ℕ). out ++ back) (sym (append_assoc (encode_lower piece) (encode_lower others) (10 ∷ [])) ∙ ap (λ (digits : List ℕ). digits ++ 10 ∷ []) whole)
+    ∙ ap (λ (back : List ℕ). out ++ back)
+    (sym (append_assoc (encode_lower piece) (encode_lower others) (10 ∷ [])) ∙ ap (λ (digits : List ℕ). digits ++ 10 ∷ []) whole)
     ∙ so_far
 
 -- the last piece was printed, with one line feed
-pub last_printed : (out new text rest line : List ℕ) → length rest ≤ 32 → line ≡ encode_lower rest ++ feeds_behind rest → new ≡ out ++ take (2 * length rest + 1) line
+pub last_printed : (out new text rest line : List ℕ) → length rest ≤ 32 → line ≡ encode_lower rest ++ feeds_behind rest
+    → new ≡ out ++ take (2 * length rest + 1) line
     → out ++ (encode_lower rest ++ 10 ∷ []) ≡ text → new ≡ text
 last_printed out new text rest line few is pushed so_far =
     let long : 2 * length rest + 1 ≡ length (encode_lower rest) + 1 = sym (ap (λ n. n + 1) (length-encode_with lower_digits rest)) in
@@ -206,7 +221,8 @@ last_printed out new text rest line few is pushed so_far =
     pushed ∙ ap (λ (front : List ℕ). out ++ front) line ∙ so_far
 
 -- what stands in front stays
-pub front_stays : (before out new more : List ℕ) → new ≡ out ++ more → take (length before) out ≡ before → take (length before) new ≡ before
+pub front_stays : (before out new more : List ℕ) → new ≡ out ++ more → take (length before) out ≡ before
+    → take (length before) new ≡ before
 front_stays before out new more pushed kept =
     let long = ap length kept in
     let least = length-take (length before) out in
