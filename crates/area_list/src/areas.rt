@@ -81,7 +81,8 @@ impl Areas {
     pub fn map(&mut self, first: u64, pages: u64, perm: Perm) -> Result<(), AreaFault>
         requires some { 0 < pages }
         requires within { first + pages ≤ 2 ^ 36 }
-        ensures answer { ChangesAreas self.old self.new result (areas_mapped self.old first pages perm) }
+        ensures answer { ChangesAreas self.old self.new result
+            (areas_mapped self.old first pages perm) }
         ensures pages { OnOk result (Sets self.old self.new first pages (Some perm)) }
     {
         if let Some(page) = lowest_taken(self.list(), first, first + pages) {
@@ -95,7 +96,8 @@ impl Areas {
     pub fn unmap(&mut self, first: u64, pages: u64) -> Result<(), AreaFault>
         requires some { 0 < pages }
         requires within { first + pages ≤ 2 ^ 36 }
-        ensures answer { ChangesAreas self.old self.new result (areas_unmapped self.old first pages) }
+        ensures answer { ChangesAreas self.old self.new result
+            (areas_unmapped self.old first pages) }
         ensures pages { OnOk result (Sets self.old self.new first pages None) }
     {
         self.replace(first, pages, None)
@@ -106,7 +108,8 @@ impl Areas {
     pub fn protect(&mut self, first: u64, pages: u64, perm: Perm) -> Result<(), AreaFault>
         requires some { 0 < pages }
         requires within { first + pages ≤ 2 ^ 36 }
-        ensures answer { ChangesAreas self.old self.new result (areas_protected self.old first pages perm) }
+        ensures answer { ChangesAreas self.old self.new result
+            (areas_protected self.old first pages perm) }
         ensures pages { OnOk result (Sets self.old self.new first pages (Some perm)) }
     {
         if let Some(page) = lowest_outside(self.list(), first, first + pages) {
@@ -122,7 +125,8 @@ impl Areas {
         requires some { 0 < pages }
         requires within { first + pages ≤ 2 ^ 36 }
         requires over { IsOver first pages area }
-        ensures answer { ChangesAreas self.old self.new result (if_few (joined (pieces first (first + pages) area self.old))) }
+        ensures answer { ChangesAreas self.old self.new result
+            (if_few (joined (pieces first (first + pages) area self.old))) }
         ensures pages { OnOk result (Sets self.old self.new first pages (option_map (λ area. area.perm) area)) }
         ensures form { IsAreaList self.old }
     {

@@ -125,7 +125,8 @@ eager-rises : (n : ℕ) (answer : Answer) (course : Course) → IsNone (kept_by 
 eager-rises n Yes course lacks rises = rising-with (record { number = n; mode = Eager; versions = course.cell.parent; leaf = Own }) course.cell.kept lacks rises
 eager-rises n (No at) course lacks rises = rises
 
-forked-rises : (n : ℕ) (mode : Mode) (course : Course) → IsNone (kept_by course.cell.kept n) → Rises course → Rises (course_forked n mode course)
+forked-rises : (n : ℕ) (mode : Mode) (course : Course) → IsNone (kept_by course.cell.kept n) → Rises course
+    → Rises (course_forked n mode course)
 forked-rises n Eager course lacks rises = eager-rises n (coming_answer course) (asking want.Leaf course) lacks rises
 forked-rises n OnDemand course lacks rises = rising-with (record { number = n; mode = OnDemand; versions = course.cell.parent; leaf = Joined }) course.cell.kept lacks rises
 forked-rises n Async course lacks rises = rising-with (record { number = n; mode = Async; versions = course.cell.parent; leaf = Joined }) course.cell.kept lacks rises

@@ -99,7 +99,8 @@ new_page_answered page leaves (No at) course = refused_at at leaves course
 
 -- an absent page takes a frame; so many leaves were taken for it before
 abbrev pub new_page_asked : ℕ → ℕ → Course → Course
-new_page_asked page leaves course = new_page_answered page leaves (coming_answer course) (asking want.Page course)
+new_page_asked page leaves course =
+    new_page_answered page leaves (coming_answer course) (asking want.Page course)
 
 -- the parent's missing leaf was answered
 abbrev pub parent_leaf_answered : ℕ → Answer → Course → Course
@@ -153,7 +154,8 @@ eager_fork_answered n (No at) course = refused_at at 0 course
 
 -- the fork of snapshot n: an eager one takes one frame for a leaf of its own, any other takes none
 abbrev pub course_forked : ℕ → Mode → Course → Course
-course_forked n Eager course = eager_fork_answered n (coming_answer course) (asking want.Leaf course)
+course_forked n Eager course =
+    eager_fork_answered n (coming_answer course) (asking want.Leaf course)
 course_forked n OnDemand course = record course { cell = with_fork n OnDemand Joined course.cell }
 course_forked n Async course = record course { cell = with_fork n Async Joined course.cell }
 

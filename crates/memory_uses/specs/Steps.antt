@@ -72,7 +72,8 @@ map_all memory [] = Ok memory
 map_all memory (area ∷ areas) = where_mapped (map_of memory area.0 area.1 ReadWrite) (λ mapped. map_all mapped areas)
 
 -- areas were mapped, and a range touched behind that
-pub record Begins (old new : MemoryState) (areas : List (ℕ × ℕ)) (address n : ℕ) : Type 0 where
+pub record MapsThenTouches (old new : MemoryState) (areas : List (ℕ × ℕ)) (address n : ℕ)
+    : Type 0 where
   pub mapped : FlatMemory
   pub maps : map_all old.mem areas ≡ Ok mapped
   pub mem : new.mem ≡ touched mapped address n

@@ -84,7 +84,8 @@ numbers-lacking : (snapshot : Option SnapshotTables) (c : ℕ) → slot_in snaps
 numbers-lacking None c none = refl
 numbers-lacking (Some tables) c none = ap (λ o. cond (is_some o) (tables.number ∷ []) []) none
 
-numbers-there : (snapshot : Option SnapshotTables) (c s n : ℕ) → slot_in snapshot c ≡ Some s → holds_number (living_number snapshot) n ≡ true
+numbers-there : (snapshot : Option SnapshotTables) (c s n : ℕ) → slot_in snapshot c ≡ Some s
+    → holds_number (living_number snapshot) n ≡ true
     → (number : ℕ) × ((numbers_at snapshot c ≡ number ∷ []) × ((number == n) ≡ true))
 numbers-there None c s n there live = absurd (false≢true (ap is_some there))
 numbers-there (Some tables) c s n there live = (tables.number, (ap (λ o. cond (is_some o) (tables.number ∷ []) []) there, live))

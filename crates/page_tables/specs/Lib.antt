@@ -4,6 +4,7 @@ pub mod SlotViews
 pub mod Standing
 pub mod SlotFrames
 pub mod Held
+pub mod Lending
 pub mod TablesView
 pub mod Accesses
 pub mod Losses

@@ -13,6 +13,7 @@ ghost use Rattle.page_tables.specs.Permissions.{StopsWriting};
 ghost use Rattle.page_tables.specs.Sides.{Sides};
 ghost use Rattle.page_tables.specs.Standing.{TablesStandFor, slot_count};
 ghost use Rattle.page_tables.specs.Held.{frames_of};
+ghost use Rattle.page_tables.specs.Lending.{IsLent, StaysLent};
 
 use crate::pieces::CELL_PAGES;
 use crate::slot::Slot;
@@ -26,14 +27,11 @@ impl PageTables {
     pub fn unmap<A: Allot>(&mut self, first: u64, count: u64, allot: &mut A)
         requires range { first + count ≤ 2 ^ 36 }
         requires stands { ∥ ((sides : Sides) × TablesStandFor self.old sides) ∥₁ }
-        requires lent { frames_of self.old ≤ A.out (A.state allot.old) }
-        requires untold { A.grants allot.old ≡ None }
+        requires lent { IsLent self.old (A.out (A.state allot.old)) (A.grants allot.old) }
         ensures made { MadeEvent A.goes (A.state allot.old) (A.state allot.new) (pages_unmapped first count) (pages_without first count) self.old self.new None }
-        ensures held { A.out (A.state allot.new) + frames_of self.old ≡ A.out (A.state allot.old) + frames_of self.new }
-        ensures untold { A.grants allot.new ≡ None }
-        ensures slots { slot_count self.new ≡ slot_count self.old }
+        ensures lent { StaysLent self.old self.new (A.out (A.state allot.old))
+            (A.out (A.state allot.new)) (A.grants allot.new) }
         ensures unrefused { A.refused (A.state allot.new) ≡ A.refused (A.state allot.old) }
-        ensures snapshot { self.new.snapshot ≡ self.old.snapshot }
         ensures writable { StopsWriting first count self.old self.new }
     {
         let end = first + count;

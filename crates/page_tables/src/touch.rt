@@ -6,7 +6,7 @@ ghost use Rattle.vm_base.specs.Places.{cell_of};
 ghost use Rattle.kernel_meaning.specs.FrameLaw.{lacks_slots};
 ghost use Rattle.page_tables.specs.Sides.{Sides};
 ghost use Rattle.page_tables.specs.Standing.{TablesStandFor, HasSlotFor, IsSlotOf, IsSlotChosen, slot_count};
-ghost use Rattle.page_tables.specs.Held.{frames_of};
+ghost use Rattle.page_tables.specs.Lending.{IsLent, StaysLent};
 ghost use Rattle.page_tables.specs.Permissions.{WritesAfterPage};
 ghost use Rattle.page_tables.specs.Making.{MadeTouch, page_refusal};
 
@@ -29,14 +29,11 @@ impl PageTables {
         requires page { page < 2 ^ 36 }
         requires known { slot ≡ get self.old.directory (cell_of page) }
         requires stands { ∥ ((sides : Sides) × (TablesStandFor self.old sides × (lacks_slots (slot_count self.old) sides.leaves (cell_of page ∷ []) ≡ false))) ∥₁ }
-        requires lent { frames_of self.old ≤ A.out (A.state allot.old) }
-        requires untold { A.grants allot.old ≡ None }
+        requires lent { IsLent self.old (A.out (A.state allot.old)) (A.grants allot.old) }
         ensures made { MadeTouch A.goes (A.state allot.old) (A.state allot.new) page self.old self.new (page_refusal page result) }
-        ensures held { A.out (A.state allot.new) + frames_of self.old ≡ A.out (A.state allot.old) + frames_of self.new }
-        ensures untold { A.grants allot.new ≡ None }
+        ensures lent { StaysLent self.old self.new (A.out (A.state allot.old))
+            (A.out (A.state allot.new)) (A.grants allot.new) }
         ensures counted { IfErr result (λ e. (A.refused (A.state allot.new) ≡ next_count (A.refused (A.state allot.old))) × (e.at ≡ A.refused (A.state allot.new))) }
-        ensures slots { slot_count self.new ≡ slot_count self.old }
-        ensures snapshot { self.new.snapshot ≡ self.old.snapshot }
         ensures writable { WritesAfterPage page result self.old self.new }
     {
         match slot {
@@ -53,14 +50,11 @@ impl PageTables {
         requires page { page < 2 ^ 36 }
         requires known { get self.old.directory (cell_of page) ≡ Some slot }
         requires stands { ∥ ((sides : Sides) × TablesStandFor self.old sides) ∥₁ }
-        requires lent { frames_of self.old ≤ A.out (A.state allot.old) }
-        requires untold { A.grants allot.old ≡ None }
+        requires lent { IsLent self.old (A.out (A.state allot.old)) (A.grants allot.old) }
         ensures made { MadeTouch A.goes (A.state allot.old) (A.state allot.new) page self.old self.new (page_refusal page result) }
-        ensures held { A.out (A.state allot.new) + frames_of self.old ≡ A.out (A.state allot.old) + frames_of self.new }
-        ensures untold { A.grants allot.new ≡ None }
+        ensures lent { StaysLent self.old self.new (A.out (A.state allot.old))
+            (A.out (A.state allot.new)) (A.grants allot.new) }
         ensures counted { IfErr result (λ e. (A.refused (A.state allot.new) ≡ next_count (A.refused (A.state allot.old))) × (e.at ≡ A.refused (A.state allot.new))) }
-        ensures slots { slot_count self.new ≡ slot_count self.old }
-        ensures snapshot { self.new.snapshot ≡ self.old.snapshot }
         ensures writable { WritesAfterPage page result self.old self.new }
     {
         let (_, index) = cell_and_index(page);
@@ -76,14 +70,11 @@ impl PageTables {
         requires page { page < 2 ^ 36 }
         requires new { get self.old.directory (cell_of page) ≡ None }
         requires stands { ∥ ((sides : Sides) × (TablesStandFor self.old sides × HasSlotFor self.old sides.leaves (cell_of page) slot)) ∥₁ }
-        requires lent { frames_of self.old ≤ A.out (A.state allot.old) }
-        requires untold { A.grants allot.old ≡ None }
+        requires lent { IsLent self.old (A.out (A.state allot.old)) (A.grants allot.old) }
         ensures made { MadeTouch A.goes (A.state allot.old) (A.state allot.new) page self.old self.new (page_refusal page result) }
-        ensures held { A.out (A.state allot.new) + frames_of self.old ≡ A.out (A.state allot.old) + frames_of self.new }
-        ensures untold { A.grants allot.new ≡ None }
+        ensures lent { StaysLent self.old self.new (A.out (A.state allot.old))
+            (A.out (A.state allot.new)) (A.grants allot.new) }
         ensures counted { IfErr result (λ e. (A.refused (A.state allot.new) ≡ next_count (A.refused (A.state allot.old))) × (e.at ≡ A.refused (A.state allot.new))) }
-        ensures slots { slot_count self.new ≡ slot_count self.old }
-        ensures snapshot { self.new.snapshot ≡ self.old.snapshot }
         ensures writable { WritesAfterPage page result self.old self.new }
     {
         let (cell, index) = cell_and_index(page);

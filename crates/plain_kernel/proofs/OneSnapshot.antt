@@ -23,12 +23,15 @@ first_loss_none : (n : ℕ) (cells : List ℕ) → first_loss [] n cells ≡ Non
 first_loss_none n [] = refl
 first_loss_none n (cell ∷ cells) = first_loss_none n cells
 
-same_answer : (found : Option ℕ) (bytes : List ℕ) → plain_snap_read_outcome (or_snap_refused OutsideSnapshot found (Ok bytes)) ≡ read_outcome (or_refused OutsideAreas found (Ok bytes))
+same_answer : (found : Option ℕ) (bytes : List ℕ)
+    → plain_snap_read_outcome (or_snap_refused OutsideSnapshot found (Ok bytes))
+    ≡ read_outcome (or_refused OutsideAreas found (Ok bytes))
 same_answer None bytes = refl
 same_answer (Some page) bytes = refl
 
 -- where nothing is lost, a snapshot's read answers as that of its memory
-pub kept_read_is : (memory : FlatMemory) (n address size : ℕ) → plain_snap_read_outcome (kept_read_of (Some memory) [] n address size) ≡ read_outcome (read_of memory address size)
+pub kept_read_is : (memory : FlatMemory) (n address size : ℕ)
+    → plain_snap_read_outcome (kept_read_of (Some memory) [] n address size) ≡ read_outcome (read_of memory address size)
 kept_read_is memory n address size =
     ap (λ found. plain_snap_read_outcome (or_snap_refused OutsideSnapshot (outside memory.areas (page_of address) (page_count address size)) (or_snap_refused CellLost found (Ok (bytes_at memory.present address size)))))
     (first_loss_none n (cells_of_range address size))

@@ -40,7 +40,8 @@ outcome_of world (Map first pages perm) = change_outcome (map_of world.parent fi
 outcome_of world (Read addr len) = read_outcome (read_of world.parent addr len)
 outcome_of world (Write addr bytes) = change_outcome (write_of world.parent addr bytes)
 outcome_of world (Fork number mode) = Done
-outcome_of world (SnapRead number addr len) = plain_snap_read_outcome (snap_read_of world number addr len)
+outcome_of world (SnapRead number addr len) =
+    plain_snap_read_outcome (snap_read_of world number addr len)
 
 -- the world after a change of the parent's memory; a refused one leaves it as it is
 abbrev pub changed : World → Result FlatMemory Refusal → World

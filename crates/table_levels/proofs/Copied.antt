@@ -50,7 +50,9 @@ pub record CopiesFirst (places tables : List Place) (n : ℕ) : Type 0 where
   pub free : (k : ℕ) → n ≤ k → table_at places k ≡ None
   pub counted : tables_at places ≡ tables_at (take n tables)
 
-pub copies_more : (places tables : List Place) (i : ℕ) (copy d : Place) → i < length tables → CopiesFirst places tables i → table_bytes_in copy ≡ table_bytes_in (get_or tables i d) → CopiesFirst (set places i copy) tables (i + 1)
+pub copies_more : (places tables : List Place) (i : ℕ) (copy d : Place) → i < length tables
+    → CopiesFirst places tables i → table_bytes_in copy ≡ table_bytes_in (get_or tables i d)
+    → CopiesFirst (set places i copy) tables (i + 1)
 copies_more places tables i copy d inside first same =
     let there : i < length places = omega (arith, first.size) in
     record {

@@ -53,8 +53,10 @@ module _ (old new : Levels) (cell slot place n : ℕ) (directory : IsDirectory o
   pub cells_inserted : directory_cells new ≡ insert (directory_cells old) cell slot
   cells_inserted = one_more_cell (2 ^ 27) (slot_of old) (slot_of new) cell slot below slot_inserted slot_kept
 
-  pub directory_inserted : get (directory_cells old) cell ≡ None → (extra : ℕ) → tables_in new ≡ n + extra → extra ≡ length (missing_tables (keys (directory_cells old)) cell)
-      → tables_at new.middles ≡ tables_at old.middles + cond (shares (2 ^ 9) (keys (directory_cells old)) cell) 0 1 → IsDirectory new (n + extra)
+  pub directory_inserted : get (directory_cells old) cell ≡ None → (extra : ℕ) → tables_in new ≡ n + extra
+      → extra ≡ length (missing_tables (keys (directory_cells old)) cell)
+      → tables_at new.middles ≡ tables_at old.middles + cond (shares (2 ^ 9) (keys (directory_cells old)) cell) 0 1
+      → IsDirectory new (n + extra)
   directory_inserted absent extra counted missing middles_counted =
       let index = cell / 512 in
       let index_below : index < 2 ^ 18 = omega arith in

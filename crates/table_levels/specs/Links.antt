@@ -51,7 +51,8 @@ wanted_for levels cell = record {
 pub record LinksCell (old new : Levels) (cell slot : ℕ) : Type 0 where
   pub cells : directory_cells new ≡ insert (directory_cells old) cell slot
   pub directory : AreDirectory new
-  pub counted : tables_in new ≡ tables_in old + length (missing_tables (keys (directory_cells old)) cell)
+  pub counted :
+      tables_in new ≡ tables_in old + length (missing_tables (keys (directory_cells old)) cell)
 
 -- an entry of the table is left, if the table is there
 abbrev pub IsInUse : Place → Type 0

@@ -64,6 +64,7 @@ Asks goes old wants (Ok done) new = LeadsAlong goes old (granted wants) new
 Asks goes old wants (Err e) new = RefusesOne goes old wants e.at new
 
 -- the frames of this user are more by so many where the call was granted, and as many as before where it was refused
-abbrev pub AddsFrames : {State X : Type 0} → (State → ℕ) → State → ℕ → Result X Refused → State → Type 0
+abbrev pub AddsFrames : {State X : Type 0}
+    → (State → ℕ) → State → ℕ → Result X Refused → State → Type 0
 AddsFrames out old n (Ok done) new = out new ≡ out old + n
 AddsFrames out old n (Err e) new = out new ≡ out old

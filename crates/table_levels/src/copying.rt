@@ -26,7 +26,8 @@ pub(crate) fn copy_of<A: Allot>(
     ensures copied { IfOk result (λ copy. table_bytes_in copy ≡ table_bytes_in table.now) }
     ensures requests { Asks A.goes (A.state allot.old) (replicate (tables_at (table.now ∷ [])) want) result (A.state allot.new) }
     ensures counts { Counts A.refused (A.state allot.old) result (A.state allot.new) }
-    ensures out { AddsFrames A.out (A.state allot.old) (tables_at (table.now ∷ [])) result (A.state allot.new) }
+    ensures out { AddsFrames A.out (A.state allot.old) (tables_at (table.now ∷ [])) result
+        (A.state allot.new) }
     ensures untold { A.grants allot.new ≡ A.grants allot.old }
 {
     let Some(source) = table else {
@@ -52,7 +53,8 @@ fn copy_level<A: Allot>(
     ensures kept { OnErr result (places.new.items ≡ places.old.items) }
     ensures requests { Asks A.goes (A.state allot.old) (replicate (tables_at tables.now) want) result (A.state allot.new) }
     ensures counts { Counts A.refused (A.state allot.old) result (A.state allot.new) }
-    ensures out { AddsFrames A.out (A.state allot.old) (tables_at tables.now) result (A.state allot.new) }
+    ensures out { AddsFrames A.out (A.state allot.old) (tables_at tables.now) result
+        (A.state allot.new) }
     ensures untold { A.grants allot.new ≡ A.grants allot.old }
 {
     let mut copied = 0;

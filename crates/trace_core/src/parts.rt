@@ -2,6 +2,7 @@
 ghost use Rattle.std.specs.Prelude.{◌≡◌, ◌≤◌, ◌<◌, IfOk, length, map, [], None, vec_capacity};
 ghost use Rattle.frame_pool.specs.Policies.{standing};
 ghost use Rattle.page_tables.specs.Permissions.{LetsNoneWrite};
+ghost use Rattle.trace_core.specs.declared.parts.TheConstants.{MOST_PAGES};
 ghost use Rattle.trace_core.specs.SupplyState.{supply_state_of, opening_supply, policy_sum};
 ghost use Rattle.trace_core.specs.KernelState.{opening_state};
 ghost use Rattle.trace_core.specs.KernelRun.{HasRun};
@@ -10,12 +11,15 @@ ghost use Rattle.trace_core.specs.KernelStanding.{KernelParts, KernelStands, cop
 use crate::supply::Supply;
 use area_list::Areas;
 use frame_pool::FramePolicy;
-use page_tables::PageTables;
+use page_tables::{PAGE_BYTES, PageTables};
 use std::alloc::Global;
 use vm_base::NoMemory;
 
-/// The most pages that one touch may meet.
-pub(crate) const MOST_PAGES: usize = 1025;
+/// The most bytes that one call touches, as the trait `Memory` has it.
+pub(crate) const MOST_BYTES: u64 = 4_194_304;
+
+/// The most pages that so many bytes may meet.
+pub(crate) const MOST_PAGES: usize = (MOST_BYTES / PAGE_BYTES) as usize + 1;
 
 /// What the kernel keeps of the snapshot that lives, beside its page tables.
 #[derive(Drop)]
@@ -37,7 +41,7 @@ pub(crate) struct Parts {
     /// Room for the pages that one touch adds.
     pub(crate) added: Vec<u64>,
 
-    ghost room: { 1025 ≤ vec_capacity added },
+    ghost room: { MOST_PAGES ≤ vec_capacity added },
     ghost numbered: { last ≤ 4294967295 },
     /// All is copied at a fork, so no copy of the snapshot was ever refused.
     ghost uncopied: { copies_refused_in snapshot ≡ 0 },

@@ -10,7 +10,7 @@ ghost use Rattle.page_tables.specs.Permissions.{KeepsWriting};
 ghost use Rattle.trace_core.specs.Writing.{WritesAfterTouch, WritesAfterWrite};
 ghost use Rattle.trace_core.specs.TouchAnswers.{fault_outcome, touch_outcome, IsReadyKernel, LeavesReady, LacksPage, with_stored};
 
-use crate::parts::{Parts, Standing};
+use crate::parts::{MOST_BYTES, Parts, Standing};
 use area_list::{AreaFault, Areas};
 use page_tables::PAGE_BYTES;
 use std::alloc::Global;
@@ -55,7 +55,7 @@ impl Parts {
     /// leaves no new page behind.
     pub fn touch(&mut self, addr: u64, len: u64) -> Result<(), Fault>
         requires some { 0 < len }
-        requires few { len ≤ 4194304 }
+        requires few { len ≤ MOST_BYTES }
         requires range { addr + len ≤ 2 ^ 48 }
         requires stands { ∥ IsKernel (⟦<Parts as Standing>⟧.parts self.old) ∥₁ }
         ensures ran { (machine : Machine) (state : KernelState) → KernelStands (⟦<Parts as Standing>⟧.parts self.old) machine state
@@ -115,7 +115,7 @@ impl Parts {
     /// no new page behind.
     pub fn write(&mut self, addr: u64, bytes: &[u8]) -> Outcome
         requires some { 0 < length bytes.now }
-        requires few { length bytes.now ≤ 4194304 }
+        requires few { length bytes.now ≤ MOST_BYTES }
         requires range { addr + length bytes.now ≤ 2 ^ 48 }
         requires stands { ∥ IsKernel (⟦<Parts as Standing>⟧.parts self.old) ∥₁ }
         ensures ran { (machine : Machine) (state : KernelState) → KernelStands (⟦<Parts as Standing>⟧.parts self.old) machine state
@@ -140,7 +140,7 @@ impl Parts {
         byte: u8,
     ) -> Result<Outcome, NoMemory>
         requires some { 0 < len }
-        requires few { len ≤ 4194304 }
+        requires few { len ≤ MOST_BYTES }
         requires range { addr + len ≤ 2 ^ 48 }
         requires stands { ∥ IsKernel (⟦<Parts as Standing>⟧.parts self.old) ∥₁ }
         ensures ran { IfOk result (λ outcome. (machine : Machine) (state : KernelState) → KernelStands (⟦<Parts as Standing>⟧.parts self.old) machine state

@@ -246,7 +246,8 @@ number-permissions old new alike = ap living_number alike.snapshot
 
 -- ---- new tables
 
-none-lives : (snapshot : Option SnapshotTables) → ((n : ℕ) → false ≡ holds_number (living_number snapshot) n) → living_number snapshot ≡ None
+none-lives : (snapshot : Option SnapshotTables) → ((n : ℕ) → false ≡ holds_number (living_number snapshot) n)
+    → living_number snapshot ≡ None
 none-lives None none = refl
 none-lives (Some tables) none = absurd (false≢true (none tables.number ∙ eq-eqb tables.number tables.number refl))
 

@@ -65,6 +65,12 @@ touch_page-requires-clause-stands g c =
       ),
     ))
 
+pub touch_page-requires-clause-lent : goal.touch_page-requires-clause-lent
+touch_page-requires-clause-lent g c = record {
+  lent = omega (arith, c.requires.lent, c.loop-page.invariant.held);
+  untold = c.loop-page.invariant.untold;
+}
+
 -- src/range.rt:53:27
 pub note_added-requires : goal.note_added-requires
 note_added-requires g c =
@@ -95,6 +101,21 @@ take_back-requires-clause-below g c =
     subst (λ added. (k d : ℕ) → k < length added → slice_index_or added k d < 2 ^ 36) (sym c.deref.ensures.value)
     (λ k d small. known-less c.requires.stands (λ it.
     added-below it.0.pages c.args.first (c.loop-page.page - c.args.first) c.args.count c.loop-page.added.items (c.loop-page.invariant.touched.touched it.0 it.1.0).new (omega (arith, c.loop-page-test.true)) c.requires.range k d small))
+
+pub take_back-requires-clause-lent : goal.take_back-requires-clause-lent
+take_back-requires-clause-lent g c = omega (arith, c.requires.lent, c.loop-page.invariant.held, c.touch_page.ensures.lent.held)
+
+pub take_back-requires-clause-untold : goal.take_back-requires-clause-untold
+take_back-requires-clause-untold g c = c.touch_page.ensures.lent.untold
+
+pub returns-in-Err-clause-held : goal.returns-in-Err-clause-held
+returns-in-Err-clause-held g c = omega (arith, c.loop-page.invariant.held, c.touch_page.ensures.lent.held, c.take_back.ensures.held)
+
+pub returns-in-Err-clause-slots : goal.returns-in-Err-clause-slots
+returns-in-Err-clause-slots g c = c.take_back.ensures.slots ∙ c.touch_page.ensures.lent.slots ∙ c.loop-page.invariant.slots
+
+pub returns-in-Err-clause-snapshot : goal.returns-in-Err-clause-snapshot
+returns-in-Err-clause-snapshot g c = c.take_back.ensures.snapshot ∙ c.touch_page.ensures.lent.snapshot ∙ c.loop-page.invariant.snapshot
 
 -- src/range.rt:56:21
 pub returns-in-Err-clause-made : goal.returns-in-Err-clause-made
@@ -149,10 +170,10 @@ loop-page-preserved g c =
       held = (let before : g.A.Allot.out (g.A.Allot.state c.loop-page.allot) + frames_of c.args.self.now ≡ g.A.Allot.out (g.A.Allot.state c.args.allot.now) + frames_of c.loop-page.self =
           c.loop-page.invariant.held in
           let more : g.A.Allot.out (g.A.Allot.state c.touch_page.new.allot) + frames_of c.loop-page.self ≡ g.A.Allot.out (g.A.Allot.state c.loop-page.allot) + frames_of c.touch_page.new.self =
-          c.touch_page.ensures.held in omega (arith, before, more));
-      untold = c.touch_page.ensures.untold;
-      snapshot = c.touch_page.ensures.snapshot ∙ c.loop-page.invariant.snapshot;
-      slots = c.touch_page.ensures.slots ∙ c.loop-page.invariant.slots;
+          c.touch_page.ensures.lent.held in omega (arith, before, more));
+      untold = c.touch_page.ensures.lent.untold;
+      snapshot = c.touch_page.ensures.lent.snapshot ∙ c.loop-page.invariant.snapshot;
+      slots = c.touch_page.ensures.lent.slots ∙ c.loop-page.invariant.slots;
       writable = one-more-written c.args.first c.loop-page.page c.args.self.now c.loop-page.self c.touch_page.new.self c.loop-page.invariant.from c.loop-page.invariant.writable c.in-Ok.ensures.writable;
       capacity = c.note_added.ensures.room ∙ c.loop-page.invariant.capacity;
     }

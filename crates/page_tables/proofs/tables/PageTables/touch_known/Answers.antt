@@ -20,7 +20,7 @@ use Rattle.table_levels.specs.Cells.{tables_of}
 use Rattle.page_tables.proofs.KnownTouch.{known-touches}
 use Rattle.page_tables.proofs.OwnedSlots.{owned-within, held-within, frames-set, read-slot}
 use Rattle.page_tables.specs.declared.tables.PageTables.{PageTables}
-use Rattle.page_tables.proofs.SlotLemmas.{slice_get-set-here, slice_get-set-apart}
+use Rattle.page_tables.proofs.SlotLemmas.{length-set, slice_get-set-here, slice_get-set-apart}
 use Rattle.page_tables.proofs.WrittenPages.{bit-known, page-answered, page-written, other-slot, others-set}
 use Rattle.page_tables.proofs.KeptWriting.{keeps-writing, bits-set}
 use Rattle.page_tables.proofs.Known.{known-owner, known-unjoined, known-number}
@@ -44,8 +44,11 @@ pub touch-answer-requires-clause-held : goal.touch-answer-requires-clause-held
 touch-answer-requires-clause-held g c =
     let within : c.args.slot < length c.args.self.now.slots.items = owned-within c.args.self.now.slots.items c.args.slot (cell_of c.args.page) (known-owner c.args.self.now c.requires.stands (cell_of c.args.page) c.args.slot c.requires.known) in
     let part : held_of c.index_mut-home.result.now.cell ≤ frames_in c.args.self.now.slots.items = held-within c.args.self.now.slots.items c.args.slot c.index_mut-home.result.now (read-slot c.args.self.now.slots.items c.args.slot c.index_mut-home.result.now within c.index_mut-home.ensures.value) in
-    let lent : tables_of c.args.self.now.directory + snapshot_frames c.args.self.now.snapshot + frames_in c.args.self.now.slots.items ≤ g.A.Allot.out (g.A.Allot.state c.args.allot.now) = c.requires.lent in
+    let lent : tables_of c.args.self.now.directory + snapshot_frames c.args.self.now.snapshot + frames_in c.args.self.now.slots.items ≤ g.A.Allot.out (g.A.Allot.state c.args.allot.now) = c.requires.lent.lent in
     omega (arith, part, lent)
+
+pub touch-answer-requires-clause-untold : goal.touch-answer-requires-clause-untold
+touch-answer-requires-clause-untold g c = c.requires.lent.untold
 
 -- src/touch.rt:44:5
 pub returns-clause-made : goal.returns-clause-made
@@ -67,14 +70,19 @@ returns-clause-made g c =
     }
 
 -- src/touch.rt:44:5
-pub returns-clause-held : goal.returns-clause-held
-returns-clause-held g c =
+pub returns-clause-lent : goal.returns-clause-lent
+returns-clause-lent g c =
     let within : c.args.slot < length c.args.self.now.slots.items = owned-within c.args.self.now.slots.items c.args.slot (cell_of c.args.page) (known-owner c.args.self.now c.requires.stands (cell_of c.args.page) c.args.slot c.requires.known) in
     let here : slice_get c.args.self.now.slots.items c.args.slot ≡ Some c.index_mut-home.result.now = read-slot c.args.self.now.slots.items c.args.slot c.index_mut-home.result.now within c.index_mut-home.ensures.value in
     let new : Slot = record { owner = c.index_mut-home.result.now.owner; cell = c.touch-answer.new.self } in
     let sums : frames_in (slice_set c.args.self.now.slots.items c.args.slot new) + held_of c.index_mut-home.result.now.cell ≡ frames_in c.args.self.now.slots.items + held_of c.touch-answer.new.self = frames-set c.args.self.now.slots.items c.args.slot c.index_mut-home.result.now new here in
     let held : g.A.Allot.out (g.A.Allot.state c.touch-answer.new.allot) + held_of c.index_mut-home.result.now.cell ≡ g.A.Allot.out (g.A.Allot.state c.args.allot.now) + held_of c.touch-answer.new.self = c.touch-answer.ensures.held in
-    omega (arith, sums, held)
+    record {
+      held = omega (arith, sums, held);
+      untold = c.touch-answer.ensures.untold;
+      slots = length-set c.args.self.now.slots.items c.args.slot new;
+      snapshot = refl;
+    }
 
 -- src/touch.rt:47:5
 pub invariant_of-self-clause-even : goal.invariant_of-self-clause-even

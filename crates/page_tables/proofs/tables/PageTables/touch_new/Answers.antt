@@ -29,7 +29,7 @@ use Rattle.page_tables.proofs.OwnedSlots.{held-within, frames-set, read-slot, se
 use Rattle.page_tables.proofs.Changing.{slice_get_there}
 use Rattle.std.proofs.lemmas.Bool.{false≢true}
 use Rattle.vm_base.proofs.NumberedMaps.{get_inserted_here, get_inserted_apart}
-use Rattle.page_tables.proofs.SlotLemmas.{slice_get-set-here, slice_get-set-apart}
+use Rattle.page_tables.proofs.SlotLemmas.{length-set, slice_get-set-here, slice_get-set-apart}
 use Rattle.page_tables.proofs.Permissions.{never-written}
 use Rattle.page_tables.proofs.WrittenPages.{page-written, other-home, others-set}
 use Rattle.page_tables.proofs.KeptWriting.{keeps-writing, bits-set}
@@ -89,7 +89,7 @@ pub touch-requires-clause-held : goal.touch-requires-clause-held
 touch-requires-clause-held g c =
     let within : c.args.slot < length c.args.self.now.slots.items = known-home c.args.self.now (cell_of c.args.page) c.args.slot c.requires.stands in
     let part : held_of c.index_mut-home.result.now.cell ≤ frames_in c.args.self.now.slots.items = held-within c.args.self.now.slots.items c.args.slot c.index_mut-home.result.now (read-slot c.args.self.now.slots.items c.args.slot c.index_mut-home.result.now within c.index_mut-home.ensures.value) in
-    let lent : tables_of c.args.self.now.directory + snapshot_frames c.args.self.now.snapshot + frames_in c.args.self.now.slots.items ≤ g.A.Allot.out (g.A.Allot.state c.args.allot.now) = c.requires.lent in
+    let lent : tables_of c.args.self.now.directory + snapshot_frames c.args.self.now.snapshot + frames_in c.args.self.now.slots.items ≤ g.A.Allot.out (g.A.Allot.state c.args.allot.now) = c.requires.lent.lent in
     let moved : g.A.Allot.out (g.A.Allot.state c.insert.new.allot) + tables_of c.args.self.now.directory ≡ g.A.Allot.out (g.A.Allot.state c.args.allot.now) + tables_of c.insert.new.self = c.insert.ensures.out in
     omega (arith, part, lent, moved)
 
@@ -122,15 +122,20 @@ returns-in-Ok-touch-clause-made g c =
     }
 
 -- src/touch.rt:60:5
-pub returns-in-Ok-touch-clause-held : goal.returns-in-Ok-touch-clause-held
-returns-in-Ok-touch-clause-held g c =
+pub returns-in-Ok-touch-clause-lent : goal.returns-in-Ok-touch-clause-lent
+returns-in-Ok-touch-clause-lent g c =
     let within : c.args.slot < length c.args.self.now.slots.items = known-home c.args.self.now (cell_of c.args.page) c.args.slot c.requires.stands in
     let here : slice_get c.args.self.now.slots.items c.args.slot ≡ Some c.index_mut-home.result.now = read-slot c.args.self.now.slots.items c.args.slot c.index_mut-home.result.now within c.index_mut-home.ensures.value in
     let new : Slot = record { owner = Some c.cell_and_index-cell.result.0; cell = c.touch.new.self } in
     let sums : frames_in (slice_set c.args.self.now.slots.items c.args.slot new) + held_of c.index_mut-home.result.now.cell ≡ frames_in c.args.self.now.slots.items + held_of c.touch.new.self = frames-set c.args.self.now.slots.items c.args.slot c.index_mut-home.result.now new here in
     let held : g.A.Allot.out (g.A.Allot.state c.touch.new.allot) + held_of c.index_mut-home.result.now.cell ≡ g.A.Allot.out (g.A.Allot.state c.insert.new.allot) + held_of c.touch.new.self = c.touch.ensures.held in
     let moved : g.A.Allot.out (g.A.Allot.state c.insert.new.allot) + tables_of c.args.self.now.directory ≡ g.A.Allot.out (g.A.Allot.state c.args.allot.now) + tables_of c.insert.new.self = c.insert.ensures.out in
-    omega (arith, sums, held, moved)
+    record {
+      held = omega (arith, sums, held, moved);
+      untold = c.touch.ensures.untold;
+      slots = length-set c.args.self.now.slots.items c.args.slot new;
+      snapshot = refl;
+    }
 
 -- src/touch.rt:60:5
 pub returns-in-Err-touch-clause-made : goal.returns-in-Err-touch-clause-made

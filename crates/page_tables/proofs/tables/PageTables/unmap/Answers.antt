@@ -22,7 +22,7 @@ loop-cell-init g c = (
   unmap-begins g.A.Allot.goes (g.A.Allot.state c.args.allot.now) c.args.first
       c.args.count c.args.self.now,
   refl,
-  c.requires.untold,
+  c.requires.lent.untold,
   refl,
   refl,
   refl,
@@ -45,6 +45,9 @@ unmap_cell-requires-clause-stands g c =
     ∥∥₁_map c.requires.stands (λ it.
     let on : GoesOnFrom c.args.first c.args.count c.loop-cell.next it.0 c.loop-cell.invariant.2.deals c.loop-cell.self = c.loop-cell.invariant.2.follows it.0 it.1 in
     (on.mid, on.stands))
+
+pub unmap_cell-requires-clause-lent : goal.unmap_cell-requires-clause-lent
+unmap_cell-requires-clause-lent g c = omega (arith, c.requires.lent.lent, c.loop-cell.invariant.3)
 
 pub loop-cell-smaller : goal.loop-cell-smaller
 loop-cell-smaller g c =
@@ -109,3 +112,19 @@ pub returns-in_default-clause-writable : goal.returns-in_default-clause-writable
 returns-in_default-clause-writable g c =
     stopped-all c.args.first c.args.count c.loop-cell.next c.args.self.now c.loop-cell.self c.loop-cell.invariant.8
     (first-none c.loop-cell.self.directory c.loop-cell.next (sym c.at_or_after.ensures ∙ c.in_default.is))
+
+pub returns-then-from-end-clause-lent : goal.returns-then-from-end-clause-lent
+returns-then-from-end-clause-lent g c = record {
+  held = c.loop-cell.invariant.3;
+  untold = c.loop-cell.invariant.4;
+  slots = c.loop-cell.invariant.5;
+  snapshot = c.loop-cell.invariant.7;
+}
+
+pub returns-in_default-clause-lent : goal.returns-in_default-clause-lent
+returns-in_default-clause-lent g c = record {
+  held = c.loop-cell.invariant.3;
+  untold = c.loop-cell.invariant.4;
+  slots = c.loop-cell.invariant.5;
+  snapshot = c.loop-cell.invariant.7;
+}

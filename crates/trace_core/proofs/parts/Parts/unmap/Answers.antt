@@ -1,4 +1,4 @@
-use Rattle.std.proofs.Common.{◌∙◌, ap, Err}
+use Rattle.std.proofs.Common.{◌∙◌, ap, refl, Err}
 use Rattle.std.proofs.lemmas.Result.{err_from_is_err_and}
 use Rattle.area_list.specs.Answers.{refusal_of}
 use Rattle.page_tables.proofs.view.TablesShown.{same-number}
@@ -13,7 +13,7 @@ pub unmap-requires-2-clause-stands : goal.unmap-requires-2-clause-stands
 unmap-requires-2-clause-stands g c = known-tables _ c.requires.stands
 
 pub unmap-requires-2-clause-lent : goal.unmap-requires-2-clause-lent
-unmap-requires-2-clause-lent g c = known-lent _ c.requires.stands
+unmap-requires-2-clause-lent g c = record { lent = known-lent _ c.requires.stands; untold = refl }
 
 -- src/mappings.rt:30:9
 pub returns-in_err-unmap-clause-ran : goal.returns-in_err-unmap-clause-ran
@@ -29,6 +29,6 @@ returns-clause-ran g c = λ machine state st.
     let made = c.unmap-2.ensures.made in
     ran-unmapped _ machine state st c.args.first c.args.pages c.unmap.new.self c.in_ok-unmap.ensures.answer _ c.unmap-2.new.self made.deals made.led
     (made.follows (sides_of state st.pages) st.tables)
-    (moved-alike _ _ _ _ c.unmap-2.ensures.held st.out)
-    (same-number c.args.self.now.tables c.unmap-2.new.self c.unmap-2.ensures.snapshot ∙ st.number)
-    (c.unmap-2.ensures.slots ∙ st.slots)
+    (moved-alike _ _ _ _ c.unmap-2.ensures.lent.held st.out)
+    (same-number c.args.self.now.tables c.unmap-2.new.self c.unmap-2.ensures.lent.snapshot ∙ st.number)
+    (c.unmap-2.ensures.lent.slots ∙ st.slots)
