@@ -70,7 +70,7 @@ impl Parts {
     {
         let mut buf = vec![in alloc; 0; len as usize]?;
         match self.read(addr, &mut buf) {
-            Ok(()) => bytes_outcome(alloc, &buf),
+            Ok(()) => Ok(bytes_outcome(buf)),
             Err(refused) => Ok(Outcome::NoArea(refused.page)),
         }
     }
@@ -89,7 +89,7 @@ impl Parts {
     {
         let mut buf = vec![in alloc; 0; len as usize]?;
         match self.snap_read(number, addr, &mut buf) {
-            Ok(()) => bytes_outcome(alloc, &buf),
+            Ok(()) => Ok(bytes_outcome(buf)),
             Err(fault) => Ok(fault_outcome(fault)),
         }
     }
@@ -118,13 +118,11 @@ fn fork_outcome(answer: Result<(), ForkRefusal>) -> Outcome
     }
 }
 
-// The answer of a read.
-fn bytes_outcome(alloc: Global, bytes: &[u8]) -> Result<Outcome, NoMemory>
-    ensures { IfOk result (λ outcome. outcome ≡ Outcome.Bytes bytes.now) }
+// The answer of a read, which is the buffer that was read into.
+fn bytes_outcome(bytes: Vec<u8>) -> Outcome
+    ensures { result ≡ Outcome.Bytes bytes.items }
 {
-    let mut list = Bytes::new(alloc);
-    list.push_all(bytes)?;
-    Ok(Outcome::Bytes(list))
+    Outcome::Bytes(Bytes::from_vec(bytes))
 }
 
 // The answer of a read of a snapshot that is refused.

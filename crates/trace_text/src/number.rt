@@ -43,11 +43,17 @@ fn digits(token: &[u8], base: u64) -> Option<u64>
     Some(number)
 }
 
+// Numbers are short, and most of their digits are below ten: two tests cost less than one that has
+// no branch.
 fn digit(byte: u8) -> Option<u64>
     ensures value { result ≡ digit_of byte }
     ensures below { IfSome result (λ digit. digit < 16) }
 {
-    is_digit(byte).then(|| u64::from(value(byte)))
+    match byte {
+        b'0'..=b'9' => Some(u64::from(byte - b'0')),
+        b'a'..=b'f' => Some(u64::from(byte - b'a' + 10)),
+        _ => None,
+    }
 }
 
 /// The byte that two digits spell.
@@ -61,24 +67,38 @@ pub(crate) fn byte(token: &[u8]) -> Option<u8>
 }
 
 /// The byte of a pair of digits.
-pub(crate) fn pair(high: u8, low: u8) -> Option<u8>
+fn pair(high: u8, low: u8) -> Option<u8>
     ensures { result ≡ byte_of (high ∷ low ∷ []) }
 {
-    (is_digit(high) & is_digit(low)).then(|| value(high) * 16 + value(low))
+    are_digits(high, low).then(|| byte_spelled(high, low))
 }
 
-// Both kinds of digits come in any order, so that a branch here would be guessed wrong: this test
-// and the value have none.
+/// Whether both are digits.
+pub(crate) fn are_digits(high: u8, low: u8) -> bool
+    ensures { result ≡ is_some (byte_of (high ∷ low ∷ [])) }
+{
+    is_digit(high) & is_digit(low)
+}
+
+/// The byte that two digits spell, and any byte where they are none.
+pub(crate) fn byte_spelled(high: u8, low: u8) -> u8
+    ensures { IfSome (byte_of (high ∷ low ∷ [])) (λ byte. result ≡ byte) }
+{
+    value(high).wrapping_mul(16).wrapping_add(value(low))
+}
+
+// In bytes both kinds of digits come in any order, so that a branch here would be guessed wrong:
+// this test and the value have none.
 fn is_digit(byte: u8) -> bool
     ensures { result ≡ is_some (digit_of byte) }
 {
     (b'0' <= byte && byte <= b'9') | (b'a' <= byte && byte <= b'f')
 }
 
+// The value of a digit, and any number where the byte is none.
 fn value(byte: u8) -> u8
-    requires { IsSome (digit_of byte) }
-    ensures value { digit_of byte ≡ Some result }
-    ensures below { result < 16 }
+    ensures value { IfSome (digit_of byte) (λ digit. result ≡ digit) }
+    ensures below { IsSome (digit_of byte) → result < 16 }
 {
     byte % 16 + 9 * (byte / 64)
 }

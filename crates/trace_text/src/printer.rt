@@ -1,5 +1,5 @@
 //! The line that an outcome prints.
-ghost use Rattle.std.specs.Prelude.{◌≡◌, ◌*◌, ◌++◌, IfOk, OnOk, OnErr, codes};
+ghost use Rattle.std.specs.Prelude.{◌≡◌, ◌-◌, ◌*◌, ◌++◌, ◌≤◌, take, length, replicate, IfOk, OnOk, OnErr, codes};
 ghost use Rattle.std.specs.Fmt.{decimal};
 ghost use Rattle.std.specs.String.{string_bytes};
 ghost use Rattle.hex.specs.Hex.{encode_lower};
@@ -12,6 +12,9 @@ use std::alloc::Global;
 use trace_events::Outcome;
 use vm_base::{Bytes, NoMemory, Perm};
 
+/// So many bytes of an answer are printed at once.
+const PIECE: usize = 32;
+
 /// Appends the line of the outcome. After `NoMemory` the text is as it was.
 pub fn outcome_text(alloc: Global, outcome: &Outcome, out: &mut Bytes) -> Result<(), NoMemory>
     ensures ok { OnOk result (out.new ≡ out.old ++ outcome_line outcome.now) }
@@ -19,7 +22,7 @@ pub fn outcome_text(alloc: Global, outcome: &Outcome, out: &mut Bytes) -> Result
 {
     match outcome {
         Outcome::Done => out.push_all(b"ok\n"),
-        Outcome::Bytes(bytes) => bytes_text(alloc, bytes.as_slice(), out),
+        Outcome::Bytes(bytes) => bytes_text(bytes.as_slice(), out),
         Outcome::Held { held, free } => held_text(alloc, *held, *free, out),
         Outcome::AreaRow(row) => areas_text(alloc, row.list(), out),
         Outcome::Copied => out.push_all(b"copied\n"),
@@ -37,16 +40,46 @@ pub fn outcome_text(alloc: Global, outcome: &Outcome, out: &mut Bytes) -> Result
     }
 }
 
-// Each line is made whole beside the text, so that one push alone can fail.
-fn bytes_text(alloc: Global, bytes: &[u8], out: &mut Bytes) -> Result<(), NoMemory>
+// The digits go straight into the text, piece by piece. Where the room of one is refused, those
+// before it are cut off again.
+fn bytes_text(bytes: &[u8], out: &mut Bytes) -> Result<(), NoMemory>
     ensures ok { OnOk result (out.new ≡ out.old ++ (encode_lower bytes.now ++ codes "\n")) }
     ensures no_memory { OnErr result (out.new ≡ out.old) }
 {
-    let mut line = hex::encode(alloc, bytes)?;
-    line.push_str("\n")?;
-    out.push_all(line.as_bytes())
+    let before = out.as_slice().len();
+    let answer = push_bytes(bytes, out);
+    if answer.is_err() {
+        out.truncate(before);
+    }
+    answer
 }
 
+// After `NoMemory` some of the digits may stand behind the text.
+fn push_bytes(bytes: &[u8], out: &mut Bytes) -> Result<(), NoMemory>
+    ensures ok { OnOk result (out.new ≡ out.old ++ (encode_lower bytes.now ++ codes "\n")) }
+    ensures front { take (length out.old) out.new ≡ out.old }
+{
+    let mut rest = bytes;
+    while rest.len() > PIECE {
+        let (piece, others) = rest.split_at(PIECE);
+        out.push_all(&line_of(piece)[..2 * PIECE])?;
+        rest = others;
+    }
+    out.push_all(&line_of(rest)[..2 * rest.len() + 1])
+}
+
+// The digits of a piece, and line feeds behind them.
+fn line_of(piece: &[u8]) -> [u8; 65]
+    requires { length piece.now ≤ 32 }
+    ensures { result ≡ encode_lower piece.now ++ replicate (65 - 2 * length piece.now) 10 }
+{
+    let mut line = [b'\n'; 2 * PIECE + 1];
+    let printed = hex::encode_to_slice(piece, &mut line[..2 * piece.len()]);
+    prove!(printed.is_ok());
+    line
+}
+
+// Each of the other lines is made whole beside the text, so that one push alone can fail.
 fn held_text(alloc: Global, held: u32, free: u32, out: &mut Bytes) -> Result<(), NoMemory>
     ensures ok { OnOk result
         (out.new ≡ out.old ++ (codes "held " ++ decimal held ++ codes " free " ++ decimal free ++ codes "\n")) }

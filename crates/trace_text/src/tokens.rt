@@ -1,8 +1,8 @@
 //! The tokens of a line.
-ghost use Rattle.std.specs.Prelude.{◌≡◌, ◌<◌, ◌^◌, IfOk, IfSome, option_map, length, position, ◌==◌};
-ghost use Rattle.trace_text.specs.ScriptReading.{bytes_of, mode_of, page_at, parts_at, perm_of, range_of};
+ghost use Rattle.std.specs.Prelude.{◌≡◌, ◌*◌, ◌<◌, ◌^◌, IfOk, IfSome, option_map, length, position, ◌==◌};
+ghost use Rattle.trace_text.specs.ScriptReading.{bytes_of, mode_of, only_if, page_at, parts_at, perm_of, range_of};
 
-use crate::number::{count, number, pair};
+use crate::number::{are_digits, byte_spelled, count, number};
 use memchr::memchr;
 use std::alloc::Global;
 use vm_base::{Bytes, Mode, NoMemory, Perm};
@@ -22,31 +22,32 @@ fn first_place(text: &[u8], byte: u8) -> Option<usize>
     memchr(byte, text)
 }
 
-/// The bytes that pairs of digits spell. Their room is made once.
+/// The bytes that pairs of digits spell. Their room is made once, and they are copied nowhere.
 pub(crate) fn bytes_of(alloc: Global, digits: &[u8]) -> Result<Option<Bytes>, NoMemory>
     ensures { IfOk result (λ bytes. bytes ≡ bytes_of digits.now) }
 {
-    let Some(list) = decoded(alloc, digits)? else {
+    if digits.len() % 2 != 0 {
         return Ok(None);
-    };
-    let mut bytes = Bytes::new(alloc);
-    bytes.push_all(&list)?;
-    Ok(Some(bytes))
+    }
+    let mut list = vec![in alloc; 0; digits.len() / 2]?;
+    let are_spelled = decode(digits, &mut list);
+    Ok(are_spelled.then_some(Bytes::from_vec(list)))
 }
 
-fn decoded(alloc: Global, digits: &[u8]) -> Result<Option<Vec<u8>>, NoMemory>
-    ensures { IfOk result (λ list. option_map (λ l. l.items) list ≡ bytes_of digits.now) }
+// Whether all pairs spell a byte, and the bytes. It looks at each pair and never stops before the
+// end, so that the compiler takes many pairs at a time.
+fn decode(digits: &[u8], list: &mut [u8]) -> bool
+    requires { length digits.now ≡ 2 * length list.old }
+    ensures bytes { only_if result list.new ≡ bytes_of digits.now }
+    ensures count { length list.new ≡ length list.old }
 {
-    let mut list = Vec::with_capacity(alloc, digits.len() / 2)?;
-    let mut rest = digits;
-    while let [high, low, others @ ..] = rest {
-        let Some(byte) = pair(*high, *low) else {
-            return Ok(None);
-        };
-        list.push(byte)?;
-        rest = others;
+    let mut are_spelled = true;
+    for i in 0..list.len() {
+        let (high, low) = (digits[2 * i], digits[2 * i + 1]);
+        are_spelled &= are_digits(high, low);
+        list[i] = byte_spelled(high, low);
     }
-    Ok(rest.is_empty().then_some(list))
+    are_spelled
 }
 
 #[tactic(auto, unfolding(crate::specs::ScriptReading::perm_of))]

@@ -1,5 +1,5 @@
 //! A list of bytes that grows where memory is left.
-ghost use Rattle.std.specs.Prelude.{◌≡◌, [], ◌++◌, OnOk, OnErr};
+ghost use Rattle.std.specs.Prelude.{◌≡◌, [], ◌++◌, take, OnOk, OnErr};
 
 use crate::no_memory::NoMemory;
 use std::alloc::Global;
@@ -29,6 +29,13 @@ impl Bytes {
         }
     }
 
+    /// The bytes of a vector, which is taken as it is: nothing is copied.
+    pub fn from_vec(list: Vec<u8>) -> Self
+        ensures { result ≡ list.items }
+    {
+        Bytes { list }
+    }
+
     /// Appends the whole text. After `NoMemory` the list is as it was and good for further calls.
     /// How much room it takes is std's to choose, and no clause tells it.
     pub fn push_all(&mut self, text: &[u8]) -> Result<(), NoMemory>
@@ -37,6 +44,13 @@ impl Bytes {
     {
         self.list.extend_from_slice(text)?;
         Ok(())
+    }
+
+    /// Keeps so many first bytes, or all where there are no more. It takes no memory.
+    pub fn truncate(&mut self, count: usize)
+        ensures { self.new ≡ take count self.old }
+    {
+        self.list.truncate(count);
     }
 
     /// Empties the list. Whether it keeps the room that it had is std's to choose too.
@@ -69,6 +83,18 @@ mod tests {
             assert_eq!(rt; list.as_slice().len(), length);
         }
         assert_eq!(rt; list.as_slice(), b"get \x00\xff\r\n".as_slice());
+        list.truncate(9);
+        assert_eq!(rt; list.as_slice().len(), 8);
+        list.truncate(4);
+        assert_eq!(rt; list.as_slice(), b"get ".as_slice());
+        Ok(())
+    }
+
+    #[test]
+    fn the_bytes_of_a_vector_are_taken(rt: HostRuntime) -> Result<(), Fail> {
+        let mut list = Bytes::from_vec(Vec::from_slice(rt.alloc(), b"set")?);
+        list.push_all(b"\n")?;
+        assert_eq!(rt; list.as_slice(), b"set\n".as_slice());
         Ok(())
     }
 }

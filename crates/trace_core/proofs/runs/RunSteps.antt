@@ -13,7 +13,7 @@ use Rattle.kernel_meaning.specs.RefusedRequests.{Request, PolicySum}
 use Rattle.trace_events.specs.declared.event.Event.{Event}
 use Rattle.trace_events.specs.declared.event.Event.TheVariants.{Copy, Frames, Read, Refuse, SnapRead}
 use Rattle.trace_events.specs.declared.outcome.Outcome.{Outcome}
-use Rattle.trace_events.specs.declared.outcome.Outcome.TheVariants.{Bytes, Done, Held}
+use Rattle.trace_events.specs.declared.outcome.Outcome.TheVariants.{Done, Held}
 use Rattle.trace_core.specs.Answering.{AreCounted, HaveLed}
 use Rattle.trace_core.specs.KernelState.{Machine, KernelState, opening_state}
 use Rattle.trace_core.specs.EventMeaning.{asker_of, copies_refused, copy_end_of, event_end, only_answers, read_outcome, snap_read_outcome, written}
@@ -175,12 +175,6 @@ pub snap_read-follows : (parts : KernelParts) (machine : Machine) (state : Kerne
     → snap_read_outcome (snap_read_of state.world number addr n) ≡ outcome → EventFollows parts parts machine state (SnapRead number addr n) outcome
 snap_read-follows parts machine state number addr n outcome st tells =
     told-follows parts machine state (SnapRead number addr n) outcome refl refl st (λ answers. ap (only_answers state) tells)
-
--- where the memory for the bytes was there
-pub bytes-if-ok : {E : Type 0} (parts : KernelParts) (event : Event) (result : Result Outcome E) (bytes : List ℕ) → IfOk result (λ outcome. outcome ≡ Bytes bytes)
-    → Ran parts parts event (Bytes bytes) → IfOk result (Ran parts parts event)
-bytes-if-ok parts event (Ok outcome) bytes is ran = subst (Ran parts parts event) (sym is) ran
-bytes-if-ok parts event (Err none) bytes is ran = tt
 
 -- a run begins
 pub run-opens : (parts : KernelParts) (machine : Machine) (last : ℕ) (policies : PolicySum) → KernelStands parts machine (opening_state last) → parts.supply.policies ≡ policies
