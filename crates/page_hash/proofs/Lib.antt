@@ -3,4 +3,7 @@ pub mod TableBegins
 pub mod MapEntries
 pub mod ChainSteps
 pub mod FrontReads
+pub mod Fronts
+pub mod Pieces
 pub mod WalkLemmas
+pub mod Searching
