@@ -1,16 +1,15 @@
 -- What the front of a block says.
-use Rattle.std.proofs.Common.{◌≡◌, ℕ, ◌+◌, ◌≤◌, Bool, true, false, List, ◌++◌, length, take, drop, Some, None, refl, sym, ◌∙◌, ap, arith, inl, inr, length-append}
+use Rattle.std.proofs.Common.{◌≡◌, ℕ, ◌+◌, ◌≤◌, Bool, true, false, List, ◌++◌, length, take, drop, Some, None, refl, sym, ◌∙◌, ap, arith, inl, inr}
 use Rattle.std.specs.Prelude.{if◌then◌else◌, min}
 use Rattle.std.specs.Bool.{then_some}
 use Rattle.std.specs.Str.{bytes_eq}
 use Rattle.std.proofs.lemmas.Bool.{cases_Bool, cond-false}
-use Rattle.std.proofs.lemmas.List.{length-take-le, length-drop}
 use Rattle.std.proofs.lemmas.Slice.Eq.{bytes_eq-Decides}
 use Rattle.byteorder.specs.Endian.{big_number}
 use Rattle.vm_base.specs.FlatMemory.{FlatMemory, bytes_at}
 use Rattle.store_meaning.specs.Layout.{heap_at, heap_end, word_at, number_at}
 use Rattle.store_meaning.specs.HashLayout.{Entry}
-use Rattle.page_hash.specs.Walks.{IsBlockOf, IsFrontOf, front_of, value_seen}
+use Rattle.page_hash.specs.Walks.{IsBlockOf, IsFrontOf, value_seen}
 use Rattle.page_hash.proofs.FrontReads.{part_in, number_in}
 use Rattle.page_hash.proofs.Pieces.{piece_read, buffer_kept, number_part}
 

@@ -2,6 +2,7 @@ pub mod StoreReads
 pub mod TableBegins
 pub mod MapEntries
 pub mod ChainSteps
+pub mod Filled
 pub mod FrontReads
 pub mod Fronts
 pub mod Pieces

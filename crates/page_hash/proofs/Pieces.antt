@@ -1,16 +1,16 @@
 -- Ranges that are read and compared piece by piece.
-use Rattle.std.proofs.Common.{◌≡◌, ℕ, ◌+◌, ◌-◌, ◌<◌, ◌≤◌, Bool, true, false, not, List, ◌++◌, length, take, drop, refl, sym, ◌∙◌, ap, subst, arith, length-append}
+use Rattle.std.proofs.Common.{◌≡◌, ℕ, ◌+◌, ◌-◌, ◌≤◌, Bool, true, false, not, List, ◌++◌, length, take, drop, refl, sym, ◌∙◌, ap, arith, length-append}
 use Rattle.std.specs.Prelude.{◌&&◌}
 use Rattle.std.specs.Str.{bytes_eq}
 use Rattle.std.proofs.Math.Seq.{take-add, take-append_seam, take-length}
-use Rattle.std.proofs.lemmas.Bool.{cases_Bool, false≢true}
+use Rattle.std.proofs.lemmas.Bool.{false≢true}
 use Rattle.std.proofs.lemmas.List.{length-take-le, length-drop, take-append-drop}
 use Rattle.std.proofs.lemmas.Slice.Eq.{bytes_eq-Decides}
 use Rattle.byteorder.specs.Endian.{big_number}
 use Rattle.byteorder.specs.Numbers.{big_from-take}
 use Rattle.vm_base.specs.FlatMemory.{FlatMemory, PageMap, bytes_at}
 use Rattle.vm_base.proofs.FlatBytes.{bytes_at-split, length-bytes_at}
-use Rattle.store_meaning.specs.Layout.{heap_end, word_at, number_at}
+use Rattle.store_meaning.specs.Layout.{heap_end}
 use Rattle.page_hash.proofs.FrontReads.{part_in, number_in, bytes_eq-append}
 use Rattle.page_hash.specs.Walks.{IsFrontOf, front_of}
 

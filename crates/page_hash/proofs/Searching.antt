@@ -1,7 +1,6 @@
 -- The search for a key in a store.
 use Rattle.std.proofs.Common.{◌≡◌, ℕ, ◌+◌, ◌*◌, ◌%◌, ◌^◌, ◌<◌, ◌≤◌, List, length, sym, ◌∙◌, ap, subst, arith}
 use Rattle.vm_base.specs.FlatMemory.{FlatMemory}
-use Rattle.vm_base.specs.MemoryState.{MemoryState}
 use Rattle.store_meaning.specs.Layout.{array_field, buckets_field, pairs_field, word_at}
 use Rattle.store_meaning.specs.HashLayout.{Store, Pairs, IsStore, hash_of, chain_of}
 use Rattle.store_meaning.specs.StoreSteps.{bucket_of}

@@ -1,4 +1,4 @@
-use Rattle.std.proofs.Common.{◌≡◌, ◌+◌, ◌-◌, ◌≤◌, ◌∙◌, ◌++◌, length, take, drop, sym, ap, arith}
+use Rattle.std.proofs.Common.{◌≡◌, ◌+◌, ◌≤◌, ◌∙◌, ◌++◌, length, take, drop, sym, ap, arith}
 use Rattle.vm_base.specs.FlatMemory.{bytes_at}
 use Rattle.vm_base.proofs.FlatBytes.{length-bytes_at}
 use Rattle.page_hash.proofs.Pieces.{piece_read, buffer_kept, more_bytes, other_bytes, all_bytes}

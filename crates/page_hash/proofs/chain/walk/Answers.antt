@@ -1,4 +1,4 @@
-use Rattle.std.proofs.Common.{◌≡◌, ◌-◌, ◌<◌, sym, ◌∙◌, ap, subst, arith}
+use Rattle.std.proofs.Common.{◌≡◌, ◌-◌, sym, ◌∙◌, ap, subst}
 use Rattle.store_meaning.specs.Layout.{word_at}
 use Rattle.page_hash.specs.Walks.{IsBlockOf, IsChainFrom, HasChain}
 use Rattle.page_hash.proofs.ChainSteps.{has_block, located_at-end, located_at-here, located_at-past}
@@ -15,8 +15,8 @@ returns-in-Some-clause-located g c chain is =
     located_at-here (g.M.Memory.state c.args.m.now).mem c.loop-at.link c.loop-at.at c.in-Some.length here.0 c.args.key.now
     c.loop-at-test.true here.1.0
     (λ entry block. sym c.in-Some.is
-      ∙ c.look_at-seen.ensures.value entry
-          (subst (λ s. IsBlockOf s.mem c.loop-at.at entry) (sym c.loop-at.invariant.same) block))
+    ∙ c.look_at-seen.ensures.value entry
+    (subst (λ s. IsBlockOf s.mem c.loop-at.at entry) (sym c.loop-at.invariant.same) block))
     ∙ sym here.1.1
 
 pub loop-at-preserved : goal.loop-at-preserved
@@ -32,8 +32,8 @@ loop-at-preserved g c =
           let here = c.loop-at.invariant.rest chain is in
           let past = located_at-past mem c.loop-at.link c.loop-at.at here.0 c.args.key.now c.loop-at-test.true here.1.0
           (λ entry block. sym c.in_default.is
-            ∙ c.look_at-seen.ensures.value entry
-                (subst (λ s. IsBlockOf s.mem c.loop-at.at entry) (sym c.loop-at.invariant.same) block)) in
+          ∙ c.look_at-seen.ensures.value entry
+          (subst (λ s. IsBlockOf s.mem c.loop-at.at entry) (sym c.loop-at.invariant.same) block)) in
           (past.0, (subst (λ a. IsChainFrom mem a past.0) (sym next) past.1.0, here.1.1 ∙ past.1.1));
       left = subst (λ a. HasChain mem a (c.loop-at.left - 1)) (sym next)
           (has_block mem c.loop-at.at c.loop-at.left c.loop-at.invariant.left c.loop-at-test.true).1.2;

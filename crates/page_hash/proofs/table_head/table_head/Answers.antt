@@ -1,4 +1,4 @@
-use Rattle.std.proofs.Common.{◌≡◌, ◌∙◌, arith}
+use Rattle.std.proofs.Common.{◌∙◌, arith}
 use Rattle.store_meaning.specs.Layout.{array_field}
 use Rattle.page_hash.proofs.Pieces.{word_in}
 use Rattle.page_hash.proofs.table_head.table_head.Goals as goal
