@@ -1,3 +1,10 @@
 pub mod StoreReads
 pub mod TableBegins
 pub mod MapEntries
+pub mod ChainSteps
+pub mod Filled
+pub mod FrontReads
+pub mod Fronts
+pub mod Pieces
+pub mod WalkLemmas
+pub mod Searching
