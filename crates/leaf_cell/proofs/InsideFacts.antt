@@ -107,7 +107,8 @@ count-filled frames place frame inside free =
     omega (arith, moved, none)
 
 -- where there is no table of the parent's no leaf is joined
-pub none-joined : (parent : Option TableView) (snapshot : Option Snapshot) → (is_joined_here snapshot ≡ true → is_some parent ≡ true) → is_some parent ≡ false
+pub none-joined : (parent : Option TableView) (snapshot : Option Snapshot)
+    → (is_joined_here snapshot ≡ true → is_some parent ≡ true) → is_some parent ≡ false
     → AreUnjoined (kept_values (table_places parent) snapshot)
 none-joined parent None joined none = tt
 none-joined parent (Some it) joined none = (by (is_joined (leaf_value it.leaf)) joined, tt)

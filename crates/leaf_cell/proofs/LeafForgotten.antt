@@ -18,7 +18,8 @@ use Rattle.leaf_cell.proofs.AllowedActs.{allowed-stands}
 use Rattle.leaf_cell.proofs.DropMade.{takes-dropped}
 use Rattle.leaf_cell.proofs.WholeCells.{whole-inside}
 
-module _ (parent : Option TableView) (it : Snapshot) (frames : List (Option FrameView)) (n : ℕ) (number : it.number ≡ n) (leaf : it.leaf ≡ code.Joined) where
+module _ (parent : Option TableView) (it : Snapshot) (frames : List (Option FrameView)) (n : ℕ)
+    (number : it.number ≡ n) (leaf : it.leaf ≡ code.Joined) where
   abbrev before : CellView
   before = cell_value parent (Some it) frames
 
@@ -30,7 +31,8 @@ module _ (parent : Option TableView) (it : Snapshot) (frames : List (Option Fram
     room = inside.room;
     parent_home = inside.parent_home;
     own_home = subst (λ vs. AreAtHome frames vs) (ap (snapshot_places no_versions) leaf) inside.own_home;
-    named = λ page place small home there. subst (λ vs. (version_at (table_places parent) page ≡ Some place) ⊎ (version_at vs page ≡ Some place))
+    named = λ page place small home there.
+        subst (λ vs. (version_at (table_places parent) page ≡ Some place) ⊎ (version_at vs page ≡ Some place))
         (ap (snapshot_places no_versions) leaf) (inside.named page place small home there);
     used = inside.used;
     parent_size = inside.parent_size;
@@ -40,20 +42,25 @@ module _ (parent : Option TableView) (it : Snapshot) (frames : List (Option Fram
   }
 
   pub forgotten-view : after.leaves ≡ without_snapshot n before.leaves
-  forgotten-view = ap (λ b. record before.leaves { kept = cond (not b) (kept_value (table_places parent) it ∷ []) [] }) (sym (ap (λ x. x == n) number ∙ eqb-refl n))
+  forgotten-view =
+      ap (λ b. record before.leaves { kept = cond (not b) (kept_value (table_places parent) it ∷ []) [] })
+      (sym (ap (λ x. x == n) number ∙ eqb-refl n))
 
   -- no table was the snapshot's
   no_own : count_by (λ kept. is_own kept.leaf) (kept_value no_versions it ∷ []) ≡ 0
   no_own = ap (λ l. count_by is_own (leaf_value l ∷ [])) leaf
 
   same_share : AreInside parent (Some it) frames → share before.leaves ≡ share after.leaves + 0
-  same_share inside = omega (arith, sym (held-share parent (Some it) frames inside), sym (held-share parent None frames (inside-forgotten inside)), no_own)
+  same_share inside =
+      omega (arith, sym (held-share parent (Some it) frames inside), sym (held-share parent None frames (inside-forgotten inside)), no_own)
 
-  pub takes-forgotten : AreInside parent (Some it) frames → (account : CellAccount) → StandsFor before account → TakesAccount (Unmark n) before after [] None account
+  pub takes-forgotten : AreInside parent (Some it) frames → (account : CellAccount) → StandsFor before account
+      → TakesAccount (Unmark n) before after [] None account
   takes-forgotten inside account stands = record {
     allowed = allowed-stands before account stands (Unmark n);
     stands = (takes-dropped before after account n 0 stands forgotten-view (λ page small. refl)
-        (λ m page kept found unlost small. absurd (false≢true (ap is_some found))) (same_share inside) (whole-inside parent None frames (inside-forgotten inside))).stands;
+        (λ m page kept found unlost small. absurd (false≢true (ap is_some found))) (same_share inside)
+        (whole-inside parent None frames (inside-forgotten inside))).stands;
     asked = refl;
     ended = refl;
   }

@@ -124,7 +124,8 @@ impl Cell {
         ensures pages { result ≡ has_pages self.now.leaves.parent }
 
         // A leaf that is joined is the parent's table, which is there.
-        ensures unjoined { has_pages self.now.leaves.parent ≡ false → AreUnjoined self.now.leaves.kept }
+        ensures unjoined { has_pages self.now.leaves.parent ≡ false
+            → AreUnjoined self.now.leaves.kept }
         ensures account { (account : CellAccount) → StandsFor self.now account → result ≡ has_pages account.state.leaves.parent }
     {
         self.parent.is_some()

@@ -59,8 +59,10 @@ impl Cell {
     /// given back.
     pub fn forget(&mut self, number: u32)
         requires joined { has_joined (kept_by self.old.leaves.kept number) ≡ true }
-        ensures unmarked { (account : CellAccount) → StandsFor self.old account → TakesAccount (Unmark number) self.old self.new [] None account }
-        ensures cell { self.new ≡ record self.old { leaves = without_snapshot number self.old.leaves } }
+        ensures unmarked { (account : CellAccount) → StandsFor self.old account
+            → TakesAccount (Unmark number) self.old self.new [] None account }
+        ensures cell { self.new
+            ≡ record self.old { leaves = without_snapshot number self.old.leaves } }
         ensures held { held_of self.new ≡ held_of self.old }
     {
         if is_snapshot(&self.snapshot, number) {

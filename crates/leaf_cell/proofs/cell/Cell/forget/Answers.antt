@@ -11,7 +11,8 @@ use Rattle.leaf_cell.proofs.cell.Cell.forget.Goals as goal
 
 pub invariant_of-self : goal.invariant_of-self
 invariant_of-self c =
-    let here : IsJoinedHere c.self.inside.snapshot c.args.number = joined-here (table_places c.self.inside.parent) c.self.inside.snapshot c.args.number
+    let here : IsJoinedHere c.self.inside.snapshot c.args.number =
+    joined-here (table_places c.self.inside.parent) c.self.inside.snapshot c.args.number
     (ap (λ view. has_joined (kept_by view.leaves.kept c.args.number)) c.self.view_is ∙ c.requires.joined) in
     subst (λ it. AreInside c.self.inside.parent it c.self.inside.frames) (sym c.take_out.ensures)
     (inside-forgotten c.self.inside.parent here.it c.self.inside.frames c.args.number here.number here.leaf
@@ -19,11 +20,15 @@ invariant_of-self c =
 
 pub returns-then-is_snapshot-clause-unmarked : goal.returns-then-is_snapshot-clause-unmarked
 returns-then-is_snapshot-clause-unmarked c =
-    let here : IsJoinedHere c.self.inside.snapshot c.args.number = joined-here (table_places c.self.inside.parent) c.self.inside.snapshot c.args.number
+    let here : IsJoinedHere c.self.inside.snapshot c.args.number =
+    joined-here (table_places c.self.inside.parent) c.self.inside.snapshot c.args.number
     (ap (λ view. has_joined (kept_by view.leaves.kept c.args.number)) c.self.view_is ∙ c.requires.joined) in
-    subst (λ view. (account : CellAccount) → StandsFor view account → TakesAccount (Unmark c.args.number) view (cell_value c.self.inside.parent c.take_out.new.snapshot c.self.inside.frames) [] None account)
+    subst (λ view. (account : CellAccount) → StandsFor view account
+    → TakesAccount (Unmark c.args.number) view (cell_value c.self.inside.parent c.take_out.new.snapshot c.self.inside.frames)
+    [] None account)
     (ap (λ it. cell_value c.self.inside.parent it c.self.inside.frames) (sym here.is) ∙ c.self.view_is)
     (subst (λ it. (account : CellAccount) → StandsFor (cell_value c.self.inside.parent (Some here.it) c.self.inside.frames) account
-    → TakesAccount (Unmark c.args.number) (cell_value c.self.inside.parent (Some here.it) c.self.inside.frames) (cell_value c.self.inside.parent it c.self.inside.frames) [] None account) (sym c.take_out.ensures)
+    → TakesAccount (Unmark c.args.number) (cell_value c.self.inside.parent (Some here.it) c.self.inside.frames)
+    (cell_value c.self.inside.parent it c.self.inside.frames) [] None account) (sym c.take_out.ensures)
     (takes-forgotten c.self.inside.parent here.it c.self.inside.frames c.args.number here.number here.leaf
     (subst (λ it. AreInside c.self.inside.parent it c.self.inside.frames) here.is c.self.invariant)))

@@ -15,5 +15,6 @@ returns-clause-account c = λ account stands. returns-clause-pages c ∙ sym (me
 
 pub returns-clause-unjoined : goal.returns-clause-unjoined
 returns-clause-unjoined c = λ none. subst (λ view. AreUnjoined view.leaves.kept) c.self.view_is
-    (none-joined c.self.inside.parent c.self.inside.snapshot c.self.invariant.joined (sym (old-leaf c.self.inside.parent c.self.inside.snapshot c.self.inside.frames c.self.invariant)
+    (none-joined c.self.inside.parent c.self.inside.snapshot c.self.invariant.joined
+    (sym (old-leaf c.self.inside.parent c.self.inside.snapshot c.self.inside.frames c.self.invariant)
     ∙ ap (λ view. has_pages view.leaves.parent) c.self.view_is ∙ none))

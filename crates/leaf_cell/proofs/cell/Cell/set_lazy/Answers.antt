@@ -10,7 +10,8 @@ use Rattle.leaf_cell.proofs.cell.Cell.set_lazy.Goals as goal
 
 pub invariant_of-self : goal.invariant_of-self
 invariant_of-self c = inside-lazy c.self.inside.parent c.self.inside.snapshot c.self.inside.frames c.args.number c.args.mode c.self.invariant
-    (ap (λ view. view.leaves.kept) c.self.view_is ∙ c.requires.alone) (ap (λ view. has_pages view.leaves.parent) c.self.view_is ∙ c.requires.present)
+    (ap (λ view. view.leaves.kept) c.self.view_is ∙ c.requires.alone)
+    (ap (λ view. has_pages view.leaves.parent) c.self.view_is ∙ c.requires.present)
 
 pub returns-clause-forked : goal.returns-clause-forked
 returns-clause-forked c =
