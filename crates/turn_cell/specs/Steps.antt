@@ -17,7 +17,7 @@ module _ {T E Opening : Type 0}
   StandsSince first log x = (f : T) → first ≡ Some f → stands (opening f) log x
 
   -- the seat has the turn, and in the slot a value that stands for all of the history
-  pub record AddsFrames (m m' : Holder T E) : Type 0 where
+  pub record Took (m m' : Holder T E) : Type 0 where
     pub log : List E
     pub value : T
     pub view : m'.0 ≡ record m.0 { holds = true; seen = log; met = m.0.met ++ 0 ∷ [] }
@@ -35,7 +35,7 @@ module _ {T E Opening : Type 0}
 
   -- an exchange of the word took the turn, or found it taken
   abbrev pub tried : Holder T E → ℕ → Holder T E → Type 0
-  tried m found m' = (found ≡ 0 → AddsFrames m m') × (found ≢ 0 → Missed m found m')
+  tried m found m' = (found ≡ 0 → Took m m') × (found ≢ 0 → Missed m found m')
 
 module _ {T E : Type 0} (by : E → ℕ) where
   -- the seat has seen as much as another told it
