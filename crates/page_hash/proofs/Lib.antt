@@ -5,6 +5,7 @@ pub mod ChainSteps
 pub mod Filled
 pub mod FrontReads
 pub mod Fronts
+pub mod FrozenReads
 pub mod Pieces
 pub mod WalkLemmas
 pub mod Searching

@@ -3,6 +3,7 @@
 
 mod chain;
 mod found;
+mod frozen_reads;
 mod key_hash;
 mod layout;
 mod lookups;
@@ -11,6 +12,6 @@ mod search;
 mod table_head;
 mod words;
 
-pub use found::Found;
+pub use found::{Found, PairsFault};
 pub use lookups::{find, get, len, value};
 pub use opening::begin;
