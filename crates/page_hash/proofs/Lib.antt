@@ -1,6 +1,8 @@
 pub mod StoreReads
 pub mod TableBegins
 pub mod MapEntries
+pub mod BlockReads
+pub mod CellRanges
 pub mod ChainSteps
 pub mod Filled
 pub mod FrontReads
@@ -9,3 +11,4 @@ pub mod FrozenReads
 pub mod Pieces
 pub mod WalkLemmas
 pub mod Searching
+pub mod SnapshotsKept

@@ -1,3 +1,4 @@
+pub mod Blocks
 pub mod HashCalls
 pub mod Listing
 pub mod Lookups

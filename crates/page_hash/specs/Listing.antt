@@ -2,6 +2,7 @@
 use Rattle.std.specs.Prelude.{◌≡◌, ⊤, ℕ, ◌+◌, ◌≤◌, List, [], ◌∷◌, ◌++◌, length, map, Some, None, All}
 use Rattle.std.specs.List.{flat_map}
 use Rattle.std.specs.FinMap.{get}
+use Rattle.vm_base.specs.Places.{cells_of_range}
 use Rattle.vm_base.specs.FlatMemory.{FlatMemory, bytes_at}
 use Rattle.vm_base.specs.SnapshotState.{SnapshotState}
 use Rattle.store_meaning.specs.Layout.{word_at}
@@ -33,6 +34,10 @@ abbrev pub StopsAmong : SnapshotState → SnapshotState → List ℕ → PairsFa
 StopsAmong old new cells (Lost at) = IsFirstLost old new cells at
 StopsAmong old new cells NoMemory = ⊤
 
+-- memory was wanted
+abbrev pub wants_memory : PairsFault
+wants_memory = NoMemory
+
 -- why the pairs were not listed: a cell that is needed is lost, the first one in the order of
 -- reading; or memory was wanted
 abbrev pub PairsFail : SnapshotState → SnapshotState → PairsFault → Type 0
@@ -42,6 +47,6 @@ PairsFail old new (Lost at) =
 PairsFail old new NoMemory = ⊤
 
 -- a range was read, and no cell of it was found lost
-pub record IsRead (old : SnapshotState) (address : ℕ) (cells bytes : List ℕ) : Type 0 where
-  pub is : bytes ≡ bytes_at old.mem.present address (length bytes)
-  pub kept : AreNotLost old cells
+pub record IsRead (old : SnapshotState) (address n : ℕ) (bytes : List ℕ) : Type 0 where
+  pub is : bytes ≡ bytes_at old.mem.present address n
+  pub kept : AreNotLost old (cells_of_range address n)

@@ -1,4 +1,7 @@
 //! What a search answers, and why pairs were not listed.
+ghost use Rattle.std.specs.Prelude.{◌≡◌};
+ghost use Rattle.page_hash.specs.Listing.{wants_memory};
+
 use std::alloc::{AllocError, AllocFailed};
 use vm_base::NoMemory;
 
@@ -21,18 +24,24 @@ pub enum PairsFault {
 }
 
 impl From<NoMemory> for PairsFault {
+    ghost from_gives = { λ _ fault. fault ≡ wants_memory };
+
     fn from(_refused: NoMemory) -> PairsFault {
         PairsFault::NoMemory
     }
 }
 
 impl From<AllocError> for PairsFault {
+    ghost from_gives = { λ _ fault. fault ≡ wants_memory };
+
     fn from(_refused: AllocError) -> PairsFault {
         PairsFault::NoMemory
     }
 }
 
 impl<T: Drop> From<AllocFailed<T>> for PairsFault {
+    ghost from_gives = { λ _ fault. fault ≡ wants_memory };
+
     fn from(_refused: AllocFailed<T>) -> PairsFault {
         PairsFault::NoMemory
     }

@@ -1,6 +1,7 @@
 //! A hash table in the pages of any memory.
 #![tactic(auto)]
 
+mod block_read;
 mod chain;
 mod found;
 mod frozen_reads;

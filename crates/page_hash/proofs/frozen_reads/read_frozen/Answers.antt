@@ -27,10 +27,8 @@ returns-in-Ok-clause-read g c =
     let area = subst (λ mem. IsOfArea mem c.args.addr n) (sym c.read.ensures.keeps.goes_on.mem) c.requires.area in
     let told = answer_ok (first_found new.found (cells_of_range c.args.addr n)) (bytes_at new.mem.present c.args.addr n) c.read.new.buf
     (sym (frozen_answer new c.args.addr n area) ∙ c.in-Ok.ensures.bytes) in
-    let long : length c.read.new.buf ≡ n = ap length told.1 ∙ length-bytes_at new.mem.present c.args.addr n in
     record {
-      is = told.1 ∙ ap (λ mem. bytes_at mem.present c.args.addr n) c.read.ensures.keeps.goes_on.mem
-          ∙ ap (bytes_at old.mem.present c.args.addr) (sym long);
+      is = told.1 ∙ ap (λ mem. bytes_at mem.present c.args.addr n) c.read.ensures.keeps.goes_on.mem;
       kept = All-from_recursion (λ cell. get old.found cell ≡ None) (cells_of_range c.args.addr n)
           (none_found old new (cells_of_range c.args.addr n) c.read.ensures.keeps.goes_on told.0);
     }
