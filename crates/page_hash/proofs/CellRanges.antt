@@ -1,13 +1,13 @@
 -- The cells of a range that is read in two parts.
-use Rattle.std.proofs.Common.{◌≡◌, ℕ, zero, suc, ◌+◌, ◌-◌, ◌<◌, ◌≤◌, ◌⊎◌, List, [], ◌∷◌, ◌++◌, None, append-nil, refl, sym, ◌∙◌, ap, subst, arith, inl, inr}
+use Rattle.std.proofs.Common.{◌≡◌, ℕ, zero, suc, ◌+◌, ◌-◌, ◌<◌, ◌≤◌, ◌⊎◌, List, [], ◌∷◌, ◌++◌, None, append-nil, sym, ◌∙◌, ap, subst, arith, inl, inr}
 use Rattle.std.specs.List.{AllByRecursion, range_with_len}
 use Rattle.std.specs.FinMap.{get}
 use Rattle.std.proofs.lemmas.Bool.{cases_eq, cases_lt, cond-false, ne_eqb}
 use Rattle.std.proofs.lemmas.List.Elements.{All-from_recursion, recursion_from_All}
 use Rattle.vm_base.specs.Places.{page_of, cell_of, cells_of_range}
-use Rattle.vm_base.specs.SnapshotState.{SnapshotState, GoesOn}
+use Rattle.vm_base.specs.SnapshotState.{SnapshotState}
 use Rattle.page_hash.specs.Listing.{AreNotLost, IsFirstLost}
-use Rattle.page_hash.proofs.FrozenReads.{lost_among, lost_later}
+use Rattle.page_hash.proofs.FrozenReads.{lost_among}
 
 -- the cell of an address
 abbrev pub cell_at : ℕ → ℕ

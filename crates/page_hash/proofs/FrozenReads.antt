@@ -1,5 +1,5 @@
 -- Reads of a snapshot: which cells were found lost.
-use Rattle.std.proofs.Common.{◌≡◌, ℕ, ◌+◌, List, [], ◌∷◌, ◌++◌, Option, Some, None, Ok, Err, is_some, is_ok, refl, sym, ◌∙◌, ap, append_assoc}
+use Rattle.std.proofs.Common.{◌≡◌, ℕ, List, [], ◌∷◌, ◌++◌, Option, Some, None, Ok, Err, is_some, is_ok, refl, sym, ◌∙◌, ap, append_assoc}
 use Rattle.std.specs.Option.{option_or}
 use Rattle.std.specs.List.{AllByRecursion}
 use Rattle.std.specs.FinMap.{get}
@@ -8,8 +8,6 @@ use Rattle.std.proofs.lemmas.List.Elements.{All-from_recursion, recursion_from_A
 use Rattle.vm_base.specs.Places.{page_of, page_count, cells_of_range}
 use Rattle.vm_base.specs.FlatMemory.{FlatMemory, bytes_at}
 use Rattle.vm_base.specs.FlatStep.{OutsideAreas, outside, or_refused}
-use Rattle.vm_base.specs.ProcessState.{Found}
-use Rattle.vm_base.specs.declared.faults.SnapFault.{SnapFault}
 use Rattle.vm_base.specs.declared.faults.SnapFault.TheVariants.{NoArea, Lost}
 use Rattle.vm_base.specs.SnapshotState.{SnapshotState, GoesOn, first_found, unless_fault, snapshot_answer}
 use Rattle.vm_base.proofs.FlatAreas.{read_of-in_area}

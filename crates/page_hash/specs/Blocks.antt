@@ -1,5 +1,5 @@
 -- Blocks of a snapshot, as they are read.
-use Rattle.std.specs.Prelude.{◌≡◌, ℕ, length}
+use Rattle.std.specs.Prelude.{◌≡◌, length}
 use Rattle.vm_base.specs.Places.{cells_of_range}
 use Rattle.vm_base.specs.SnapshotState.{SnapshotState}
 use Rattle.store_meaning.specs.Layout.{word_at}

@@ -1,12 +1,10 @@
 -- What listing the pairs of a snapshot needs, and where it stops.
-use Rattle.std.specs.Prelude.{◌≡◌, ⊤, ℕ, ◌+◌, ◌≤◌, List, [], ◌∷◌, ◌++◌, length, map, Some, None, All}
-use Rattle.std.specs.List.{flat_map}
+use Rattle.std.specs.Prelude.{◌≡◌, ⊤, ℕ, List, ◌∷◌, ◌++◌, Some, None, All}
 use Rattle.std.specs.FinMap.{get}
 use Rattle.vm_base.specs.Places.{cells_of_range}
-use Rattle.vm_base.specs.FlatMemory.{FlatMemory, bytes_at}
+use Rattle.vm_base.specs.FlatMemory.{bytes_at}
 use Rattle.vm_base.specs.SnapshotState.{SnapshotState}
-use Rattle.store_meaning.specs.Layout.{word_at}
-use Rattle.store_meaning.specs.HashLayout.{Entry, Store, Pairs, IsStore}
+use Rattle.store_meaning.specs.HashLayout.{Store, Pairs, IsStore}
 use Rattle.store_meaning.specs.StoreSteps.{needed_cells}
 use Rattle.page_hash.specs.declared.found.PairsFault.{PairsFault}
 use Rattle.page_hash.specs.declared.found.PairsFault.TheVariants.{Lost, NoMemory}

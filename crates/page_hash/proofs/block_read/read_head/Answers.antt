@@ -1,4 +1,4 @@
-use Rattle.std.proofs.Common.{◌≡◌, ◌∙◌, ◌+◌, subst, sym, ap, arith}
+use Rattle.std.proofs.Common.{◌∙◌, subst, sym}
 use Rattle.vm_base.specs.Places.{cells_of_range}
 use Rattle.page_hash.specs.Listing.{AreNotLost}
 use Rattle.page_hash.proofs.Fronts.{head_read}

@@ -5,7 +5,6 @@ use Rattle.vm_base.specs.Places.{cells_of_range}
 use Rattle.vm_base.specs.FlatMemory.{bytes_at}
 use Rattle.vm_base.specs.declared.faults.SnapFault.{SnapFault}
 use Rattle.vm_base.specs.SnapshotState.{first_found}
-use Rattle.vm_base.proofs.FlatBytes.{length-bytes_at}
 use Rattle.page_hash.specs.HashCalls.{IsOfArea}
 use Rattle.page_hash.proofs.FrozenReads.{frozen_answer, answer_ok, answer_lost, answer_no_area, none_found, one_found}
 use Rattle.page_hash.proofs.frozen_reads.read_frozen.Goals as goal
