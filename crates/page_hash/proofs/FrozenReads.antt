@@ -20,7 +20,8 @@ within_areas : (memory : FlatMemory) (address n : ℕ) → IsOfArea memory addre
 within_areas memory address n is =
     by (outside memory.areas (page_of address) (page_count address n)) (read_of-in_area memory is.area address n is.listed is.has)
   where
-    by : (found : Option ℕ) → or_refused OutsideAreas found (Ok (bytes_at memory.present address n)) ≡ Ok (bytes_at memory.present address n)
+    by : (found : Option ℕ)
+        → or_refused OutsideAreas found (Ok (bytes_at memory.present address n)) ≡ Ok (bytes_at memory.present address n)
         → found ≡ None
     by None read = refl
     by (Some page) read = absurd (false≢true (ap is_ok read))

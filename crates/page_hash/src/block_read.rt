@@ -65,8 +65,8 @@ fn read_bytes<Z: Frozen>(
     requires range { IsOfArea (Z.snapshot z.old).mem addr len × (addr + len ≤ 2 ^ 48) }
     requires sound { KeepsSnapshot (Z.snapshot z.old) (Z.snapshot z.old) }
     ensures read { IfOk result (λ bytes. IsRead (Z.snapshot z.old) addr len bytes.items) }
-    ensures lost { IfErr result
-        (λ fault. StopsAmong (Z.snapshot z.old) (Z.snapshot z.new) (cells_of_range addr len) fault) }
+    ensures lost { IfErr result (λ fault.
+        StopsAmong (Z.snapshot z.old) (Z.snapshot z.new) (cells_of_range addr len) fault) }
     ensures keeps { KeepsSnapshot (Z.snapshot z.old) (Z.snapshot z.new) }
     ensures uncounted { (Z.snapshot z.new).refused ≡ (Z.snapshot z.old).refused }
     ensures aside { Z.aside z.new ≡ Z.aside z.old }
@@ -99,7 +99,8 @@ pub fn read_block<Z: Frozen>(alloc: Global, z: &mut Z, at: u64) -> Result<BlockR
     requires block { (entry : Entry) × IsBlockOf (Z.snapshot z.old).mem at entry }
     ensures read { IfOk result (λ block. (entry : Entry) → IsBlockOf (Z.snapshot z.old).mem at entry
         → IsBlockRead (Z.snapshot z.old) entry block) }
-    ensures lost { IfErr result (λ fault. (entry : Entry) → IsBlockOf (Z.snapshot z.old).mem at entry
+    ensures lost { IfErr result (λ fault.
+        (entry : Entry) → IsBlockOf (Z.snapshot z.old).mem at entry
         → StopsAmong (Z.snapshot z.old) (Z.snapshot z.new) (entry_cells entry) fault) }
     ensures keeps { KeepsSnapshot (Z.snapshot z.old) (Z.snapshot z.new) }
     ensures uncounted { (Z.snapshot z.new).refused ≡ (Z.snapshot z.old).refused }

@@ -13,8 +13,8 @@ pub fn read_frozen<Z: Frozen>(z: &mut Z, addr: u64, buf: &mut [u8]) -> Result<()
     requires area { IsOfArea (Z.snapshot z.old).mem addr (length buf.old) }
     requires within { addr + length buf.old ≤ 2 ^ 48 }
     ensures read { OnOk result (IsRead (Z.snapshot z.old) addr (length buf.old) buf.new) }
-    ensures lost { IfErr result (λ fault.
-        StopsAmong (Z.snapshot z.old) (Z.snapshot z.new) (cells_of_range addr (length buf.old)) fault) }
+    ensures lost { IfErr result (λ fault. StopsAmong (Z.snapshot z.old) (Z.snapshot z.new)
+        (cells_of_range addr (length buf.old)) fault) }
     ensures keeps { KeepsSnapshot (Z.snapshot z.old) (Z.snapshot z.new) }
     ensures uncounted { (Z.snapshot z.new).refused ≡ (Z.snapshot z.old).refused }
     ensures aside { Z.aside z.new ≡ Z.aside z.old }

@@ -18,7 +18,8 @@ returns-in_err-head-clause-lost g c =
     let fault = c.in_err-head.field-0.0 in
     let p = err_from_is_err_and c.from_residual.result c.from_residual.ensures.1 in
     rw (p.1, p.2) (λ entry is.
-    subst (λ cells. StopsAmong old new cells fault) (block_cells old.mem c.args.at (length entry.key) (length entry.value) entry is refl refl)
+    subst (λ cells. StopsAmong old new cells fault)
+    (block_cells old.mem c.args.at (length entry.key) (length entry.value) entry is refl refl)
     (stops_first old new c.args.at 16 (length entry.key + length entry.value) fault (omega arith) c.in_err-head.ensures.lost))
 
 pub read_bytes-requires-clause-sound : goal.read_bytes-requires-clause-sound
