@@ -37,7 +37,8 @@ pub bytes_eq-append : (xs us ys vs : List ℕ) → length xs ≡ length us
 bytes_eq-append [] [] ys vs same = refl
 bytes_eq-append [] (u ∷ us) ys vs same = absurd (omega (arith, same))
 bytes_eq-append (x ∷ xs) [] ys vs same = absurd (omega (arith, same))
-bytes_eq-append (x ∷ xs) (u ∷ us) ys vs same = elim (eqb x u) as (λ b. (b && bytes_eq (xs ++ ys) (us ++ vs)) ≡ ((b && bytes_eq xs us) && bytes_eq ys vs)) [
-  | true ↦ bytes_eq-append xs us ys vs (omega (arith, same))
-  | false ↦ refl
-]
+bytes_eq-append (x ∷ xs) (u ∷ us) ys vs same = elim (eqb x u)
+    as (λ b. (b && bytes_eq (xs ++ ys) (us ++ vs)) ≡ ((b && bytes_eq xs us) && bytes_eq ys vs)) [
+      | true ↦ bytes_eq-append xs us ys vs (omega (arith, same))
+      | false ↦ refl
+    ]

@@ -5,7 +5,9 @@ use Rattle.std.specs.Bool.{then_some}
 use Rattle.std.specs.Str.{bytes_eq}
 use Rattle.std.proofs.lemmas.Bool.{cases_Bool, cond-false}
 use Rattle.std.proofs.lemmas.Slice.Eq.{bytes_eq-Decides}
+use Rattle.std.proofs.Math.Seq.{take-length}
 use Rattle.byteorder.specs.Endian.{big_number}
+use Rattle.vm_base.proofs.FlatBytes.{length-bytes_at}
 use Rattle.vm_base.specs.FlatMemory.{FlatMemory, bytes_at}
 use Rattle.store_meaning.specs.Layout.{heap_at, heap_end, word_at, number_at}
 use Rattle.store_meaning.specs.HashLayout.{Entry}
@@ -77,3 +79,20 @@ key_within memory at key_length key entry is read same =
     let long : length key ≡ length entry.key =
     sym same ∙ read ∙ ap (λ a. number_at memory (a + 8) 4) (sym is.here) ∙ is.holds.key_length in
     (is.above, omega (arith, long, is.below))
+
+-- the head of a block, as it was read whole
+pub head_read : (memory : FlatMemory) (at : ℕ) (head : List ℕ) (entry : Entry) → IsBlockOf memory at entry
+    → head ≡ bytes_at memory.present at 16
+    → (big_number 8 head ≡ word_at memory entry.at) × (big_number 4 (take 8 (drop 8 head)) ≡ length entry.key)
+    × (big_number 4 (take 4 (drop 12 head)) ≡ length entry.value)
+head_read memory at head entry is read =
+    let long : length head ≡ 16 = ap length read ∙ length-bytes_at memory.present at 16 in
+    let whole : take 16 head ≡ bytes_at memory.present at 16 = ap (λ n. take n head) (sym long) ∙ take-length head ∙ read in
+    let room : 16 ≤ length head = omega (arith, long) in (
+      number_in memory.present at 16 0 8 head room whole (omega arith) ∙ ap (word_at memory) (omega arith)
+          ∙ ap (word_at memory) (sym is.here),
+      number_part memory.present at 16 8 4 8 head room whole (omega arith) (omega arith)
+          ∙ ap (λ a. number_at memory (a + 8) 4) (sym is.here) ∙ is.holds.key_length,
+      number_part memory.present at 16 12 4 4 head room whole (omega arith) (omega arith)
+          ∙ ap (λ a. number_at memory (a + 12) 4) (sym is.here) ∙ is.holds.value_length,
+    )

@@ -1,10 +1,14 @@
 pub mod StoreReads
 pub mod TableBegins
 pub mod MapEntries
+pub mod BlockReads
+pub mod CellRanges
 pub mod ChainSteps
 pub mod Filled
 pub mod FrontReads
 pub mod Fronts
+pub mod FrozenReads
 pub mod Pieces
 pub mod WalkLemmas
 pub mod Searching
+pub mod SnapshotsKept

@@ -92,7 +92,8 @@ word_in present at size offset m fields read fits more =
 
 -- the part of a key that stands in the front of its block
 pub key_piece : (memory : FlatMemory) (at key_length first : ℕ) (front : List ℕ) → IsFrontOf memory at key_length front
-    → at + 16 + key_length ≤ heap_end → first ≤ key_length → first ≤ 256 → take (16 + first - 16) (drop 16 front) ≡ bytes_at memory.present (at + 16) first
+    → at + 16 + key_length ≤ heap_end → first ≤ key_length → first ≤ 256
+    → take (16 + first - 16) (drop 16 front) ≡ bytes_at memory.present (at + 16) first
 key_piece memory at key_length first front is within few small =
     let some : 16 + first - 16 ≡ first = omega arith in
     ap (λ n. take n (drop 16 front)) some
@@ -119,7 +120,8 @@ same_front present at first key piece few read same =
     length-bytes_at present at first ∙ sym (length-take-le first key few) in
     sym (ap (λ n. bytes_eq (bytes_at present at n) key) count
     ∙ ap (λ l. bytes_eq l key) (bytes_at-split present at first (length (drop first key)))
-    ∙ ap (bytes_eq (bytes_at present at first ++ bytes_at present (at + first) (length (drop first key)))) (sym (take-append-drop first key))
+    ∙ ap (bytes_eq (bytes_at present at first ++ bytes_at present (at + first) (length (drop first key))))
+    (sym (take-append-drop first key))
     ∙ bytes_eq-append (bytes_at present at first) (take first key) (bytes_at present (at + first) (length (drop first key)))
     (drop first key) long
     ∙ ap (λ b. b && rest) (ap (λ l. bytes_eq l (take first key)) (sym read) ∙ here))

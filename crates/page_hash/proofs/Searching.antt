@@ -36,11 +36,13 @@ bucket_is store key head hash is hashed =
 -- and may be read
 pub bucket_area : (memory : FlatMemory) (store : Store) (of : Pairs) (key : List ℕ) → IsStore memory store of
     → IsOfArea memory (bucket_at store.table key) 8
-bucket_area memory store of key is = bucket_part memory store.table (bucket_of store.table key) is.table (bucket_inside memory store of key is)
+bucket_area memory store of key is =
+    bucket_part memory store.table (bucket_of store.table key) is.table (bucket_inside memory store of key is)
 
 pub bucket_end : (memory : FlatMemory) (store : Store) (of : Pairs) (key : List ℕ) → IsStore memory store of
     → bucket_at store.table key + 8 ≤ 2 ^ 48
-bucket_end memory store of key is = bucket_low memory store.table (bucket_of store.table key) is.table (bucket_inside memory store of key is)
+bucket_end memory store of key is =
+    bucket_low memory store.table (bucket_of store.table key) is.table (bucket_inside memory store of key is)
 
 -- the chain of the key's bucket from its first block on
 pub key_chain : (memory : FlatMemory) (store : Store) (of : Pairs) (key : List ℕ) (first : ℕ) → IsStore memory store of

@@ -15,7 +15,7 @@ use vm_base::Memory;
 // So much of a block is read at once at most: its head, and 256 bytes of its key.
 const FRONT: usize = 272;
 
-// What a block says: the next one's address, and the value's length where it has the key.
+/// What a block says: the next one's address, and the value's length where it has the key.
 #[derive(Clone, Copy, Debug)]
 pub struct Seen {
     pub next: u64,

@@ -1,8 +1,10 @@
 //! A hash table in the pages of any memory.
 #![tactic(auto)]
 
+mod block_read;
 mod chain;
 mod found;
+mod frozen_reads;
 mod key_hash;
 mod layout;
 mod lookups;
@@ -11,6 +13,6 @@ mod search;
 mod table_head;
 mod words;
 
-pub use found::Found;
+pub use found::{Found, PairsFault};
 pub use lookups::{find, get, len, value};
 pub use opening::begin;

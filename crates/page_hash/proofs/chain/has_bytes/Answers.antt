@@ -13,7 +13,8 @@ returns-then-ne-clause-has g c =
     c.read_area.ensures.bytes
     ∙ ap (λ s. bytes_at s.mem.present (c.args.addr + c.loop-done.done) (length (take size c.loop-done.piece))) c.loop-done.invariant.same in
     let room : size ≤ length c.loop-done.piece = omega (arith, c.min-size.ensures, c.loop-done.invariant.room) in
-    other_bytes present c.args.addr c.loop-done.done size c.args.bytes.now (take size (c.read_area.new.buf ++ drop size c.loop-done.piece)) fits
+    other_bytes present c.args.addr c.loop-done.done size c.args.bytes.now
+    (take size (c.read_area.new.buf ++ drop size c.loop-done.piece)) fits
     (piece_read present (c.args.addr + c.loop-done.done) size c.loop-done.piece c.read_area.new.buf room read)
     (sym c.if-ne.ensures)
 

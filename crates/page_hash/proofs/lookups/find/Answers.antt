@@ -41,8 +41,10 @@ returns-clause-found g c of stands =
     let store = stands.0 in
     let told = found_block mem store of c.args.key.now c.in_ok-block.block stands.1
     (searched mem store c.args.key.now c.locate.result _ (c.locate.ensures.search store of stands.1) c.in_ok-block.was) in
-    subst (λ s. FoundFor s.mem (Some (record { addr = c.in_ok-block.block.at + 16 + length c.args.key.now; length = c.in_ok-block.block.length }))
-    (get of c.args.key.now)) (sym c.locate.ensures.same) told.found
+    let block = c.in_ok-block.block in
+    subst (λ s. FoundFor s.mem (Some (record { addr = block.at + 16 + length c.args.key.now; length = block.length }))
+    (get of c.args.key.now))
+    (sym c.locate.ensures.same) told.found
 
 pub returns-clause-within : goal.returns-clause-within
 returns-clause-within g c =
