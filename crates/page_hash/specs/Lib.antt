@@ -1,1 +1,2 @@
 pub mod HashCalls
+pub mod Clears

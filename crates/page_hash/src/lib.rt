@@ -1,12 +1,14 @@
 //! A hash table in the pages of any memory.
 #![tactic(auto)]
 
+mod clearing;
 mod found;
 mod layout;
 mod lookups;
 mod opening;
 mod words;
 
+pub use clearing::clear;
 pub use found::Found;
 pub use lookups::{len, value};
 pub use opening::begin;
