@@ -4,3 +4,6 @@ pub mod MapEntries
 pub mod AreaSteps
 pub mod PresentTouch
 pub mod Cleared
+pub mod FrontReads
+pub mod HeadReads
+pub mod BlockLinks

@@ -1,2 +1,3 @@
 pub mod HashCalls
 pub mod Clears
+pub mod Relinking

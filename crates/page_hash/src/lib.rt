@@ -1,11 +1,13 @@
 //! A hash table in the pages of any memory.
 #![tactic(auto)]
 
+mod block_head;
 mod clearing;
 mod found;
 mod layout;
 mod lookups;
 mod opening;
+mod relinking;
 mod words;
 
 pub use clearing::clear;
