@@ -1,21 +1,22 @@
 -- A block that is linked anew: its touch is not refused, and its first word alone changes.
 use Rattle.std.proofs.Common.{◌≡◌, ℕ, ◌+◌, ◌-◌, ◌*◌, ◌<◌, ◌≤◌, ◌⊎◌, List, [], Result, OnOk, IfErr, IsSome, is_some, refl, sym, ◌∙◌, ap, subst, arith, inl, inr, Contains, eqb}
 use Rattle.std.specs.FinMap.{get}
-use Rattle.std.proofs.lemmas.Bool.{false≢true, cond-false, ne_eqb}
+use Rattle.std.proofs.lemmas.Bool.{false≢true, cases_eq, cond-true, cond-false, eq-eqb, ne_eqb}
 use Rattle.byteorder.specs.Endian.{big_bytes}
 use Rattle.vm_base.specs.declared.faults.Fault.{Fault}
 use Rattle.vm_base.specs.Places.{page_of, page_count, cell_of, cells_of_range}
-use Rattle.vm_base.specs.FlatMemory.{FlatMemory}
+use Rattle.vm_base.specs.FlatMemory.{FlatMemory, IsFlat}
 use Rattle.vm_base.specs.FlatStep.{with_bytes}
-use Rattle.vm_base.specs.FlatLaws.{HasNumbersOf}
+use Rattle.vm_base.specs.FlatLaws.{AreFullPages, HasNumbersOf}
 use Rattle.vm_base.specs.MemoryState.{MemoryState, IsMemory, IsKept, IsIn, IsListed}
 use Rattle.vm_base.specs.MemoryCalls.{IsInRange, IsReady, Touches, TouchFails, after_store}
 use Rattle.vm_base.proofs.FlatAreas.{cells-of_pages}
-use Rattle.vm_base.proofs.FlatLaws.{is_some-with_bytes}
+use Rattle.vm_base.proofs.FlatLaws.{is_some-with_bytes, full_from_flat}
 use Rattle.vm_base.proofs.IsKeptOn.{IsKept-on}
 use Rattle.store_meaning.specs.Layout.{heap_area, heap_at, heap_end, store_cells}
 use Rattle.store_meaning.specs.HeapLayout.{ArePresent}
 use Rattle.page_hash.specs.Relinking.{MayRelink, KeepsPlace, with_word}
+use Rattle.page_hash.proofs.Cleared.{may_kept}
 use Rattle.page_hash.proofs.PresentTouch.{AreThere, TouchesPresent, region_answer, region_listed, touch_made}
 
 -- a range that is present has each of its pages
@@ -24,6 +25,12 @@ there_from memory address n some present page inside =
     let count : page_count address n ≡ page_of (address + n - 1) + 1 - page_of address =
     cond-false (eqb n 0) 0 _ (ne_eqb n 0 (λ none. omega (arith, none, some))) in
     present page (omega (arith, inside.0)) (omega (arith, inside.0, inside.1, count, some))
+
+-- and each of them is full
+pub full_present : (memory : FlatMemory) (address n : ℕ) → IsFlat memory → 0 < n → ArePresent memory address n
+    → AreFullPages memory.present address n
+full_present memory address n flat some present page inside =
+    full_from_flat memory page flat (there_from memory address n some present page inside)
 
 -- the cells of a range of the heap are cells of a store
 pub heap_cells_listed : (address n : ℕ) → heap_at ≤ address → address + n ≤ heap_end → HasNumbersOf store_cells (cells_of_range address n)
@@ -34,10 +41,10 @@ heap_cells_listed address n low high cell listed =
     region_listed cell (inr (inr (inr (omega (arith, at, inside.0, low), cell_high page.0 at inside.0 inside.1))))
   where
     cell_high : (page : ℕ) → cell_of page ≡ cell → page_of address ≤ page → page < page_of address + page_count address n → cell < 4353
-    cell_high page at above below = elim (Rattle.std.proofs.lemmas.Bool.cases_eq n 0) [
+    cell_high page at above below = elim (cases_eq n 0) [
       | inl none ↦
           let nothing : page_count address n ≡ 0 =
-          Rattle.std.proofs.lemmas.Bool.cond-true (eqb n 0) 0 _ (Rattle.std.proofs.lemmas.Bool.eq-eqb n 0 none) in
+          cond-true (eqb n 0) 0 _ (eq-eqb n 0 none) in
           omega (arith, nothing, above, below)
       | inr some ↦
           let count : page_count address n ≡ page_of (address + n - 1) + 1 - page_of address =
@@ -73,3 +80,21 @@ relinks_block old touched new at word touch kept stored_kept low high stored = (
         (λ cell never. absurd (false≢true never));
   },
 )
+
+-- one such change behind another
+pub keeps_on : (one two three : MemoryState) → KeepsPlace one two → KeepsPlace two three → KeepsPlace one three
+keeps_on one two three a b = record {
+  areas = b.areas ∙ a.areas;
+  pages = λ page. b.pages page ∙ a.pages page;
+  most = b.most ∙ a.most;
+  ready = λ page there. b.ready page (a.ready page there);
+  kept = IsKept-on one two three store_cells store_cells store_cells a.kept b.kept (λ cell is. is) (λ cell is. is);
+}
+
+-- and a memory in which blocks may be touched stays one
+pub may_on : (old new : MemoryState) → MayRelink old → KeepsPlace old new → MayRelink new
+may_on old new may keeps = record {
+  sound = keeps.kept.after;
+  may = may_kept old new keeps.kept may.may;
+  heap = subst (λ a. Contains a heap_area) (sym keeps.areas) may.heap;
+}

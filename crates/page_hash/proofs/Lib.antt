@@ -7,3 +7,4 @@ pub mod Cleared
 pub mod FrontReads
 pub mod HeadReads
 pub mod BlockLinks
+pub mod ChainTurns
