@@ -77,7 +77,7 @@ turned_more : (test : Entry → Bool) (entries done : List Entry) (entry : Entry
 turned_more test [] done entry = refl
 turned_more test (first ∷ entries) done entry = turned_more test entries (if test first then first ∷ done else done) entry
 
-turned_all : (P : Entry → Type 0) (test : Entry → Bool) (entries done : List Entry) → AllByRecursion P done → AllByRecursion P entries
+pub turned_all : (P : Entry → Type 0) (test : Entry → Bool) (entries done : List Entry) → AllByRecursion P done → AllByRecursion P entries
     → AllByRecursion P (turned test done entries)
 turned_all P test [] done before all = before
 turned_all P test (entry ∷ entries) done before all = turned_all P test entries (if test entry then entry ∷ done else done)
@@ -94,7 +94,7 @@ LinksFrom-kept old new first (at ∷ blocks) same linked = (
   subst (λ w. LinksFrom new w blocks) (sym same.0) (LinksFrom-kept old new (word_at old at) blocks same.1 linked.2),
 )
 
-first_low : (memory : FlatMemory) (first limit : ℕ) (blocks : List ℕ) → 0 < limit → LinksFrom memory first blocks
+pub first_low : (memory : FlatMemory) (first limit : ℕ) (blocks : List ℕ) → 0 < limit → LinksFrom memory first blocks
     → AllByRecursion (λ at. at < limit) blocks → first < limit
 first_low memory first limit [] some linked low = omega (arith, linked, some)
 first_low memory first limit (at ∷ blocks) some linked low = omega (arith, linked.0, low.0)
@@ -102,7 +102,7 @@ first_low memory first limit (at ∷ blocks) some linked low = omega (arith, lin
 -- ---- the first word of one block is stored
 
 -- a block whose bytes behind its first word are the same is held as before
-held_kept : (old new : FlatMemory) (entry : Entry)
+pub held_kept : (old new : FlatMemory) (entry : Entry)
     → bytes_at new.present (entry.at + 8) (8 + length entry.key + length entry.value)
     ≡ bytes_at old.present (entry.at + 8) (8 + length entry.key + length entry.value)
     → KeepsPages old new → IsHeldBlock old entry → IsHeldBlock new entry
@@ -166,7 +166,7 @@ own_held memory word entry full is =
     (bytes_at-with_bytes_apart memory.present entry.at (big_bytes 8 word) (entry.at + 8) (8 + length entry.key + length entry.value)
     (inl (omega arith))) (storing_keeps memory entry.at word full) is
 
-both_hold : {X : Type 0} (P Q R : X → Type 0) (xs : List X) → ((x : X) → P x → Q x → R x) → AllByRecursion P xs → AllByRecursion Q xs
+pub both_hold : {X : Type 0} (P Q R : X → Type 0) (xs : List X) → ((x : X) → P x → Q x → R x) → AllByRecursion P xs → AllByRecursion Q xs
     → AllByRecursion R xs
 both_hold P Q R [] more ps qs = tt
 both_hold P Q R (x ∷ xs) more ps qs = (more x ps.0 qs.0, both_hold P Q R xs more ps.1 qs.1)

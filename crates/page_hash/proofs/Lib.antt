@@ -8,3 +8,5 @@ pub mod FrontReads
 pub mod HeadReads
 pub mod BlockLinks
 pub mod ChainTurns
+pub mod ChainsApart
+pub mod PartRelinks

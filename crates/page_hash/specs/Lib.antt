@@ -1,3 +1,4 @@
 pub mod HashCalls
 pub mod Clears
 pub mod Relinking
+pub mod ArrayRelinking

@@ -1,6 +1,7 @@
 //! A hash table in the pages of any memory.
 #![tactic(auto)]
 
+mod arrays;
 mod block_head;
 mod clearing;
 mod found;
@@ -8,6 +9,7 @@ mod layout;
 mod lookups;
 mod opening;
 mod relinking;
+mod relinking_all;
 mod words;
 
 pub use clearing::clear;
