@@ -99,7 +99,7 @@ may_on old new may keeps = record {
   heap = subst (λ a. Contains a heap_area) (sym keeps.areas) may.heap;
 }
 
-kept_none : (state : MemoryState) (cells : List ℕ) → IsMemory state → IsKept state state cells
+pub kept_none : (state : MemoryState) (cells : List ℕ) → IsMemory state → IsKept state state cells
 kept_none state cells sound = record {
   before = sound;
   after = sound;

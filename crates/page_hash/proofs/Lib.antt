@@ -10,3 +10,12 @@ pub mod BlockLinks
 pub mod ChainTurns
 pub mod ChainsApart
 pub mod PartRelinks
+pub mod AreaTouch
+pub mod BothAreas
+pub mod AddingArray
+pub mod MovingArray
+pub mod DoubledEntries
+pub mod OldTable
+pub mod DoubledStore
+pub mod DoublingReach
+pub mod DoublingDone

@@ -36,7 +36,7 @@ arrays_low arrays are = elim are.regions [
 ]
 
 -- what holds of a chain holds of what is made of it
-turned_for_all : (P : Entry → Type 0) (count bucket : ℕ) (chain : List Entry) → AllByRecursion P chain
+pub turned_for_all : (P : Entry → Type 0) (count bucket : ℕ) (chain : List Entry) → AllByRecursion P chain
     → AllByRecursion P (turned_for count bucket chain)
 turned_for_all P count bucket chain all =
     subst (AllByRecursion P) (turned_is (is_of_bucket count bucket) chain [] ∙ append-nil (turned_for count bucket chain))
@@ -57,7 +57,7 @@ bucket_chain_of memory arrays table from bucket is low high = record {
 }
 
 -- a range below the heap is beside all chains
-low_beside : (memory : FlatMemory) (table : Table) (from to other size : ℕ) → AreHeldBlocks memory (entries_of table)
+pub low_beside : (memory : FlatMemory) (table : Table) (from to other size : ℕ) → AreHeldBlocks memory (entries_of table)
     → other + size ≤ heap_at → IsBesideChains table from to other size
 low_beside memory table from to other size are low bucket above below =
     all_mono (IsHeldBlock memory) (λ (entry : Entry). AreApart entry.at 8 other size) (chain_of table bucket)
@@ -89,7 +89,7 @@ turned_kept old new first count into chain same linked =
     (turned_for_all (AreWordsSame old new) count into chain same)) linked
 
 -- the blocks behind their first words are as before
-blocks_part : (old new : FlatMemory) (arrays : Arrays) (table : Table) (from to : ℕ) → AreArrays arrays → from ≤ to → to ≤ arrays.buckets
+pub blocks_part : (old new : FlatMemory) (arrays : Arrays) (table : Table) (from to : ℕ) → AreArrays arrays → from ≤ to → to ≤ arrays.buckets
     → AreHeldBlocks old (entries_of table) → KeepsPages old new → RelinksPart old new arrays table from to
     → AreHeldBlocks new (entries_of table)
 blocks_part old new arrays table from to regions rise high are keeps part = record {

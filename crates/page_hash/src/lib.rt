@@ -4,6 +4,7 @@
 mod arrays;
 mod block_head;
 mod clearing;
+mod doubling;
 mod found;
 mod layout;
 mod lookups;
