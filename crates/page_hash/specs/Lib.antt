@@ -3,3 +3,7 @@ pub mod HashCalls
 pub mod Listing
 pub mod Lookups
 pub mod Walks
+pub mod Clears
+pub mod Relinking
+pub mod ArrayRelinking
+pub mod Doubling

@@ -3,6 +3,10 @@
 
 mod block_read;
 mod chain;
+mod arrays;
+mod block_head;
+mod clearing;
+mod doubling;
 mod found;
 mod frozen_reads;
 mod key_hash;
@@ -15,4 +19,11 @@ mod words;
 
 pub use found::{Found, PairsFault};
 pub use lookups::{find, get, len, value};
+mod relinking;
+mod relinking_all;
+mod words;
+
+pub use clearing::clear;
+pub use found::Found;
+pub use lookups::{len, value};
 pub use opening::begin;
