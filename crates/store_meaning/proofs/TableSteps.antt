@@ -1,0 +1,52 @@
+-- What one change of a chain makes of a store: other entries in the place of one or of none.
+-- (Statements first: the proofs come, and the file stands in Lib.antt then.)
+--
+-- pub record Spot where before : List (List Entry); front, back : List Entry; behind : List (List Entry)
+-- chains_with spot middle = spot.before ++ (spot.front ++ middle ++ spot.back) ∷ spot.behind
+-- others spot = spot.front ++ spot.back ++ flat before ++ flat behind     (all entries but the middle)
+-- link_of place [] = place; link_of place (e ∷ es) = link_of e.at es
+-- link_at array spot = link_of (array + 8 * length spot.before) spot.front
+-- Leads memory place [] to = word_at memory place ≡ to
+-- Leads memory place (at ∷ ats) to = (word_at memory place ≡ at) × (0 < at) × Leads memory at ats to
+-- AreSameBeside old new stored = (address n : ℕ)
+--     → AllByRecursion (λ r. AreApart r.at r.size address n) stored
+--     → bytes_at new.present address n ≡ bytes_at old.present address n
+-- IsAside rest r = (r.at + r.size ≤ header_at + 144) ⊎ (r ≡ word_range pairs_field)
+--     ⊎ ((heap_at ≤ r.at) × (r apart from entry_range of each of rest))
+--
+-- changes : (old new : FlatMemory) (store : Store) (of to : Pairs) (spot : Spot)
+--     (middle other : List Entry) (heap : Heap) (aside : List Range)
+--   → IsStore old store of → store.table.chains ≡ chains_with spot middle → new.areas ≡ old.areas
+--   → AreSameBeside old new (word_range (link_at store.table.array spot) ∷ aside)
+--   → AllByRecursion (IsAside (others spot)) aside
+--   → Leads new link (map at other) (word_at old (link_of link middle))   (link = link_at ..)
+--   → word_at new pairs_field ≡ length (other ++ others spot)
+--   → AllByRecursion (Holds new) other
+--   → AllByRecursion (λ e. hash_of e.key % length store.table.chains ≡ length spot.before) other
+--   → IsHeap new heap → IsPermutation heap.used (map entry_block (other ++ others spot))
+--   → IsPermutation (map entry_pair (other ++ others spot)) (entries to)
+--   → IsStore new (record { table = record store.table { chains = chains_with spot other }; heap }) to
+-- A new pair: front = [], middle = [], other = e ∷ []. Moved, in place: middle and other have one.
+-- Removed: other = [].
+--
+-- aside_of_middle: a range within the block of an entry of the middle is aside.
+-- aside_of_next: a range within the next block of a class (next_at heap class) is aside.
+-- heap_beside: IsHeap old heap → areas → KeepsPages → AreSameBeside old new stored → each stored
+--     range lies between header_at + 144 and heap_at, or in the heap and apart from the words of
+--     the free blocks → IsHeap new heap.  in_use_beside: a range within a block in use is so.
+--
+-- page_hash/proofs/MapSteps.antt:
+-- insert_new : get m k ≡ None → IsPermutation ps (entries m)
+--     → IsPermutation ((k, v) ∷ ps) (entries (insert m k v))
+-- removed_one : IsPermutation ((k, v) ∷ ps) (entries m) → IsPermutation ps (entries (remove m k))
+-- replaced_one : IsPermutation ((k, v) ∷ ps) (entries m)
+--     → IsPermutation ((k, w) ∷ ps) (entries (insert m k w))
+-- remove_none : get m k ≡ None → remove m k ≡ m
+-- other_keys : IsPermutation ((k, v) ∷ ps) (entries m) → AllByRecursion (λ p. p.0 ≡ k → ⊥) ps
+--
+-- page_hash/proofs/ChainSteps-like file EntrySpots.antt:
+-- spot_of : IsStore memory store of → entry_for store key ≡ Some entry → (spot : Spot)
+--     × store.table.chains ≡ chains_with spot (entry ∷ []) × length spot.before ≡ bucket × entry.key ≡ key
+--     × with_chain store.table key (with_entry e') .chains ≡ chains_with spot (e' ∷ [])  (e'.key ≡ key)
+--     × with_chain store.table key (without_key key) .chains ≡ chains_with spot []
+-- spot_front : for a key without entry: front ≡ [], with_chain .. (e ∷ chain) ≡ chains_with spot (e ∷ [])
