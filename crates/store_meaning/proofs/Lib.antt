@@ -13,4 +13,5 @@ pub mod ReachFrames
 pub mod HeapEnd
 pub mod Reaching
 pub mod StoreKept
+pub mod TableSteps
 pub mod Halves
