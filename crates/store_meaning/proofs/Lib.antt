@@ -14,4 +14,6 @@ pub mod HeapEnd
 pub mod Reaching
 pub mod StoreKept
 pub mod TableSteps
+pub mod Cancelling
+pub mod HeapBeside
 pub mod Halves

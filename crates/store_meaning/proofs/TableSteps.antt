@@ -12,8 +12,8 @@ use Rattle.byteorder.specs.Endian.{big_number}
 use Rattle.vm_base.specs.FlatMemory.{FlatMemory, bytes_at}
 use Rattle.vm_base.specs.FlatLaws.{AreApart}
 use Rattle.store_meaning.specs.Layout.{header_at, array_a, heap_at, array_field, buckets_field, pairs_field, classes, store_areas, word_at}
-use Rattle.store_meaning.specs.HeapLayout.{Block, Heap, IsHeap, Links, blocks_of, block_bytes, free_of}
-use Rattle.store_meaning.specs.HashLayout.{Entry, Store, Pairs, Holds, IsDoubled, IsStore, hash_of, pair_size, entry_block, entry_pair, entries_of}
+use Rattle.store_meaning.specs.HeapLayout.{Heap, IsHeap, Links, free_of}
+use Rattle.store_meaning.specs.HashLayout.{Entry, Store, Pairs, Holds, IsStore, hash_of, pair_size, entry_block, entry_pair, entries_of}
 use Rattle.store_meaning.specs.Owned.{Range, word_range, entry_range, ArePairwiseApart}
 use Rattle.store_meaning.proofs.Lists.{all_mono, all_left, all_right, all_both, all_map, map_all, all_permuted}
 use Rattle.store_meaning.proofs.Chains.{Links-kept, Links-moved}
@@ -164,7 +164,8 @@ links_changed old new place [] middle other back kept leads same linked = led (l
 abbrev AreOff : Entry → Entry → Type 0
 AreOff one other = AreApart one.at (pair_size one.key one.value) other.at (pair_size other.key other.value)
 
-turned : {X Y : Type 0} (Q : X → Y → Type 0) (xs : List X) (ys : List Y) → AllByRecursion (λ x. AllByRecursion (Q x) ys) xs
+-- facts on pairs of two lists, by the elements of the other one
+pub turned : {X Y : Type 0} (Q : X → Y → Type 0) (xs : List X) (ys : List Y) → AllByRecursion (λ x. AllByRecursion (Q x) ys) xs
     → AllByRecursion (λ y. AllByRecursion (λ x. Q x y) xs) ys
 turned Q xs [] all = tt
 turned Q xs (y ∷ ys) all = (
@@ -378,9 +379,11 @@ changed old new array spot middle other gone heap of to aside is areas same asid
     above_front) in
     let low_same : (address n : ℕ) → header_at + 144 ≤ address → address + n ≤ heap_at → AreApart pairs_field 8 address n
     → AreApart link 8 address n → bytes_at new.present address n ≡ bytes_at old.present address n =
-    λ address n from to off away. same address n
-    (away, all_mono (IsAside rest) (λ (r : Range). AreApart r.at r.size address n) aside
-    (λ r one. aside_low rest address n r from to off one) asides) in
+    λ address n from to off away. same address n (
+      away,
+      all_mono (IsAside rest) (λ (r : Range). AreApart r.at r.size address n) aside
+          (λ r one. aside_low rest address n r from to off one) asides,
+    ) in
     let header_same : (address n : ℕ) → header_at + 144 ≤ address → address + n ≤ array_a → AreApart pairs_field 8 address n
     → bytes_at new.present address n ≡ bytes_at old.present address n =
     λ address n from to off. low_same address n from (omega (arith, to)) off (inr (omega (arith, to, link_up))) in
@@ -390,10 +393,12 @@ changed old new array spot middle other gone heap of to aside is areas same asid
     all_mono
     (λ (entry : Entry). AllByRecursion (λ (r : Range). AreApart r.at r.size entry.at (pair_size entry.key entry.value)) aside)
     (CanKeep old new link) rest
-    (λ entry offs address n from to away. same address n
-    (away, all_mono (λ (r : Range). AreApart r.at r.size entry.at (pair_size entry.key entry.value))
-    (λ (r : Range). AreApart r.at r.size address n) aside
-    (λ r off. within r.at r.size entry.at (pair_size entry.key entry.value) address n off from to) offs))
+    (λ entry offs address n from to away. same address n (
+      away,
+      all_mono (λ (r : Range). AreApart r.at r.size entry.at (pair_size entry.key entry.value))
+          (λ (r : Range). AreApart r.at r.size address n) aside
+          (λ r off. within r.at r.size entry.at (pair_size entry.key entry.value) address n off from to) offs,
+    ))
     (turned (λ (r : Range) (entry : Entry). AreApart r.at r.size entry.at (pair_size entry.key entry.value)) aside rest
     (all_mono (IsAside rest)
     (λ (r : Range). AllByRecursion (λ (entry : Entry). AreApart r.at r.size entry.at (pair_size entry.key entry.value)) rest)
@@ -444,11 +449,14 @@ changed old new array spot middle other gone heap of to aside is areas same asid
             ap (big_number 8) (header_same buckets_field 8 (omega arith) (omega arith) (inr (omega arith))) ∙ table.buckets ∙ sym count;
         pairs = pairs ∙ length_permutation (flat chains_then) (other ++ rest) (entries_at spot other);
         rest = header_same (header_at + 168) 3928 (omega arith) (omega arith) (inl (omega arith)) ∙ table.rest;
-        doubled = (table.doubled.0, record {
-          buckets = count ∙ table.doubled.1.buckets;
-          few = table.doubled.1.few;
-          region = table.doubled.1.region;
-        });
+        doubled = (
+          table.doubled.0,
+          record {
+            buckets = count ∙ table.doubled.1.buckets;
+            few = table.doubled.1.few;
+            region = table.doubled.1.region;
+          },
+        );
         linked = λ bucket under. elim (cases_eq bucket (length before)) [
           | inl here ↦ subst (λ b. Links new (array + 8 * b) (addresses (get_or chains_then b []))) (sym here)
               (subst (λ c. Links new place (addresses c)) (sym (chain_here before will behind)) linked_here)
