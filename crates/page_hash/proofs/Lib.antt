@@ -1,3 +1,4 @@
 pub mod StoreReads
 pub mod TableBegins
 pub mod MapEntries
+pub mod MapSteps
