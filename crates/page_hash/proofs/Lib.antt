@@ -2,3 +2,6 @@ pub mod StoreReads
 pub mod TableBegins
 pub mod MapEntries
 pub mod MapSteps
+pub mod ChainSteps
+pub mod FrontReads
+pub mod WalkLemmas

@@ -7,16 +7,18 @@ use Rattle.std.specs.FinMap.{get}
 use Rattle.std.proofs.lemmas.Bool.{cases_Bool, cond-true, cond-false}
 use Rattle.std.proofs.lemmas.Bool.Decides.{nat_tests}
 use Rattle.std.proofs.lemmas.List.Elements.{recursion_from_All}
-use Rattle.vm_base.specs.FlatMemory.{FlatMemory}
-use Rattle.store_meaning.specs.Layout.{classes, class_of, heap_at, pairs_field, word_at}
+use Rattle.vm_base.specs.FlatMemory.{FlatMemory, bytes_at}
+use Rattle.store_meaning.specs.Layout.{classes, class_of, heap_at, heap_end, pairs_field, word_at}
 use Rattle.store_meaning.specs.HeapLayout.{Block, Links, blocks_of}
 use Rattle.store_meaning.specs.HashLayout.{Entry, Holds, Store, Pairs, IsStore, pair_size, entry_block, chain_of, entries_of}
 use Rattle.store_meaning.specs.StoreSteps.{bucket_of, entry_in, entry_for}
 use Rattle.store_meaning.proofs.Lists.{all_left, all_map, all_permuted}
 use Rattle.store_meaning.proofs.Blocks.{LiesIn}
 use Rattle.store_meaning.proofs.HeapSteps.{blocks_within}
-use Rattle.page_hash.specs.HashCalls.{FoundFor}
-use Rattle.page_hash.specs.Walks.{IsBlockOf, IsChainFrom, HasChain, found_in}
+use Rattle.page_hash.specs.declared.chain.Located.{Located}
+use Rattle.page_hash.specs.Lookups.{FoundFor}
+use Rattle.page_hash.specs.Walks.{IsBlockOf, IsChainFrom, HasChain, bucket_at, located_in}
+use Rattle.page_hash.proofs.ChainSteps.{is_located, entry_in-located, entry_in-lost}
 use Rattle.page_hash.proofs.MapEntries.{chain_part, chain_few, entry_in-some, get_entry}
 
 le_from : (a b : ℕ) → nat_le a b ≡ true → a ≤ b
@@ -50,8 +52,8 @@ entries_lie memory store of is =
     both_hold (λ (entry : Entry). lies (entry_block entry)) (Holds memory) (λ (entry : Entry). IsBlockOf memory entry.at entry)
     (entries_of store.table)
     (λ entry lie holds.
-      let fits = class_holds (pair_size entry.key entry.value) 17 5 (omega (arith, holds.short_key, holds.short_value)) in
-      record { here = refl; holds = holds; above = lie.0; below = omega (arith, lie.1, fits, is.heap.within) })
+    let fits = class_holds (pair_size entry.key entry.value) 17 5 (omega (arith, holds.short_key, holds.short_value)) in
+    record { here = refl; holds = holds; above = lie.0; below = omega (arith, lie.1, fits, is.heap.within) })
     each (recursion_from_All (Holds memory) (entries_of store.table) is.table.held)
 
 -- a chain that a place links is one from the word at the place on
@@ -79,16 +81,38 @@ has_chain memory store of bucket is inside = record {
   few = omega (arith, chain_few store.table.chains bucket, is.table.pairs);
 }
 
--- what the search answers is what the map has
-pub found_for : (memory : FlatMemory) (store : Store) (of : Pairs) (key : List ℕ) → IsStore memory store of
-    → FoundFor memory (found_in (entry_for store key)) (get of key)
-found_for memory store of key is =
-    subst (FoundFor memory (found_in (entry_for store key))) (sym (get_entry memory store of key is)) (by (entry_for store key) refl)
-  where
-    by : (found : Option Entry) → entry_for store key ≡ found
-        → FoundFor memory (found_in found) (option_map (λ (entry : Entry). entry.value) found)
-    by None none = tt
-    by (Some entry) found =
-        let held = chain_part (Holds memory) store.table.chains (bucket_of store.table key)
-        (recursion_from_All (Holds memory) (entries_of store.table) is.table.held) in
-        (refl, (entry_in-some (Holds memory) key (chain_of store.table (bucket_of store.table key)) entry found held).0.value)
+-- what stands in the chain of a key's bucket, for the key that was located there
+pub record IsFoundBlock (memory : FlatMemory) (store : Store) (of : Pairs) (key : List ℕ) (located : Located) : Type 0 where
+  pub within : (heap_at ≤ located.at) × (located.at + 16 + length key + located.length ≤ heap_end)
+  pub found : FoundFor memory (Some (record { addr = located.at + 16 + length key; length = located.length })) (get of key)
+
+pub found_block : (memory : FlatMemory) (store : Store) (of : Pairs) (key : List ℕ) (located : Located) → IsStore memory store of
+    → located_in (bucket_at store.table key) (chain_of store.table (bucket_of store.table key)) key ≡ Some located
+    → IsFoundBlock memory store of key located
+found_block memory store of key located is found =
+    let chain = chain_of store.table (bucket_of store.table key) in
+    let told = is_located (bucket_at store.table key) chain key located found in
+    let here : entry_for store key ≡ Some told.entry = entry_in-located (bucket_at store.table key) chain key located told in
+    let lies = (entry_in-some (λ (entry : Entry). IsBlockOf memory entry.at entry) key chain told.entry here
+    (chain_part (λ (entry : Entry). IsBlockOf memory entry.at entry) store.table.chains (bucket_of store.table key)
+    (entries_lie memory store of is))).0 in
+    let value : get of key ≡ Some told.entry.value =
+    get_entry memory store of key is ∙ ap (option_map (λ (entry : Entry). entry.value)) here in
+    let at : located.at ≡ told.entry.at = ap (λ (l : Located). l.at) told.is in
+    let size : located.length ≡ length told.entry.value = ap (λ (l : Located). l.length) told.is in
+    let long : length key ≡ length told.entry.key = ap length (sym told.has) in record {
+      within = (omega (arith, at, lies.above), omega (arith, at, size, long, lies.below));
+      found = subst (FoundFor memory (Some (record { addr = located.at + 16 + length key; length = located.length }))) (sym value) (
+        size,
+        ap (λ a. bytes_at memory.present a located.length) (ap (λ a. a + 16 + length key) at ∙ ap (λ n. told.entry.at + 16 + n) long)
+            ∙ ap (bytes_at memory.present (told.entry.at + 16 + length told.entry.key)) size ∙ lies.holds.value,
+      );
+    }
+
+-- where none was located the map has none
+pub found_none : (memory : FlatMemory) (store : Store) (of : Pairs) (key : List ℕ) → IsStore memory store of
+    → located_in (bucket_at store.table key) (chain_of store.table (bucket_of store.table key)) key ≡ None → get of key ≡ None
+found_none memory store of key is none =
+    get_entry memory store of key is
+    ∙ ap (option_map (λ (entry : Entry). entry.value))
+    (entry_in-lost (bucket_at store.table key) (chain_of store.table (bucket_of store.table key)) key none)

@@ -19,16 +19,3 @@ pub record BeginsStore (old new : MemoryState) : Type 0 where
   pub may : MayHoldStore new
   pub store : IsStore new.mem opening_store empty
   pub stands : Stands new empty old.most []
-
--- the answer of a search: where the value of the key stands and how long it is, or that there is none
-abbrev pub FoundFor : FlatMemory → Option Found → Option (List ℕ) → Type 0
-FoundFor memory None None = ⊤
-FoundFor memory None (Some value) = ⊥
-FoundFor memory (Some found) None = ⊥
-FoundFor memory (Some found) (Some value) =
-    (found.length ≡ length value) × (bytes_at memory.present found.addr found.length ≡ value)
-
--- a buffer with as much of the value in front as fits
-abbrev pub filled_by : List ℕ → Option (List ℕ) → List ℕ
-filled_by buffer None = buffer
-filled_by buffer (Some value) = take (length buffer) value ++ drop (length value) buffer

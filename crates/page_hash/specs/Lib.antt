@@ -1,1 +1,3 @@
 pub mod HashCalls
+pub mod Lookups
+pub mod Walks

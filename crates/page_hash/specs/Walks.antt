@@ -1,10 +1,13 @@
--- What a search sees on its way along a chain.
-use Rattle.std.specs.Prelude.{◌≡◌, ℕ, ◌+◌, ◌≤◌, ◌<◌, if◌then◌else◌, List, [], ◌∷◌, length, Option, Some, None}
+-- What a search sees on its way along a chain, and what it answers.
+use Rattle.std.specs.Prelude.{◌≡◌, ℕ, ◌+◌, ◌*◌, ◌≤◌, ◌<◌, min, if◌then◌else◌, List, [], ◌∷◌, length, take, Option, Some, None}
 use Rattle.std.specs.Str.{bytes_eq}
-use Rattle.vm_base.specs.FlatMemory.{FlatMemory}
+use Rattle.vm_base.specs.FlatMemory.{FlatMemory, bytes_at}
 use Rattle.store_meaning.specs.Layout.{heap_at, heap_end, word_at}
-use Rattle.store_meaning.specs.HashLayout.{Entry, Holds, pair_size}
-use Rattle.page_hash.specs.declared.found.Found.{Found}
+use Rattle.store_meaning.specs.HashLayout.{Entry, Store, Table, Holds, pair_size, chain_of, entries_of}
+use Rattle.store_meaning.specs.StoreSteps.{bucket_of}
+use Rattle.page_hash.specs.declared.chain.Located.{Located}
+use Rattle.page_hash.specs.declared.search.Search.{Search}
+use Rattle.page_hash.specs.declared.table_head.TableHead.{TableHead}
 
 -- the block at the address is that of the entry, and lies in the heap
 pub record IsBlockOf (memory : FlatMemory) (at : ℕ) (entry : Entry) : Type 0 where
@@ -25,12 +28,43 @@ pub record HasChain (memory : FlatMemory) (at most : ℕ) : Type 0 where
   pub is : IsChainFrom memory at chain
   pub few : length chain ≤ most
 
+-- how much of a block is read for a key of this length: its head and what fits of the key
+abbrev pub front_of : ℕ → ℕ
+front_of key_length = min (16 + key_length) 272
+
+-- the buffer has the front of a block, as much as is read for a key of this length
+pub record IsFrontOf (memory : FlatMemory) (at key_length : ℕ) (front : List ℕ) : Type 0 where
+  pub room : length front ≡ 272
+  pub bytes : take (front_of key_length) front ≡ bytes_at memory.present at (front_of key_length)
+
 -- the length of the value that a block has for the key
 abbrev pub value_seen : Entry → List ℕ → Option ℕ
 value_seen entry key = if bytes_eq entry.key key then Some (length entry.value) else None
 
--- where the value of an entry stands
-abbrev pub found_in : Option Entry → Option Found
-found_in None = None
-found_in (Some entry) =
-    Some (record { addr = entry.at + 16 + length entry.key; length = length entry.value })
+-- the block of a key in a chain that is linked from the address: the address of the word that names
+-- it, its own, and the length of its value
+abbrev pub located_in : ℕ → List Entry → List ℕ → Option Located
+located_in link [] key = None
+located_in link (entry ∷ entries) key =
+    if bytes_eq entry.key key
+    then Some (record { link = link; at = entry.at; length = length entry.value })
+    else located_in entry.at entries key
+
+-- the bucket of a key in the memory
+abbrev pub bucket_at : Table → List ℕ → ℕ
+bucket_at table key = table.array + 8 * bucket_of table key
+
+-- what the header says of a table
+pub record IsHead (table : Table) (head : TableHead) : Type 0 where
+  pub array : head.array ≡ table.array
+  pub buckets : head.buckets ≡ length table.chains
+  pub pairs : head.pairs ≡ length (entries_of table)
+
+-- what a search for a key answers
+pub record IsSearch (memory : FlatMemory) (store : Store) (key : List ℕ)
+    (search : Search) : Type 0 where
+  pub head : IsHead store.table search.head
+  pub bucket : search.bucket ≡ bucket_at store.table key
+  pub first : search.first ≡ word_at memory search.bucket
+  pub located : search.located
+      ≡ located_in search.bucket (chain_of store.table (bucket_of store.table key)) key

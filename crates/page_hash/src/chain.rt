@@ -1,50 +1,62 @@
 //! The chain of a bucket, block by block.
-ghost use Rattle.std.specs.Prelude.{◌≡◌, ◌×◌, ◌+◌, ◌≤◌, ◌^◌, length, Contains};
+ghost use Rattle.std.specs.Prelude.{◌≡◌, ◌+◌, ◌≤◌, min, List, length, Contains};
 ghost use Rattle.std.specs.Str.{bytes_eq};
 ghost use Rattle.vm_base.specs.FlatMemory.{bytes_at};
 ghost use Rattle.store_meaning.specs.Layout.{heap_area, heap_at, heap_end, word_at};
 ghost use Rattle.store_meaning.specs.HashLayout.{Entry};
 ghost use Rattle.store_meaning.specs.StoreSteps.{entry_in};
-ghost use Rattle.page_hash.specs.Walks.{IsBlockOf, IsChainFrom, HasChain, value_seen, found_in};
+ghost use Rattle.page_hash.specs.Walks.{IsBlockOf, IsChainFrom, IsFrontOf, HasChain, value_seen, located_in};
 
-use crate::found::Found;
+use crate::layout::{HEAD, HEAP_END};
 use crate::words::read_area;
 use byteorder::{BigEndian, ByteOrder};
 use vm_base::Memory;
-
-// The bytes of a block's next address and its two lengths. The key stands behind them.
-const HEAD: usize = 16;
 
 // So much of a block is read at once at most: its head, and 256 bytes of its key.
 const FRONT: usize = 272;
 
 // What a block says: the next one's address, and the value's length where it has the key.
+#[derive(Clone, Copy, Debug)]
 pub struct Seen {
     pub next: u64,
     pub value: Option<u32>,
 }
 
-// Looks for a key along a chain. There are no more blocks in it than pairs, and so it ends.
-pub fn walk<M: Memory>(m: &mut M, first: u64, pairs: u64, key: &[u8]) -> Option<Found>
+/// The block of a key: the address of the word that names it, its own, and its value's length.
+#[derive(Clone, Copy, Debug)]
+pub struct Located {
+    pub link: u64,
+    pub at: u64,
+    pub length: u32,
+}
+
+// Looks for a key along a chain, whose first block a bucket names. There are no more blocks in it
+// than pairs, and so it ends.
+pub fn walk<M: Memory>(
+    m: &mut M,
+    bucket: u64,
+    first: u64,
+    pairs: u64,
+    key: &[u8],
+) -> Option<Located>
     requires heap { Contains (M.state m.old).mem.areas heap_area }
     requires chain { HasChain (M.state m.old).mem first pairs }
     requires key { length key.now ≤ 65536 }
-    ensures found { (chain : List Entry) → IsChainFrom (M.state m.old).mem first chain
-        → result ≡ found_in (entry_in chain key.now) }
+    ensures located { (chain : List Entry) → IsChainFrom (M.state m.old).mem first chain
+        → result ≡ located_in bucket chain key.now }
     ensures same { M.state m.new ≡ M.state m.old }
     ensures aside { M.aside m.new ≡ M.aside m.old }
     ensures went { M.went m.old m.new }
 {
+    let mut link = bucket;
     let mut at = first;
     let mut left = pairs;
     while at != 0 {
         let seen = look_at(m, at, key);
         if let Some(length) = seen.value {
-            return Some(Found {
-                addr: at + HEAD as u64 + key.len() as u64,
-                length,
-            });
+            return Some(Located { link, at, length });
         }
+        link = at;
         at = seen.next;
         left -= 1;
     }
@@ -92,16 +104,31 @@ fn front_size(at: u64, key_length: usize) -> usize
 
 // Whether a block has the key, whose length it has: the front first, and what lies behind it then.
 fn has_key<M: Memory>(m: &mut M, at: u64, front: &[u8], key: &[u8]) -> bool
+    requires heap { Contains (M.state m.old).mem.areas heap_area }
+    requires within { (heap_at ≤ at) × (at + 16 + length key.now ≤ heap_end) }
+    requires front { IsFrontOf (M.state m.old).mem at (length key.now) front.now }
+    ensures has { result
+        ≡ bytes_eq (bytes_at (M.state m.old).mem.present (at + 16) (length key.now)) key.now }
+    ensures same { M.state m.new ≡ M.state m.old }
+    ensures aside { M.aside m.new ≡ M.aside m.old }
+    ensures went { M.went m.old m.new }
 {
-    let (first, rest) = key.split_at(key.len().min(FRONT - HEAD));
-    front[HEAD..HEAD + first.len()] == *first && has_bytes(m, at + FRONT as u64, rest)
+    let first = key.len().min(FRONT - HEAD);
+    if front[HEAD..HEAD + first] != key[..first] {
+        return false;
+    }
+    has_bytes(m, at + (HEAD + first) as u64, &key[first..])
 }
 
 // Whether a range has these bytes, piece by piece.
 fn has_bytes<M: Memory>(m: &mut M, addr: u64, bytes: &[u8]) -> bool
     requires heap { Contains (M.state m.old).mem.areas heap_area }
     requires within { (heap_at ≤ addr) × (addr + length bytes.now ≤ heap_end) }
-    ensures has { result ≡ bytes_eq (bytes_at (M.state m.old).mem.present addr (length bytes.now)) bytes.now }
+    ensures has { result
+        ≡ bytes_eq (bytes_at (M.state m.old).mem.present addr (length bytes.now)) bytes.now }
+    ensures same { M.state m.new ≡ M.state m.old }
+    ensures aside { M.aside m.new ≡ M.aside m.old }
+    ensures went { M.went m.old m.new }
 {
     let mut piece = [0; FRONT];
     let mut done = 0;

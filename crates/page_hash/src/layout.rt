@@ -17,3 +17,9 @@ pub const BUCKETS_FIELD: u64 = 2_097_304;
 
 /// The header's field with the number of pairs.
 pub const PAIRS_FIELD: u64 = 2_097_312;
+
+/// The end of the heap's area.
+pub const HEAP_END: u64 = 9_128_902_656;
+
+/// The bytes of a block's next address and its two lengths. The key stands behind them.
+pub const HEAD: usize = 16;

@@ -1,12 +1,16 @@
 //! A hash table in the pages of any memory.
 #![tactic(auto)]
 
+mod chain;
 mod found;
+mod key_hash;
 mod layout;
 mod lookups;
 mod opening;
+mod search;
+mod table_head;
 mod words;
 
 pub use found::Found;
-pub use lookups::{len, value};
+pub use lookups::{find, get, len, value};
 pub use opening::begin;

@@ -9,6 +9,7 @@ use byteorder::{BigEndian, ByteOrder};
 use vm_base::Memory;
 
 /// Where the array lies, how many buckets it has, and how many pairs there are.
+#[derive(Clone, Copy, Debug)]
 pub struct TableHead {
     pub array: u64,
     pub buckets: u64,
