@@ -1,5 +1,5 @@
 -- Which ranges of a memory lie beside a heap and beside a table's entries, so that a store to them leaves the rest.
-use Rattle.std.proofs.Common.{◌≡◌, ℕ, ◌+◌, ◌^◌, ◌≤◌, ◌⊎◌, Bool, true, eqb, ◌&&◌, List, [], ◌∷◌, ◌++◌, map, refl, sym, ◌∙◌, ap, ap₂, subst, arith, inl, inr, IsPermutation, Contains, Decides}
+use Rattle.std.proofs.Common.{◌≡◌, ℕ, ◌+◌, ◌^◌, ◌≤◌, ◌⊎◌, ◌*◌, length, length-append, Bool, true, eqb, ◌&&◌, List, [], ◌∷◌, ◌++◌, map, refl, sym, ◌∙◌, ap, ap₂, subst, arith, inl, inr, IsPermutation, Contains, Decides}
 use Rattle.std.specs.List.{AllByRecursion, flat_map}
 use Rattle.std.proofs.lemmas.Bool.{cases_eq, eq-eqb, ne_eqb, and_parts, false≢true}
 use Rattle.std.proofs.lemmas.List.Elements.{recursion_from_All}
@@ -17,10 +17,10 @@ use Rattle.store_meaning.proofs.Apart.{IsApartFrom}
 use Rattle.store_meaning.proofs.HeapUse.{others_apart}
 use Rattle.store_meaning.proofs.HeapSteps.{KeepsPages, blocks_within, free_within, class_bytes, heap_kept}
 use Rattle.store_meaning.proofs.GivingBack.{used_front, all_front}
-use Rattle.store_meaning.proofs.OwnedApart.{blocks_apart, block_range, class_of-holds}
+use Rattle.store_meaning.proofs.OwnedApart.{array_between, blocks_apart, block_range, class_of-holds}
 use Rattle.store_meaning.proofs.StoreKept.{both_hold}
 use Rattle.store_meaning.proofs.Cancelling.{cancelled}
-use Rattle.store_meaning.proofs.TableSteps.{Spot, chains_with, others, entries_at, AreSameBeside, IsAside, turned, entries_above, blocks_by}
+use Rattle.store_meaning.proofs.TableSteps.{Spot, chains_with, others, link_of, link_at, link_among, entries_at, AreSameBeside, IsAside, turned, entries_above, blocks_by}
 
 -- ---- beside a heap
 
@@ -165,7 +165,7 @@ blocks_crossed (block ∷ front) back apart = (
 )
 
 -- the next block of a class lies apart from the blocks of all entries
-next_off : (memory : FlatMemory) (store : Store) (of : Pairs) (rest : List Entry) (class : ℕ) (free : List ℕ) → IsStore memory store of
+pub next_off : (memory : FlatMemory) (store : Store) (of : Pairs) (rest : List Entry) (class : ℕ) (free : List ℕ) → IsStore memory store of
     → IsPermutation (entries_of store.table) rest → Contains classes class → store.heap.free class ≡ free
     → (heap_at ≤ first_or_top free store.heap.top)
     × AllByRecursion (λ (entry : Entry). AreApart (first_or_top free store.heap.top) (2 ^ class) entry.at (block_bytes (entry_block entry)))
@@ -212,6 +212,53 @@ aside_of_next memory store of spot middle class range is chains in_classes from 
     (all_right (Holds memory) middle rest (held_in_order memory store of spot middle is chains))
     (all_right (λ (entry : Entry). AreApart (next_at store.heap class) (2 ^ class) entry.at (block_bytes (entry_block entry))) middle rest
     off.1)
+
+-- a link lies apart from what is aside of the entries in front of it, in the heap
+link_aside : (place at size : ℕ) (front rest : List Entry) → place + 8 ≤ heap_at → heap_at ≤ at
+    → IsAside (front ++ rest) (record { at = at; size = size }) → AreApart (link_of place front) 8 at size
+link_aside place at size front rest low up (inl head) = absurd (omega (arith, head, up))
+link_aside place at size front rest low up (inr (inl same)) = absurd (omega (arith, ap (λ (r : Range). r.at) same, up))
+link_aside place at size front rest low up (inr (inr heap)) =
+    link_among (λ a. AreApart a 8 at size) place front (inl (omega (arith, low, up)))
+    (all_mono (λ (entry : Entry). AreApart at size entry.at (pair_size entry.key entry.value))
+    (λ (entry : Entry). AreApart entry.at 8 at size) front
+    (λ entry off. word_front at size entry.at (pair_size entry.key entry.value) off (omega arith))
+    (all_left (λ (entry : Entry). AreApart at size entry.at (pair_size entry.key entry.value)) front rest heap.1))
+  where
+    word_front : (from many other few : ℕ) → AreApart from many other few → 8 ≤ few → AreApart other 8 from many
+    word_front from many other few (inl below) some = inr below
+    word_front from many other few (inr above) some = inl (omega (arith, above, some))
+
+-- the bucket of a place lies in front of the heap
+pub place_low : (memory : FlatMemory) (store : Store) (of : Pairs) (spot : Spot) (middle : List Entry) → IsStore memory store of
+    → store.table.chains ≡ chains_with spot middle → store.table.array + 8 * length spot.before + 8 ≤ heap_at
+place_low memory store of spot middle is chains =
+    let ends = array_between store.table is.table.doubled.0 is.table.doubled.1 in
+    let many = ap (λ (c : List (List Entry)). length c) chains
+    ∙ length-append spot.before ((spot.front ++ (middle ++ spot.back)) ∷ spot.behind) in
+    omega (arith, ends.1, many)
+
+-- the link lies apart from the block of the entry at its place
+pub link_off_middle : (memory : FlatMemory) (store : Store) (of : Pairs) (spot : Spot) (entry : Entry) → IsStore memory store of
+    → store.table.chains ≡ chains_with spot (entry ∷ [])
+    → AreApart (link_at store.table.array spot) 8 entry.at (block_bytes (entry_block entry))
+link_off_middle memory store of spot entry is chains =
+    link_aside (store.table.array + 8 * length spot.before) entry.at (block_bytes (entry_block entry)) spot.front _
+    (place_low memory store of spot (entry ∷ []) is chains)
+    (entries_above memory store of (entry ∷ others spot) is (in_order store spot (entry ∷ []) chains)).0
+    (aside_of_middle memory store of spot entry (record { at = entry.at; size = block_bytes (entry_block entry) }) is chains
+    (omega arith) (omega arith))
+
+-- and from the next block of a class
+pub link_off_next : (memory : FlatMemory) (store : Store) (of : Pairs) (spot : Spot) (middle : List Entry) (class : ℕ)
+    → IsStore memory store of → store.table.chains ≡ chains_with spot middle → Contains classes class
+    → AreApart (link_at store.table.array spot) 8 (next_at store.heap class) (2 ^ class)
+link_off_next memory store of spot middle class is chains in_classes =
+    link_aside (store.table.array + 8 * length spot.before) (next_at store.heap class) (2 ^ class) spot.front _
+    (place_low memory store of spot middle is chains)
+    (next_off memory store of (middle ++ others spot) class (store.heap.free class) is (in_order store spot middle chains) in_classes refl).0
+    (aside_of_next memory store of spot middle class (record { at = next_at store.heap class; size = 2 ^ class }) is chains in_classes
+    (omega arith) (omega arith))
 
 -- ---- blocks in use
 

@@ -125,7 +125,7 @@ as_many before one two behind = length-append before (one ∷ behind) ∙ sym (l
 -- ---- the links
 
 -- what holds of a place and of each block in front holds of the link
-link_among : (P : ℕ → Type 0) (place : ℕ) (front : List Entry) → P place → AllByRecursion (λ (entry : Entry). P entry.at) front
+pub link_among : (P : ℕ → Type 0) (place : ℕ) (front : List Entry) → P place → AllByRecursion (λ (entry : Entry). P entry.at) front
     → P (link_of place front)
 link_among P place [] here all = here
 link_among P place (entry ∷ front) here all = link_among P entry.at front all.0 all.1
