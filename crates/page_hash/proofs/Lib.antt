@@ -4,3 +4,4 @@ pub mod MapEntries
 pub mod ChainSteps
 pub mod FrontReads
 pub mod WalkLemmas
+pub mod Touched

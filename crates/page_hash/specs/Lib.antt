@@ -1,3 +1,4 @@
 pub mod HashCalls
 pub mod Lookups
 pub mod Walks
+pub mod Touching

@@ -9,6 +9,7 @@ mod lookups;
 mod opening;
 mod search;
 mod table_head;
+mod touching;
 mod words;
 
 pub use found::Found;
