@@ -5,3 +5,4 @@ pub mod ChainSteps
 pub mod FrontReads
 pub mod WalkLemmas
 pub mod Touched
+pub mod StoredPairs

@@ -7,6 +7,8 @@ mod key_hash;
 mod layout;
 mod lookups;
 mod opening;
+mod pair_stores;
+mod put;
 mod search;
 mod table_head;
 mod touching;
