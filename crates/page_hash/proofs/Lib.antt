@@ -6,3 +6,5 @@ pub mod StoreChanges
 pub mod ChainSteps
 pub mod FrontReads
 pub mod WalkLemmas
+pub mod Touched
+pub mod StoredPairs

@@ -1,3 +1,6 @@
 pub mod HashCalls
 pub mod Lookups
 pub mod Walks
+pub mod Touching
+pub mod PairStores
+pub mod Puts

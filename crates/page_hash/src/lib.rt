@@ -7,8 +7,11 @@ mod key_hash;
 mod layout;
 mod lookups;
 mod opening;
+mod pair_stores;
+mod put;
 mod search;
 mod table_head;
+mod touching;
 mod words;
 
 pub use found::Found;
