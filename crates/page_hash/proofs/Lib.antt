@@ -8,3 +8,8 @@ pub mod FrontReads
 pub mod WalkLemmas
 pub mod Touched
 pub mod StoredPairs
+pub mod AreaSteps
+pub mod PresentTouch
+pub mod Cleared
+pub mod HeadReads
+pub mod BlockLinks
