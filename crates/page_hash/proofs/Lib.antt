@@ -13,3 +13,5 @@ pub mod PresentTouch
 pub mod Cleared
 pub mod HeadReads
 pub mod BlockLinks
+pub mod StoreRanges
+pub mod Unlinking

@@ -6,3 +6,4 @@ pub mod PairStores
 pub mod Puts
 pub mod Clears
 pub mod Relinking
+pub mod Removing
