@@ -4,7 +4,11 @@ pub mod MapEntries
 pub mod MapSteps
 pub mod StoreChanges
 pub mod ChainSteps
+pub mod Filled
 pub mod FrontReads
+pub mod Fronts
+pub mod FrozenReads
+pub mod Pieces
 pub mod WalkLemmas
 pub mod Touched
 pub mod StoredPairs
@@ -15,3 +19,4 @@ pub mod HeadReads
 pub mod BlockLinks
 pub mod StoreRanges
 pub mod Unlinking
+pub mod Searching

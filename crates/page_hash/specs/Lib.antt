@@ -1,4 +1,5 @@
 pub mod HashCalls
+pub mod Listing
 pub mod Lookups
 pub mod Walks
 pub mod Touching

@@ -5,6 +5,7 @@ mod block_head;
 mod chain;
 mod clearing;
 mod found;
+mod frozen_reads;
 mod key_hash;
 mod layout;
 mod lookups;
@@ -20,6 +21,7 @@ mod words;
 
 pub use clearing::clear;
 pub use found::Found;
+pub use found::{Found, PairsFault};
 pub use lookups::{find, get, len, value};
 pub use opening::begin;
 pub use removing::remove;
