@@ -30,7 +30,7 @@ within_areas memory address n is =
 -- so only a lost cell stands against a read of it
 pub frozen_answer : (snap : SnapshotState) (address n : ℕ) → IsOfArea snap.mem address n
     → snapshot_answer snap address n
-      ≡ unless_fault Lost (first_found snap.found (cells_of_range address n)) (Ok (bytes_at snap.mem.present address n))
+    ≡ unless_fault Lost (first_found snap.found (cells_of_range address n)) (Ok (bytes_at snap.mem.present address n))
 frozen_answer snap address n is =
     ap (λ found. unless_fault NoArea found
     (unless_fault Lost (first_found snap.found (cells_of_range address n)) (Ok (bytes_at snap.mem.present address n))))

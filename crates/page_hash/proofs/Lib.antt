@@ -20,3 +20,4 @@ pub mod BlockLinks
 pub mod StoreRanges
 pub mod Unlinking
 pub mod Searching
+pub mod Removals

@@ -1,5 +1,5 @@
 //! Taking a pair out.
-ghost use Rattle.std.specs.Prelude.{◌≡◌, ℕ, ◌≤◌, [], length};
+ghost use Rattle.std.specs.Prelude.{◌≡◌, ℕ, ◌^◌, ◌<◌, ◌≤◌, [], length};
 ghost use Rattle.std.specs.FinMap.{contains_key};
 ghost use Rattle.vm_base.specs.MemoryState.{IsKept};
 ghost use Rattle.store_meaning.specs.Layout.{store_cells, pairs_field, word_at};
@@ -32,13 +32,15 @@ pub fn remove<M: Memory>(m: &mut M, key: &[u8]) -> bool
     ensures went { M.went m.old m.new }
 {
     let search = locate(m, key);
-    let Some(block) = search.located else {
-        return false;
-    };
-    let class = class_for((HEAD + key.len()) as u32 + block.length);
-    touch_named(m, &block);
-    unlink(m, &block, class, search.head.pairs);
-    true
+    match search.located {
+        None => false,
+        Some(block) => {
+            let class = class_for((HEAD + key.len()) as u32 + block.length);
+            touch_named(m, &block);
+            unlink(m, &block, class, search.head.pairs);
+            true
+        }
+    }
 }
 
 // Touches the word that names a block, the block's first word, and the header. All are present.
@@ -64,6 +66,7 @@ fn unlink<M: Memory>(m: &mut M, block: &Located, class: u8, pairs: u64)
     requires ready { MayUnlink (M.state m.old) block.now }
     requires pairs { pairs ≡ word_at (M.state m.old).mem pairs_field }
     ensures stored { M.state m.new ≡ unlinked (M.state m.old) block.now class pairs }
+    ensures counted { pairs < 2 ^ 64 }
     ensures keeps { IsKept (M.state m.old) (M.state m.new) [] }
     ensures aside { M.aside m.new ≡ M.aside m.old }
     ensures went { M.went m.old m.new }
