@@ -3,6 +3,8 @@ pub mod TableBegins
 pub mod MapEntries
 pub mod BlockReads
 pub mod CellRanges
+pub mod MapSteps
+pub mod StoreChanges
 pub mod ChainSteps
 pub mod Filled
 pub mod FrontReads
@@ -10,6 +12,15 @@ pub mod Fronts
 pub mod FrozenReads
 pub mod Pieces
 pub mod WalkLemmas
+pub mod Touched
+pub mod StoredPairs
+pub mod AreaSteps
+pub mod PresentTouch
+pub mod Cleared
+pub mod HeadReads
+pub mod BlockLinks
+pub mod StoreRanges
+pub mod Unlinking
 pub mod Searching
 pub mod SnapshotsKept
 pub mod AreaSteps
@@ -30,3 +41,4 @@ pub mod OldTable
 pub mod DoubledStore
 pub mod DoublingReach
 pub mod DoublingDone
+pub mod Removals

@@ -27,15 +27,15 @@ not_true : (b : Bool) → (b ≡ true → ⊥) → b ≡ false
 not_true true never = absurd (never refl)
 not_true false never = refl
 
-true_from : (b : Bool) → T b → b ≡ true
+pub true_from : (b : Bool) → T b → b ≡ true
 true_from true holds = refl
 true_from false holds = absurd holds
 
 -- keys tie where they are the same
-same_key : (one two : List ℕ) → one ≡ two → eq_by_cmp key_cmp one two ≡ true
+pub same_key : (one two : List ℕ) → one ≡ two → eq_by_cmp key_cmp one two ≡ true
 same_key one two same = sym (texts_ties one two) ∙ (bytes_eq-Decides one two).1 same
 
-other_key : (one two : List ℕ) → (one ≡ two → ⊥) → eq_by_cmp key_cmp one two ≡ false
+pub other_key : (one two : List ℕ) → (one ≡ two → ⊥) → eq_by_cmp key_cmp one two ≡ false
 other_key one two apart =
     sym (texts_ties one two) ∙ not_true (bytes_eq one two) (λ is. apart ((bytes_eq-Decides one two).0 is))
 
@@ -57,7 +57,7 @@ found_behind e es (p ∷ ps) below all =
     )
 
 -- among entries in order each one is found by its key
-found_all : (es : List (List ℕ × List ℕ)) → is_sorted key_cmp es ≡ true → AllByRecursion (λ p. find key_cmp p.0 es ≡ Some p.1) es
+pub found_all : (es : List (List ℕ × List ℕ)) → is_sorted key_cmp es ≡ true → AllByRecursion (λ p. find key_cmp p.0 es ≡ Some p.1) es
 found_all [] sorted = tt
 found_all (e ∷ es) sorted =
     let parts = and_parts (below_all key_cmp e.0 es) (is_sorted key_cmp es) sorted in (

@@ -7,3 +7,9 @@ pub mod Clears
 pub mod Relinking
 pub mod ArrayRelinking
 pub mod Doubling
+pub mod Touching
+pub mod PairStores
+pub mod Puts
+pub mod Clears
+pub mod Relinking
+pub mod Removing

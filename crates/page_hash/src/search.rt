@@ -1,5 +1,6 @@
 //! The search for a key, from the header on.
 ghost use Rattle.std.specs.Prelude.{◌≡◌, ◌≤◌, length};
+ghost use Rattle.vm_base.specs.MemoryState.{IsMemory};
 ghost use Rattle.store_meaning.specs.HashLayout.{Pairs, Store, IsStore};
 ghost use Rattle.store_meaning.specs.Standing.{IsStanding};
 ghost use Rattle.page_hash.specs.Walks.{IsSearch};
@@ -25,6 +26,7 @@ pub fn locate<M: Memory>(m: &mut M, key: &[u8]) -> Search
     requires key { length key.now ≤ 65536 }
     ensures search { (store : Store) (pairs : Pairs) → IsStore (M.state m.old).mem store pairs
         → IsSearch (M.state m.old).mem store key.now result }
+    ensures sound { IsMemory (M.state m.old) }
     ensures same { M.state m.new ≡ M.state m.old }
     ensures aside { M.aside m.new ≡ M.aside m.old }
     ensures went { M.went m.old m.new }

@@ -1,5 +1,6 @@
 //! The header's three fields of a table.
 ghost use Rattle.std.specs.Prelude.{◌≡◌};
+ghost use Rattle.vm_base.specs.MemoryState.{IsMemory};
 ghost use Rattle.store_meaning.specs.Layout.{array_field, buckets_field, pairs_field, word_at};
 ghost use Rattle.store_meaning.specs.Standing.{IsStanding};
 
@@ -22,6 +23,7 @@ pub fn table_head<M: Memory>(m: &mut M) -> TableHead
     ensures array { result.array ≡ word_at (M.state m.old).mem array_field }
     ensures buckets { result.buckets ≡ word_at (M.state m.old).mem buckets_field }
     ensures pairs { result.pairs ≡ word_at (M.state m.old).mem pairs_field }
+    ensures sound { IsMemory (M.state m.old) }
     ensures same { M.state m.new ≡ M.state m.old }
     ensures aside { M.aside m.new ≡ M.aside m.old }
     ensures went { M.went m.old m.new }

@@ -15,7 +15,7 @@ use Rattle.store_meaning.proofs.HeapUse.{without_block-front, others_apart, bloc
 use Rattle.store_meaning.proofs.HeapSteps.{KeepsPages, blocks_within, free_within, class_bytes, halves_kept, storing_keeps, storing_full, heads_apart, first_small}
 
 -- the blocks in use with one of them in front
-used_front : (memory : FlatMemory) (heap : Heap) (block : Block) → IsHeap memory heap → Contains heap.used block
+pub used_front : (memory : FlatMemory) (heap : Heap) (block : Block) → IsHeap memory heap → Contains heap.used block
     → IsPermutation heap.used (block ∷ without_block block.at heap.used)
 used_front memory heap block is used =
     let once = Fill-once block.at heap_at heap.top is.order is.fill in
@@ -24,7 +24,7 @@ used_front memory heap block is used =
     without_block-front heap.used block used (omega (arith, once, all, parts))
 
 -- all blocks, that one in front
-all_front : (memory : FlatMemory) (heap : Heap) (block : Block) (is : IsHeap memory heap) → Contains heap.used block
+pub all_front : (memory : FlatMemory) (heap : Heap) (block : Block) (is : IsHeap memory heap) → Contains heap.used block
     → IsPermutation is.order (block ∷ (without_block block.at heap.used ++ flat_map (free_of heap) classes))
 all_front memory heap block is used =
     IsPermutation-trans _ _ _ is.same

@@ -13,4 +13,7 @@ pub mod ReachFrames
 pub mod HeapEnd
 pub mod Reaching
 pub mod StoreKept
+pub mod TableSteps
+pub mod Cancelling
+pub mod HeapBeside
 pub mod Halves

@@ -55,13 +55,14 @@ entry_held old new entry same holds =
       short_value = holds.short_value;
     }
 
-both_hold : {X : Type 0} (P Q R : X → Type 0) (xs : List X) → ((x : X) → P x → Q x → R x) → AllByRecursion P xs → AllByRecursion Q xs
+-- what follows of each element from two facts on it
+pub both_hold : {X : Type 0} (P Q R : X → Type 0) (xs : List X) → ((x : X) → P x → Q x → R x) → AllByRecursion P xs → AllByRecursion Q xs
     → AllByRecursion R xs
 both_hold P Q R [] more ps qs = tt
 both_hold P Q R (x ∷ xs) more ps qs = (more x ps.0 qs.0, both_hold P Q R xs more ps.1 qs.1)
 
 -- the entries of one chain
-chain_among : (P : Entry → Type 0) (chains : List (List Entry)) (bucket : ℕ) → AllByRecursion P (flat_map (λ chain. chain) chains)
+pub chain_among : (P : Entry → Type 0) (chains : List (List Entry)) (bucket : ℕ) → AllByRecursion P (flat_map (λ chain. chain) chains)
     → AllByRecursion P (get_or chains bucket [])
 chain_among P [] bucket all = tt
 chain_among P (chain ∷ chains) zero all = all_left P chain (flat_map (λ c. c) chains) all

@@ -1,0 +1,86 @@
+-- What a put needs, answers and leaves.
+use Rattle.std.specs.Prelude.{◌≡◌, ◌⊎◌, ℕ, ◌+◌, ◌*◌, ◌≤◌, ◌<◌, IsSome, IsNone, IsTrue, ◌↔◌, ◌==◌, if◌then◌else◌, List, [], ◌∷◌, length, Option, Some, None, Bool}
+use Rattle.std.specs.FinMap.{get, insert}
+use Rattle.vm_base.specs.Counts.{Rose}
+use Rattle.vm_base.specs.FlatMemory.{FlatMemory}
+use Rattle.vm_base.specs.MemoryState.{MemoryState}
+use Rattle.vm_base.specs.MemoryCalls.{IsInRange}
+use Rattle.store_meaning.specs.HeapLayout.{ArePresent, next_at}
+use Rattle.store_meaning.specs.HashLayout.{other_array, Pairs, Store, Entry, IsStore, pair_size, pair_class, entries_of}
+use Rattle.store_meaning.specs.StoreSteps.{bucket_of, entry_for, put_in, doubled, IsCrowded}
+use Rattle.store_meaning.specs.Reach.{At}
+use Rattle.store_meaning.specs.Standing.{Follows}
+use Rattle.page_hash.specs.Walks.{bucket_at, IsSearch}
+use Rattle.page_hash.specs.declared.chain.Located.{Located}
+use Rattle.page_hash.specs.declared.search.Search.{Search}
+
+-- a key and a value are within their limits
+abbrev pub FitsPair : List ℕ → List ℕ → Type 0
+FitsPair key value = (length key ≤ 65536) × (length value ≤ 1048576)
+
+-- where the block of a pair will stand: where it is, if its class stays, and else in the next block of its class
+abbrev pub put_at : Store → List ℕ → List ℕ → Option Entry → ℕ
+put_at store key value None = next_at store.heap (pair_class key value)
+put_at store key value (Some entry) =
+    if pair_class entry.key entry.value == pair_class key value then entry.at
+    else next_at store.heap (pair_class key value)
+
+-- the pages are present of the block in which the pair will stand, and of the bucket of its key
+pub record PutIsPresent (memory : FlatMemory) (store : Store) (key value : List ℕ) : Type 0 where
+  pub block : ArePresent memory (put_at store key value (entry_for store key)) (pair_size key value)
+  pub bucket : ArePresent memory (bucket_at store.table key) 8
+
+-- each page that is present now was present before, or is one of these
+abbrev pub AddsOnly : MemoryState → MemoryState → (ℕ → Type 0) → Type 0
+AddsOnly old new added =
+    (page : ℕ) → IsSome (get new.mem.present page) → IsNone (get old.mem.present page) → added page
+
+-- the page meets the block in which the pair will stand
+abbrev pub MeetsBlock : Store → List ℕ → List ℕ → ℕ → Type 0
+MeetsBlock store key value page =
+    IsInRange page (put_at store key value (entry_for store key)) (pair_size key value)
+
+-- the page meets that block, or the bucket of the key
+abbrev pub MeetsPlace : Store → List ℕ → List ℕ → ℕ → Type 0
+MeetsPlace store key value page =
+    MeetsBlock store key value page ⊎ IsInRange page (bucket_at store.table key) 8
+
+-- the map has the pair, and so it has with each list of places; each store has become the one with
+-- the pair in its block, before any doubling; and no page was taken but for that
+pub record Places (old new : MemoryState) (key value : List ℕ) : Type 0 where
+  pub follows : Follows old new (λ pairs. insert pairs key value)
+      (λ pairs. At (insert pairs key value) ∷ [])
+  pub store : (store : Store) (pairs : Pairs) → IsStore old.mem store pairs
+      → IsStore new.mem (put_in store key value) (insert pairs key value)
+  pub pages : (store : Store) (pairs : Pairs) → IsStore old.mem store pairs
+      → AddsOnly old new (MeetsPlace store key value)
+
+-- a frame was refused: the count rose, to `at`, and map and store are as they were; the map that
+-- was refused is a place. A page of the block or of the bucket is absent still
+pub record PutFails (old new : MemoryState) (key value : List ℕ) (at : ℕ) : Type 0 where
+  pub rose : Rose old.refused new.refused
+  pub told : at ≡ new.refused
+  pub follows : Follows old new (λ pairs. pairs) (λ pairs. At (insert pairs key value) ∷ [])
+  pub store : (store : Store) (pairs : Pairs) → IsStore old.mem store pairs
+      → IsStore new.mem store pairs
+  pub lacks : (store : Store) (pairs : Pairs) → IsStore old.mem store pairs
+      → PutIsPresent new.mem store key value → ⊥
+  pub pages : (store : Store) (pairs : Pairs) → IsStore old.mem store pairs
+      → AddsOnly old new (MeetsBlock store key value)
+
+-- a put was refused, and had been so too were its pages present before
+pub record PlaceFails (old new : MemoryState) (key value : List ℕ) (at : ℕ) : Type 0 where
+  pub fails : PutFails old new key value at
+  pub lacked : (store : Store) (pairs : Pairs) → IsStore old.mem store pairs
+      → PutIsPresent old.mem store key value → ⊥
+
+-- the search has found an entry of the key's block
+abbrev pub IsFound : Store → List ℕ → Located → Type 0
+IsFound store key located = (entry : Entry) × ((entry_for store key ≡ Some entry)
+    × (located.at ≡ entry.at) × (located.length ≡ length entry.value) × (entry.key ≡ key))
+
+-- and the class of that block is the one that the new pair has
+abbrev pub IsFoundInPlace : Store → List ℕ → List ℕ → Located → Type 0
+IsFoundInPlace store key value located = (entry : Entry) × ((entry_for store key ≡ Some entry)
+    × (located.at ≡ entry.at) × (located.length ≡ length entry.value) × (entry.key ≡ key)
+    × (pair_class entry.key entry.value ≡ pair_class key value))
