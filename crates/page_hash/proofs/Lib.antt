@@ -8,3 +8,4 @@ pub mod FrontReads
 pub mod WalkLemmas
 pub mod Touched
 pub mod StoredPairs
+pub mod NextReach

@@ -1,0 +1,2 @@
+use Rattle.page_hash.proofs.NextReach.{next_within}
+use Rattle.page_hash.proofs.put.put_in_place.Goals as goal
