@@ -9,3 +9,5 @@ pub mod WalkLemmas
 pub mod Touched
 pub mod StoredPairs
 pub mod NextReach
+pub mod PutRanges
+pub mod PutStanding
