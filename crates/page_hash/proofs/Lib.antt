@@ -11,3 +11,8 @@ pub mod StoredPairs
 pub mod NextReach
 pub mod PutRanges
 pub mod PutStanding
+pub mod AreaSteps
+pub mod PresentTouch
+pub mod Cleared
+pub mod HeadReads
+pub mod BlockLinks

@@ -27,9 +27,9 @@ same_pair-decides : (one other : List ℕ × List ℕ) → Decides (same_pair on
 unfolding same_pair
 same_pair-decides one other = (
   λ is. let parts = and_parts (bytes_eq one.0 other.0) (bytes_eq one.1 other.1) is in
-    ap₂ (λ k v. (k, v)) ((bytes_eq-Decides one.0 other.0).0 parts.0) ((bytes_eq-Decides one.1 other.1).0 parts.1),
+      ap₂ (λ k v. (k, v)) ((bytes_eq-Decides one.0 other.0).0 parts.0) ((bytes_eq-Decides one.1 other.1).0 parts.1),
   λ same. subst (λ p. same_pair one p ≡ true) same
-    (ap₂ (λ a c. a && c) ((bytes_eq-Decides one.0 one.0).1 refl) ((bytes_eq-Decides one.1 one.1).1 refl)),
+      (ap₂ (λ a c. a && c) ((bytes_eq-Decides one.0 one.0).1 refl) ((bytes_eq-Decides one.1 one.1).1 refl)),
 )
 
 -- a pair of a new key that is put among others is one more
@@ -37,13 +37,13 @@ put_new : (key value : List ℕ) (es : Texts) → find key_cmp key es ≡ None �
 put_new key value [] none = IsPermutation-refl _
 put_new key value (e ∷ es) none = elim (key_cmp key e.0) as (λ o. key_cmp key e.0 ≡ o
     → IsPermutation ((key, value) ∷ e ∷ es) (by_order o ((key, value) ∷ e ∷ es) ((e.0, value) ∷ es) (e ∷ put key_cmp key value es))) [
-  | Less ↦ λ is. IsPermutation-refl _
-  | Equal ↦ λ is. absurd (false≢true (ap is_some (sym none ∙ cond-true (eq_by_cmp key_cmp key e.0) (Some e.1) (find key_cmp key es) (ap is_eq is))))
-  | Greater ↦ λ is. IsPermutation-trans _ _ _
-      (IsPermutation-sym _ _ (IsPermutation-middle (e ∷ []) (key, value) es))
-      (IsPermutation-cons e _ _ (put_new key value es
-      (sym (cond-false (eq_by_cmp key_cmp key e.0) (Some e.1) (find key_cmp key es) (ap is_eq is)) ∙ none)))
-] refl
+      | Less ↦ λ is. IsPermutation-refl _
+      | Equal ↦ λ is. absurd (false≢true (ap is_some (sym none ∙ cond-true (eq_by_cmp key_cmp key e.0) (Some e.1) (find key_cmp key es) (ap is_eq is))))
+      | Greater ↦ λ is. IsPermutation-trans _ _ _
+          (IsPermutation-sym _ _ (IsPermutation-middle (e ∷ []) (key, value) es))
+          (IsPermutation-cons e _ _ (put_new key value es
+          (sym (cond-false (eq_by_cmp key_cmp key e.0) (Some e.1) (find key_cmp key es) (ap is_eq is)) ∙ none)))
+    ] refl
 
 same_from : (one two : List ℕ) → eq_by_cmp key_cmp one two ≡ true → one ≡ two
 same_from one two is = (bytes_eq-Decides one two).0 (texts_ties one two ∙ is)
@@ -75,7 +75,7 @@ get_removed of key =
 -- a key that is put back has its value again, whatever it had
 pub insert_back : (of : Pairs) (key value : List ℕ) → insert (remove of key) key value ≡ insert of key value
 insert_back of key value = same_map nat_list_cmp_total antisymmetric _ _ (λ q.
-  get-insert nat_list_cmp_total (remove of key) key value q ∙ by q ∙ sym (get-insert nat_list_cmp_total of key value q))
+    get-insert nat_list_cmp_total (remove of key) key value q ∙ by q ∙ sym (get-insert nat_list_cmp_total of key value q))
   where
     by : (q : List ℕ) → cond (eq_by_cmp key_cmp q key) (Some value) (get (remove of key) q)
         ≡ cond (eq_by_cmp key_cmp q key) (Some value) (get of q)
@@ -88,7 +88,7 @@ insert_back of key value = same_map nat_list_cmp_total antisymmetric _ _ (λ q.
 -- a key that has its value is put back as it was
 pub insert_same : (of : Pairs) (key value : List ℕ) → get of key ≡ Some value → insert of key value ≡ of
 insert_same of key value has = same_map nat_list_cmp_total antisymmetric _ _ (λ q.
-  get-insert nat_list_cmp_total of key value q ∙ by q)
+    get-insert nat_list_cmp_total of key value q ∙ by q)
   where
     by : (q : List ℕ) → cond (eq_by_cmp key_cmp q key) (Some value) (get of q) ≡ get of q
     by q = elim (cases_Bool (eq_by_cmp key_cmp q key)) [

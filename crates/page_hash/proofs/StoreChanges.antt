@@ -1,24 +1,28 @@
 -- What a remove and each kind of put make of a store: one entry less, one more in front, and another one in the place of one.
 use Rattle.std.proofs.Common.{◌≡◌, ℕ, zero, suc, ◌+◌, ◌*◌, ◌%◌, ◌^◌, ◌<◌, ◌≤◌, Bool, true, false, cond, not, List, [], ◌∷◌, ◌++◌, length, map, filter, get_or, set, Option, Some, None, is_some, refl, sym, ◌∙◌, ap, ap₂, subst, arith, inl, inr, IsPermutation, Contains, pow_pos, mod-lt}
 use Rattle.std.specs.Prelude.{unwrap_or}
+use Rattle.std.specs.Option.{option_map}
 use Rattle.std.specs.Str.{bytes_eq}
 use Rattle.std.specs.List.{AllByRecursion, flat_map}
 use Rattle.std.specs.FinMap.{entries, get, insert, remove}
 use Rattle.std.proofs.lemmas.Bool.{cases_Bool, cond-true, cond-false, false≢true}
 use Rattle.std.proofs.lemmas.List.{map-append}
 use Rattle.std.proofs.lemmas.List.Elements.{recursion_from_All}
-use Rattle.std.proofs.lemmas.List.Sorted.{IsPermutation-refl, IsPermutation-sym, IsPermutation-trans, IsPermutation-cons, IsPermutation-middle, IsPermutation-map, IsPermutation-append_left, length_permutation}
+use Rattle.std.proofs.lemmas.List.Sorted.{IsPermutation-refl, IsPermutation-sym, IsPermutation-trans, IsPermutation-cons, IsPermutation-middle, IsPermutation-map, IsPermutation-append_left, Contains-permutation, length_permutation}
 use Rattle.std.proofs.lemmas.Slice.Eq.{bytes_eq-Decides}
+use Rattle.byteorder.specs.Endian.{big_number}
 use Rattle.vm_base.specs.FlatMemory.{FlatMemory}
+use Rattle.vm_base.specs.FlatLaws.{AreApart}
 use Rattle.store_meaning.specs.Layout.{header_at, array_field, pairs_field, list_field, heap_at, classes, word_at}
-use Rattle.store_meaning.specs.HeapLayout.{Block, Heap, IsHeap, block_bytes, free_of, next_at, committed, freed}
+use Rattle.store_meaning.specs.HeapLayout.{Block, Heap, IsHeap, Links, block_bytes, free_of, next_at, committed, freed}
 use Rattle.store_meaning.specs.HashLayout.{Entry, Table, Store, Pairs, Holds, IsStore, hash_of, pair_size, pair_class, entry_block, entry_pair, chain_of, entries_of}
 use Rattle.store_meaning.specs.StoreSteps.{bucket_of, entry_in, entry_for, with_entry, without_key, with_chain, next_entry, with_new, with_value, with_moved, removed_by}
 use Rattle.store_meaning.specs.Owned.{Range, word_range, entry_range}
 use Rattle.store_meaning.proofs.Lists.{all_mono, all_left, all_right, all_both, all_map, map_all, all_permuted, class_within}
-use Rattle.store_meaning.proofs.HeapSteps.{class_bytes}
-use Rattle.store_meaning.proofs.TableSteps.{Spot, chains_with, others, entries_at, link_at, link_of, Leads, AreSameBeside, IsAside, addresses, store_with, changes}
-use Rattle.store_meaning.proofs.HeapBeside.{aside_of_middle, aside_of_next, used_in_store, freed_used, committed_used}
+use Rattle.store_meaning.proofs.HeapSteps.{KeepsPages, class_bytes}
+use Rattle.store_meaning.proofs.OwnedApart.{class_of-holds}
+use Rattle.store_meaning.proofs.TableSteps.{Spot, chains_with, others, entries_at, entries_above, link_at, link_of, AreSameBeside, IsAside, addresses, store_with, changes}
+use Rattle.store_meaning.proofs.HeapBeside.{heap_beside, in_use_beside, aside_of_middle, aside_of_next, next_off, link_off_middle, used_in_store, freed_used, committed_used}
 use Rattle.page_hash.proofs.MapEntries.{entry_in-some, entry_in-none, get_entry}
 use Rattle.page_hash.proofs.MapSteps.{insert_new, removed_one, replaced_one, other_keys}
 
@@ -53,8 +57,7 @@ found_split key (first ∷ chain) entry found = elim (cases_Bool (bytes_eq first
       ap (λ o. unwrap_or o first) (sym (cond-true (bytes_eq first.key key) (Some first) (entry_in chain key) here) ∙ found) in
       ([], (chain, (ap (λ e. e ∷ chain) same, (subst (λ (e : Entry). e.key ≡ key) same ((bytes_eq-Decides first.key key).0 here), tt))))
   | inr past ↦
-      let later = found_split key chain entry (sym (cond-false (bytes_eq first.key key) (Some first) (entry_in chain key) past) ∙ found) in
-      (
+      let later = found_split key chain entry (sym (cond-false (bytes_eq first.key key) (Some first) (entry_in chain key) past) ∙ found) in (
         first ∷ later.0,
         (
           later.1.0,
@@ -116,15 +119,17 @@ find_spot memory store of key entry is found =
     let lack : Lack key (others spot) =
     all_map (λ (p : List ℕ × List ℕ). p.0 ≡ key → ⊥) entry_pair (others spot)
     (subst (λ k. AllByRecursion (λ (p : List ℕ × List ℕ). p.0 ≡ k → ⊥) (map entry_pair (others spot))) chain.1.1.1.0
-    (other_keys of entry.key entry.value (map entry_pair (others spot)) pairs)) in
-    (spot, record {
-      chains = chains;
-      bucket = around.1.1.1;
-      inside = omega (arith, inside, around.1.1.1);
-      named = chain.1.1.1.0;
-      front = chain.1.1.1.1;
-      back = all_left (λ (e : Entry). e.key ≡ key → ⊥) spot.back _ (all_right (λ (e : Entry). e.key ≡ key → ⊥) spot.front _ lack);
-    })
+    (other_keys of entry.key entry.value (map entry_pair (others spot)) pairs)) in (
+      spot,
+      record {
+        chains = chains;
+        bucket = around.1.1.1;
+        inside = omega (arith, inside, around.1.1.1);
+        named = chain.1.1.1.0;
+        front = chain.1.1.1.1;
+        back = all_left (λ (e : Entry). e.key ≡ key → ⊥) spot.back _ (all_right (λ (e : Entry). e.key ≡ key → ⊥) spot.front _ lack);
+      },
+    )
 
 -- ---- the chains of each step
 
@@ -233,8 +238,7 @@ removes old new store of key entry spot is at areas same link count heap =
       heap = freed store.heap entry.at class;
     }) (remove of key)) (sym result)
     (changes old new store of (remove of key) spot (entry ∷ []) [] (freed store.heap entry.at class)
-    (word_range entry.at ∷ word_range (list_field class) ∷ word_range pairs_field ∷ []) is at.chains areas same
-    (
+    (word_range entry.at ∷ word_range (list_field class) ∷ word_range pairs_field ∷ []) is at.chains areas same (
       aside_of_middle old store of spot entry (word_range entry.at) is at.chains (omega arith)
           (omega (arith, class_some class in_classes)),
       (in_header (others spot) class in_classes, (inr (inl refl), tt)),
@@ -244,3 +248,193 @@ removes old new store of key entry spot is at areas same link count heap =
     (used_in_store old store of spot entry is at.chains))
     (subst (λ k. IsPermutation (map entry_pair (others spot)) (entries (remove of k))) at.named
     (removed_one of entry.key entry.value (map entry_pair (others spot)) pairs)))
+
+-- the block of a pair has room for it
+pub class_room : (memory : FlatMemory) (entry : Entry) → Holds memory entry
+    → pair_size entry.key entry.value ≤ 2 ^ pair_class entry.key entry.value
+class_room memory entry holds =
+    class_of-holds (pair_size entry.key entry.value) (omega (arith, holds.short_key, holds.short_value))
+
+-- another block in the place of the one of a key: the link names it, it names the one behind, and the old one is given back
+pub moves : (old middle new : FlatMemory) (store : Store) (of : Pairs) (key value : List ℕ) (entry : Entry) (spot : Spot) (top : ℕ)
+    → IsStore old store of → IsSpot store key entry spot → new.areas ≡ old.areas → top + 8 ≤ header_at + 144
+    → Contains classes (pair_class entry.key value)
+    → AreSameBeside old new (word_range (link_at store.table.array spot) ∷ word_range top
+    ∷ entry_range (next_entry store entry.key value) ∷ word_range entry.at
+    ∷ word_range (list_field (pair_class entry.key entry.value)) ∷ [])
+    → word_at new (link_at store.table.array spot) ≡ next_at store.heap (pair_class entry.key value)
+    → word_at new (next_at store.heap (pair_class entry.key value)) ≡ word_at old entry.at
+    → word_at new pairs_field ≡ word_at old pairs_field → Holds new (next_entry store entry.key value)
+    → IsHeap middle (committed store.heap (pair_class entry.key value))
+    → IsHeap new (freed (committed store.heap (pair_class entry.key value)) entry.at (pair_class entry.key entry.value))
+    → IsStore new (with_moved store entry value) (insert of key value)
+moves old middle new store of key value entry spot top is at areas below in_next same link next count holds taken heap =
+    let class = pair_class entry.key entry.value in
+    let class_then = pair_class entry.key value in
+    let other = next_entry store entry.key value in
+    let in_classes = class_of-entry old store of spot entry is at.chains in
+    let pairs = pairs_beside old store of spot (entry ∷ []) is at.chains in
+    let up = (next_off old store of (entries_of store.table) class_then (store.heap.free class_then) is (IsPermutation-refl _) in_next refl).0 in
+    let front = subst (λ k. Lack k spot.front) (sym at.named) at.front in
+    let back = subst (λ k. Lack k spot.back) (sym at.named) at.back in
+    let at_key : IsSpot store entry.key entry spot = record {
+      chains = at.chains;
+      bucket = at.bucket ∙ ap (bucket_of store.table) (sym at.named);
+      inside = at.inside;
+      named = refl;
+      front = front;
+      back = back;
+    } in
+    let result : (with_chain store.table entry.key (with_entry other)).chains ≡ chains_with spot (other ∷ []) =
+    with_chain-at store entry.key entry spot (with_entry other) at_key
+    ∙ ap (λ c. spot.before ++ c ∷ spot.behind) (with_entry-at entry other spot.front spot.back refl front back) in
+    let blocks : IsPermutation (committed store.heap class_then).used (entry_block entry ∷ entry_block other ∷ map entry_block (others spot)) =
+    subst (λ l. IsPermutation l (entry_block entry ∷ entry_block other ∷ map entry_block (others spot)))
+    (sym (committed_used store.heap class_then))
+    (IsPermutation-trans _ _ _ (IsPermutation-cons (entry_block other) store.heap.used (entry_block entry ∷ map entry_block (others spot))
+    (used_in_store old store of spot entry is at.chains))
+    (IsPermutation-middle (entry_block other ∷ []) (entry_block entry) (map entry_block (others spot)))) in
+    subst (λ (c : List (List Entry)). IsStore new (record {
+      table = record { array = store.table.array; chains = c };
+      heap = freed (committed store.heap class_then) entry.at class;
+    }) (insert of key value)) (sym result)
+    (changes old new store of (insert of key value) spot (entry ∷ []) (other ∷ []) (freed (committed store.heap class_then) entry.at class)
+    (word_range top ∷ entry_range other ∷ word_range entry.at ∷ word_range (list_field class) ∷ []) is at.chains areas same (
+      inl (omega (arith, below)),
+      (
+        aside_of_next old store of spot (entry ∷ []) class_then (entry_range other) is at.chains in_next (omega arith)
+            (omega (arith, class_room new other holds)),
+        (
+          aside_of_middle old store of spot entry (word_range entry.at) is at.chains (omega arith)
+              (omega (arith, class_some class in_classes)),
+          (in_header (others spot) class in_classes, tt),
+        ),
+      ),
+    )
+    (link, omega (arith, up), next) (count ∙ count_beside old store of spot (entry ∷ []) is at.chains) (holds, tt)
+    (hashed_at store entry.key entry spot at_key, tt) heap
+    (freed_used middle (committed store.heap class_then) (entry_block entry) (entry_block other ∷ map entry_block (others spot)) taken blocks)
+    (subst (λ k. IsPermutation ((entry.key, value) ∷ map entry_pair (others spot)) (entries (insert of k value))) at.named
+    (replaced_one of entry.key entry.value value (map entry_pair (others spot)) pairs)))
+
+-- the word of a link is the first block behind it
+pub named_by : (memory : FlatMemory) (place : ℕ) (front : List Entry) (entry : Entry) (back : List Entry)
+    → Links memory place (addresses (front ++ entry ∷ back)) → word_at memory (link_of place front) ≡ entry.at
+named_by memory place [] entry back linked = linked.0
+named_by memory place (first ∷ front) entry back linked = named_by memory first.at front entry back linked.2
+
+-- another value in the block of a key
+pub puts_in_place : (old new : FlatMemory) (store : Store) (of : Pairs) (key value : List ℕ) (entry : Entry) (spot : Spot)
+    → IsStore old store of → IsSpot store key entry spot → new.areas ≡ old.areas → KeepsPages old new
+    → AreSameBeside old new (record { at = entry.at; size = pair_size entry.key value } ∷ [])
+    → pair_class entry.key entry.value ≡ pair_class entry.key value → word_at new entry.at ≡ word_at old entry.at
+    → Holds new (record entry { value = value }) → IsStore new (with_value store entry value) (insert of key value)
+puts_in_place old new store of key value entry spot is at areas keeps same class next holds =
+    let other : Entry = record entry { value = value } in
+    let range : Range = record { at = entry.at; size = pair_size entry.key value } in
+    let pairs = pairs_beside old store of spot (entry ∷ []) is at.chains in
+    let up = (entries_above old store of (entry ∷ others spot) is
+    (subst (λ (c : List (List Entry)). IsPermutation (flat_map (λ (l : List Entry). l) c) (entry ∷ others spot)) (sym at.chains)
+    (entries_at spot (entry ∷ [])))).0 in
+    let room : pair_size entry.key value ≤ block_bytes (entry_block entry) =
+    subst (λ c. pair_size entry.key value ≤ 2 ^ c) (sym class) (class_room new other holds) in
+    let away = link_off_middle old store of spot entry is at.chains in
+    let front = subst (λ k. Lack k spot.front) (sym at.named) at.front in
+    let back = subst (λ k. Lack k spot.back) (sym at.named) at.back in
+    let at_key : IsSpot store entry.key entry spot = record {
+      chains = at.chains;
+      bucket = at.bucket ∙ ap (bucket_of store.table) (sym at.named);
+      inside = at.inside;
+      named = refl;
+      front = front;
+      back = back;
+    } in
+    let result : (with_chain store.table entry.key (with_entry other)).chains ≡ chains_with spot (other ∷ []) =
+    with_chain-at store entry.key entry spot (with_entry other) at_key
+    ∙ ap (λ c. spot.before ++ c ∷ spot.behind) (with_entry-at entry other spot.front spot.back refl front back) in
+    let linked : word_at old (link_at store.table.array spot) ≡ entry.at = named_by old (store.table.array + 8 * length spot.before)
+    spot.front entry spot.back
+    (subst (λ c. Links old (store.table.array + 8 * length spot.before) (addresses c))
+    (ap (λ (c : List (List Entry)). get_or c (length spot.before) []) at.chains ∙ read_here spot.before _ spot.behind)
+    (is.table.linked (length spot.before) at.inside)) in
+    let link : word_at new (link_at store.table.array spot) ≡ entry.at =
+    ap (big_number 8) (same (link_at store.table.array spot) 8 (shrunk entry.at _ _ _ 8 away room, tt)) ∙ linked in
+    let used : Contains store.heap.used (entry_block entry) = Contains-permutation (entry_block entry ∷ map entry_block (others spot))
+    store.heap.used (entry_block entry) (IsPermutation-sym _ _ (used_in_store old store of spot entry is at.chains)) (0, omega arith, refl) in
+    let count : word_at new pairs_field ≡ word_at old pairs_field =
+    ap (big_number 8) (same pairs_field 8 (inr (omega (arith, up)), tt)) in
+    subst (λ (c : List (List Entry)). IsStore new (record {
+      table = record { array = store.table.array; chains = c };
+      heap = store.heap;
+    }) (insert of key value)) (sym result)
+    (changes old new store of (insert of key value) spot (entry ∷ []) (other ∷ []) store.heap (range ∷ []) is at.chains areas
+    (λ address n all. same address n all.1)
+    (aside_of_middle old store of spot entry range is at.chains (omega arith) (omega (arith, room)), tt)
+    (link, omega (arith, up), next) (count ∙ count_beside old store of spot (entry ∷ []) is at.chains) (holds, tt)
+    (hashed_at store entry.key entry spot at_key, tt)
+    (heap_beside old new store.heap (range ∷ []) is.heap areas keeps same
+    (in_use_beside old store.heap (entry_block entry) range is.heap used (omega arith) (omega (arith, room)), tt))
+    (subst (λ c. IsPermutation store.heap.used (record { at = entry.at; class = c } ∷ map entry_block (others spot))) class
+    (used_in_store old store of spot entry is at.chains))
+    (subst (λ k. IsPermutation ((entry.key, value) ∷ map entry_pair (others spot)) (entries (insert of k value))) at.named
+    (replaced_one of entry.key entry.value value (map entry_pair (others spot)) pairs)))
+  where
+    shrunk : (at link many few n : ℕ) → AreApart link n at many → few ≤ many → AreApart at few link n
+    shrunk at link many few n (inl low) less = inr low
+    shrunk at link many few n (inr high) less = inl (omega (arith, high, less))
+
+-- ---- a new pair
+
+-- a pair in front of the chain of its key, which had none
+pub puts_new : (old new : FlatMemory) (store : Store) (of : Pairs) (key value : List ℕ) (top : ℕ) → IsStore old store of
+    → entry_for store key ≡ None → new.areas ≡ old.areas → top + 8 ≤ header_at + 144 → Contains classes (pair_class key value)
+    → AreSameBeside old new (word_range (store.table.array + 8 * bucket_of store.table key) ∷ word_range top
+    ∷ entry_range (next_entry store key value) ∷ word_range pairs_field ∷ [])
+    → word_at new (store.table.array + 8 * bucket_of store.table key) ≡ next_at store.heap (pair_class key value)
+    → word_at new (next_at store.heap (pair_class key value)) ≡ word_at old (store.table.array + 8 * bucket_of store.table key)
+    → word_at new pairs_field ≡ word_at old pairs_field + 1 → Holds new (next_entry store key value)
+    → IsHeap new (committed store.heap (pair_class key value)) → IsStore new (with_new store key value) (insert of key value)
+puts_new old new store of key value top is none areas below in_next same link next count holds heap =
+    let class = pair_class key value in
+    let other = next_entry store key value in
+    let around = chains_split store.table.chains (bucket_of store.table key) (bucket_inside old store of key is) in
+    let chain = chain_of store.table (bucket_of store.table key) in
+    let spot : Spot = record { before = around.0; front = []; back = chain; behind = around.1.0 } in
+    let chains : store.table.chains ≡ chains_with spot [] = around.1.1.0 in
+    let bucket : length around.0 ≡ bucket_of store.table key = around.1.1.1 in
+    let place : store.table.array + 8 * bucket_of store.table key ≡ store.table.array + 8 * length around.0 =
+    ap (λ b. store.table.array + 8 * b) (sym bucket) in
+    let up = (next_off old store of (entries_of store.table) class (store.heap.free class) is (IsPermutation-refl _) in_next refl).0 in
+    let result : (with_chain store.table key (λ c. other ∷ c)).chains ≡ chains_with spot (other ∷ []) =
+    ap (λ b. set store.table.chains b (other ∷ get_or store.table.chains b [])) (sym bucket)
+    ∙ ap (λ c. set c (length around.0) (other ∷ get_or c (length around.0) [])) chains
+    ∙ ap (λ c. set (around.0 ++ chain ∷ around.1.0) (length around.0) (other ∷ c)) (read_here around.0 chain around.1.0)
+    ∙ set_here around.0 chain (other ∷ chain) around.1.0 in
+    subst (λ (c : List (List Entry)). IsStore new (record {
+      table = record { array = store.table.array; chains = c };
+      heap = committed store.heap class;
+    }) (insert of key value)) (sym result)
+    (changes old new store of (insert of key value) spot [] (other ∷ []) (committed store.heap class)
+    (word_range top ∷ entry_range other ∷ word_range pairs_field ∷ []) is chains areas
+    (subst (λ p. AreSameBeside old new (word_range p ∷ word_range top ∷ entry_range other ∷ word_range pairs_field ∷ [])) place same) (
+      inl (omega (arith, below)),
+      (
+        aside_of_next old store of spot [] class (entry_range other) is chains in_next (omega arith)
+            (omega (arith, class_room new other holds)),
+        (inr (inl refl), tt),
+      ),
+    ) (
+      subst (λ p. word_at new p ≡ next_at store.heap class) place link,
+      omega (arith, up),
+      subst (λ p. word_at new (next_at store.heap class) ≡ word_at old p) place next,
+    )
+    (omega (arith, count, count_beside old store of spot [] is chains)) (holds, tt)
+    (sym bucket, tt) heap
+    (subst (λ l. IsPermutation l (entry_block other ∷ map entry_block (others spot))) (sym (committed_used store.heap class))
+    (IsPermutation-cons (entry_block other) store.heap.used (map entry_block (others spot))
+    (IsPermutation-trans _ _ _ is.used (IsPermutation-map entry_block (entries_of store.table) (others spot)
+    (subst (λ (c : List (List Entry)). IsPermutation (flat_map (λ (l : List Entry). l) c) (others spot)) (sym chains)
+    (entries_at spot []))))))
+    (insert_new of key value (map entry_pair (others spot))
+    (get_entry old store of key is ∙ ap (option_map (λ (e : Entry). e.value)) none)
+    (pairs_beside old store of spot [] is chains)))

@@ -4,3 +4,5 @@ pub mod Walks
 pub mod Touching
 pub mod PairStores
 pub mod Puts
+pub mod Clears
+pub mod Relinking

@@ -1,7 +1,9 @@
 //! A hash table in the pages of any memory.
 #![tactic(auto)]
 
+mod block_head;
 mod chain;
+mod clearing;
 mod found;
 mod key_hash;
 mod layout;
@@ -9,11 +11,13 @@ mod lookups;
 mod opening;
 mod pair_stores;
 mod put;
+mod relinking;
 mod search;
 mod table_head;
 mod touching;
 mod words;
 
+pub use clearing::clear;
 pub use found::Found;
 pub use lookups::{find, get, len, value};
 pub use opening::begin;
