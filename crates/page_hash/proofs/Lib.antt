@@ -16,3 +16,6 @@ pub mod PresentTouch
 pub mod Cleared
 pub mod HeadReads
 pub mod BlockLinks
+pub mod StoreParts
+pub mod PutAnswers
+pub mod PlacedInPlace

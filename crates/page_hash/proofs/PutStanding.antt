@@ -1,27 +1,32 @@
 -- A memory that stands within its reach does so behind the touches of a put, made or refused.
-use Rattle.std.proofs.Common.{◌≡◌, ℕ, zero, suc, ◌+◌, ◌*◌, ◌^◌, ◌<◌, ◌≤◌, ◌⊎◌, max, List, [], ◌∷◌, ◌++◌, length, IsSome, Option, Some, None, refl, sym, ◌∙◌, ap, subst, arith, inl, inr, Contains, All}
+use Rattle.std.proofs.Common.{◌≡◌, ℕ, zero, suc, ◌+◌, ◌*◌, ◌^◌, ◌<◌, ◌≤◌, ◌⊎◌, max, List, [], ◌∷◌, ◌++◌, length, IsSome, Option, Some, None, refl, sym, ◌∙◌, ap, subst, arith, inl, inr, Contains, All, is_some}
 use Rattle.std.specs.Prelude.{IsNone}
 use Rattle.std.specs.FinMap.{get, insert}
 use Rattle.std.specs.List.{AllByRecursion, AllZip}
 use Rattle.std.proofs.lemmas.Bool.{cases_Bool, cases_eq, false≢true}
+use Rattle.std.proofs.lemmas.List.{length-replicate}
+use Rattle.std.proofs.lemmas.List.Elements.{All-replicate}
 use Rattle.vm_base.specs.Places.{page_of, page_count}
 use Rattle.vm_base.specs.FlatMemory.{FlatMemory, PageMap, IsFlat, area_of, bytes_at, zero_page}
 use Rattle.vm_base.specs.FlatStep.{with_pages}
 use Rattle.vm_base.specs.MemoryState.{MemoryState, IsMemory, IsKept, own_of}
 use Rattle.vm_base.specs.MemoryCalls.{IsInRange, touched}
 use Rattle.vm_base.proofs.FlatLaws.{bytes_at-with_pages, get-with_pages_there, get-with_pages_beyond, get-with_pages_absent}
+use Rattle.vm_base.proofs.FlatAreas.{area_of-found}
 use Rattle.vm_base.proofs.OwnFrames.{kept-with_pages}
 use Rattle.store_meaning.specs.Layout.{classes, heap_at}
 use Rattle.store_meaning.specs.HeapLayout.{ArePresent}
 use Rattle.store_meaning.specs.HashLayout.{Store, Pairs, IsStore}
 use Rattle.store_meaning.specs.Owned.{Range, owned}
-use Rattle.store_meaning.specs.Reach.{Place, At, Reach, reach_of}
-use Rattle.store_meaning.specs.Standing.{Stands, KeepsWithin, Follows}
+use Rattle.store_meaning.specs.Reach.{Place, At, Reach, reach_of, count_of}
+use Rattle.store_meaning.specs.Standing.{Stands, KeepsWithin, blocks_in}
 use Rattle.store_meaning.proofs.HeapSteps.{KeepsPages}
 use Rattle.store_meaning.proofs.StoreKept.{store_kept}
 use Rattle.store_meaning.proofs.ReachFrames.{own_of-bound}
+use Rattle.store_meaning.proofs.Reaching.{reach_of-more, KeepsWithin-more, Stands-more}
 use Rattle.page_hash.specs.Touching.{IsOfStore, MakesPresent, LacksPage, MakesReady}
-use Rattle.page_hash.proofs.NextReach.{bytes_of}
+use Rattle.page_hash.proofs.NextReach.{bytes_of, place_counted}
+use Rattle.page_hash.proofs.Touched.{meets_range}
 
 -- the two memories read alike, and no page has gone
 pub record ReadsAlike (old new : FlatMemory) : Type 0 where
@@ -105,3 +110,143 @@ touched_bytes memory address n page bytes is = by (get memory.present page) refl
       where
         beyond : (IsInRange page address n → ⊥) → (page < page_of address) ⊎ (page_of address + page_count address n ≤ page)
         beyond outside = grind arith
+
+-- the pages of a touch make no memory less flat
+pub flat_touched : (memory : FlatMemory) (address n : ℕ) → IsFlat memory → IsOfStore memory address n → IsFlat (touched memory address n)
+flat_touched memory address n flat is = record {
+  in_order = flat.in_order;
+  few = flat.few;
+  bytes = λ page bytes there. elim (touched_bytes memory address n page bytes there) [
+    | inl before ↦ flat.bytes page bytes before
+    | inr zeros ↦ subst (All (λ byte. byte < 256)) (sym zeros) (All-replicate (λ byte. byte < 256) 4096 0 (omega arith))
+  ];
+  whole = λ page bytes there. elim (touched_bytes memory address n page bytes there) [
+    | inl before ↦ flat.whole page bytes before
+    | inr zeros ↦ ap length zeros ∙ length-replicate {A = ℕ} 4096 0
+  ];
+  low = flat.low;
+  in_areas = λ page there. elim (touched_page memory address n page there) [
+    | inl before ↦ flat.in_areas page before
+    | inr inside ↦
+        let meets = meets_range address n page inside in
+        ap is_some (area_of-found memory.areas is.area page flat.in_order is.listed
+        (omega (arith, is.has.0, meets.0), omega (arith, is.has.1, meets.1)))
+  ];
+}
+
+-- ---- within the reach
+
+-- the memory stands for the map by this store, within the reach of the places
+pub record KeepsTo (state : MemoryState) (store : Store) (of : Pairs) (before : ℕ) (places : List Place) : Type 0 where
+  pub stands : IsStore state.mem store of
+  pub within : KeepsWithin state store (reach_of places)
+  pub most : state.most ≤ max before (reach_of places).bound
+
+-- the range has no page above the heap's bytes that the places allow
+abbrev pub IsAllowed : ℕ → ℕ → List Place → Type 0
+IsAllowed address n places = (page : ℕ) → IsInRange page address n → heap_at ≤ 4096 * page
+    → 4096 * page < heap_at + bytes_of classes (reach_of places).peaks
+
+-- one more place
+pub keeps_more : (state : MemoryState) (of pairs : Pairs) (before : ℕ) (gone : List Place) (stands : Stands state of before gone)
+    → KeepsTo state stands.store of before (gone ++ At pairs ∷ [])
+keeps_more state of pairs before gone stands = record {
+  stands = stands.stands;
+  within = subst (KeepsWithin state stands.store) (sym (reach_of-more gone (At pairs)))
+      (KeepsWithin-more state stands.store (reach_of gone) pairs stands.within);
+  most = (Stands-more state of pairs before gone stands).most;
+}
+
+-- that place counts its pairs
+pub counted_behind : (state : MemoryState) (of pairs : Pairs) (before : ℕ) (gone : List Place) → Stands state of before gone
+    → AllZip (λ c p. count_of pairs c ≤ p) classes (reach_of (gone ++ At pairs ∷ [])).peaks
+counted_behind state of pairs before gone stands =
+    subst (λ (r : Reach). AllZip (λ c p. count_of pairs c ≤ p) classes r.peaks) (sym (reach_of-more gone (At pairs)))
+    (place_counted state stands.store (reach_of gone) pairs stands.within)
+
+pub stands_by : (state : MemoryState) (store : Store) (of : Pairs) (before : ℕ) (places : List Place) → KeepsTo state store of before places
+    → Stands state of before places
+stands_by state store of before places keeps =
+    record { store = store; stands = keeps.stands; within = keeps.within; most = keeps.most }
+
+within_pages : (old new : MemoryState) (store : Store) (places : List Place)
+    → ((page : ℕ) → IsSome (get new.mem.present page) → IsSome (get old.mem.present page)
+    ⊎ (heap_at ≤ 4096 * page → 4096 * page < heap_at + bytes_of classes (reach_of places).peaks))
+    → KeepsWithin old store (reach_of places) → KeepsWithin new store (reach_of places)
+within_pages old new store places from within = record {
+  blocks = within.blocks;
+  pages = λ page there up. elim (from page there) [ | inl before ↦ within.pages page before up | inr allowed ↦ allowed up ];
+  buckets = within.buckets;
+}
+
+-- a touch that was made
+pub keeps_touched : (old new : MemoryState) (address n : ℕ) (store : Store) (of : Pairs) (before : ℕ) (places : List Place) → IsMemory new
+    → MakesPresent old new address n → IsAllowed address n places → KeepsTo old store of before places → KeepsTo new store of before places
+keeps_touched old new address n store of before places sound makes allowed keeps =
+    let is : IsStore new.mem store of = store_alike old.mem new.mem store of (alike_present old new address n makes) keeps.stands in
+    let within : KeepsWithin new store (reach_of places) = within_pages old new store places
+    (λ page there. elim (touched_page old.mem address n page (subst (λ m. IsSome (get m.present page)) makes.mem there)) [
+      | inl before ↦ inl before
+      | inr inside ↦ inr (allowed page inside)
+    ]) keeps.within in
+    let own = own_of-bound new store of places sound.flat is within in
+    let same : own_of new.mem ≡ own_of (touched old.mem address n) = ap own_of makes.mem in
+    record { stands = is; within = within; most = omega (arith, makes.most, keeps.most, own, same) }
+
+-- a touch that was refused
+pub keeps_lacking : (old new : MemoryState) (address n at : ℕ) (store : Store) (of : Pairs) (before : ℕ) (places : List Place)
+    → IsMemory old → LacksPage old new address n at → IsOfStore old.mem address n → IsAllowed address n places
+    → KeepsTo old store of before places → KeepsTo new store of before places
+keeps_lacking old new address n at store of before places sound lacks is_of allowed keeps =
+    let then : MemoryState = record old { mem = touched old.mem address n } in
+    let is : IsStore then.mem store of = store_alike old.mem then.mem store of (alike_touched old.mem address n) keeps.stands in
+    let within : KeepsWithin then store (reach_of places) = within_pages old then store places
+    (λ page there. elim (touched_page old.mem address n page there) [
+      | inl before ↦ inl before
+      | inr inside ↦ inr (allowed page inside)
+    ]) keeps.within in
+    let own = own_of-bound then store of places (flat_touched old.mem address n sound.flat is_of) is within in
+    record {
+      stands = subst (λ m. IsStore m store of) (sym lacks.mem) keeps.stands;
+      within = within_pages old new store places (λ page there. inl (subst (λ m. IsSome (get m.present page)) lacks.mem there)) keeps.within;
+      most = omega (arith, lacks.most, keeps.most, own);
+    }
+
+-- a touch of pages that were present
+pub keeps_ready : (old new : MemoryState) (address n : ℕ) (store : Store) (of : Pairs) (before : ℕ) (places : List Place)
+    → MakesReady old new address n → KeepsTo old store of before places → KeepsTo new store of before places
+keeps_ready old new address n store of before places makes keeps = record {
+  stands = subst (λ m. IsStore m store of) (sym makes.mem) keeps.stands;
+  within = within_pages old new store places (λ page there. inl (subst (λ m. IsSome (get m.present page)) makes.mem there)) keeps.within;
+  most = omega (arith, makes.most, keeps.most);
+}
+
+-- stores that make another store of it
+pub keeps_stored : (old new : MemoryState) (store then : Store) (of to : Pairs) (before : ℕ) (places : List Place)
+    → ((page : ℕ) → IsSome (get new.mem.present page) → IsSome (get old.mem.present page)) → new.most ≡ old.most
+    → IsStore new.mem then to → AllZip (λ c p. blocks_in then.heap c ≤ p) classes (reach_of places).peaks
+    → length then.table.chains ≡ length store.table.chains
+    → KeepsTo old store of before places → KeepsTo new then to before places
+keeps_stored old new store then of to before places pages most is blocks as_many keeps = record {
+  stands = is;
+  within = record {
+    blocks = blocks;
+    pages = λ page there up. keeps.within.pages page (pages page there) up;
+    buckets = elim keeps.within.buckets [
+      | inl first ↦ inl (omega (arith, first, as_many))
+      | inr few ↦ inr (omega (arith, few, as_many))
+    ];
+  };
+  most = omega (arith, most, keeps.most);
+}
+
+-- a range below the heap is allowed always
+pub allowed_below : (address n : ℕ) (places : List Place) → address + n ≤ heap_at → IsAllowed address n places
+allowed_below address n places low page inside up =
+    let meets = meets_range address n page inside in absurd (omega (arith, low, meets.1, up))
+
+-- and one in a block that ends within those bytes
+pub allowed_block : (address n end : ℕ) (places : List Place) → address + n ≤ end
+    → end ≤ heap_at + bytes_of classes (reach_of places).peaks → IsAllowed address n places
+allowed_block address n end places low high page inside up =
+    let meets = meets_range address n page inside in omega (arith, low, high, meets.1)

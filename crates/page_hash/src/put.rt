@@ -32,7 +32,9 @@ fn put_in_place<M: Memory>(
     ensures went { M.went m.old m.new }
 {
     let size = HEAD + key.len() + value.len();
-    touch_range(m, located.at, size as u64)?;
+    if let Err(refused) = touch_range(m, located.at, size as u64) {
+        return Err(refused);
+    }
     store_value(m, located.at, located.length, key.len() as u32, value);
     Ok(())
 }
