@@ -25,7 +25,7 @@ pub fn list_field_of(class: u8) -> u64
     HEADER + 8 + 8 * (class as u64 - 5)
 }
 
-// The least class whose blocks hold so many bytes.
+/// The least class whose blocks hold so many bytes.
 pub fn class_for(size: u32) -> u8
     requires { size ≤ 2097152 }
     ensures least { result ≡ class_of size }

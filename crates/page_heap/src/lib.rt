@@ -13,4 +13,5 @@ mod words;
 
 pub use begin::init;
 pub use blocks::{commit, free, plan};
+pub use layout::class_for;
 pub use planned::Plan;

@@ -1,17 +1,19 @@
 -- Which ranges of a memory lie beside a heap and beside a table's entries, so that a store to them leaves the rest.
 use Rattle.std.proofs.Common.{◌≡◌, ℕ, ◌+◌, ◌^◌, ◌≤◌, ◌⊎◌, ◌*◌, length, length-append, Bool, true, eqb, ◌&&◌, List, [], ◌∷◌, ◌++◌, map, refl, sym, ◌∙◌, ap, ap₂, subst, arith, inl, inr, IsPermutation, Contains, Decides}
+use Rattle.std.specs.Prelude.{◌==◌, if◌then◌else◌}
 use Rattle.std.specs.List.{AllByRecursion, flat_map}
-use Rattle.std.proofs.lemmas.Bool.{cases_eq, eq-eqb, ne_eqb, and_parts, false≢true}
+use Rattle.std.proofs.lemmas.Bool.{cases_eq, cond-true, cond-false, eq-eqb, ne_eqb, and_parts, false≢true}
 use Rattle.std.proofs.lemmas.List.Elements.{recursion_from_All}
-use Rattle.std.proofs.lemmas.List.Sorted.{IsPermutation-sym, IsPermutation-trans, IsPermutation-map, Contains-permutation}
+use Rattle.std.proofs.lemmas.List.Sorted.{IsPermutation-sym, IsPermutation-trans, IsPermutation-middle, IsPermutation-append_left, IsPermutation-append_right, IsPermutation-map, sum_by-IsPermutation, Contains-permutation}
 use Rattle.byteorder.specs.Endian.{big_number}
 use Rattle.vm_base.specs.FlatMemory.{FlatMemory}
 use Rattle.vm_base.specs.FlatLaws.{AreApart}
 use Rattle.store_meaning.specs.Layout.{header_at, heap_at, top_field, list_field, classes, word_at}
-use Rattle.store_meaning.specs.HeapLayout.{Block, Heap, IsHeap, block_bytes, free_of, without_block, first_or_top, next_at, with_next, committed, freed}
+use Rattle.store_meaning.specs.HeapLayout.{Block, Heap, IsHeap, blocks_of, block_bytes, free_of, without_block, first_or_top, next_at, with_next, committed, freed}
 use Rattle.store_meaning.specs.HashLayout.{Entry, Store, Pairs, Holds, IsStore, pair_size, entry_block, entries_of}
+use Rattle.store_meaning.specs.Standing.{blocks_in}
 use Rattle.store_meaning.specs.Owned.{Range, ArePairwiseApart}
-use Rattle.store_meaning.proofs.Lists.{all_mono, all_left, all_right, all_map, all_among, all_contained, all_permuted, class_within}
+use Rattle.store_meaning.proofs.Lists.{all_mono, all_left, all_right, all_map, all_among, all_contained, all_permuted, flat_map-more, class_within}
 use Rattle.store_meaning.proofs.Blocks.{LiesIn, fill_rises}
 use Rattle.store_meaning.proofs.Apart.{IsApartFrom}
 use Rattle.store_meaning.proofs.HeapUse.{others_apart}
@@ -302,3 +304,31 @@ next_used heap class (at ∷ free) = refl
 pub committed_used : (heap : Heap) (class : ℕ)
     → (committed heap class).used ≡ record { at = next_at heap class; class = class } ∷ heap.used
 committed_used heap class = next_used heap class (heap.free class)
+
+-- ---- what a heap and a reach count
+
+-- giving a block back leaves the blocks that there are
+pub freed_blocks : (memory : FlatMemory) (heap : Heap) (block : Block) → IsHeap memory heap → Contains heap.used block
+    → Contains classes block.class → IsPermutation (blocks_of heap) (blocks_of (freed heap block.at block.class))
+freed_blocks memory heap block is used in_classes =
+    let left = without_block block.at heap.used in
+    let free = flat_map (free_of heap) classes in
+    let after = flat_map (free_of (freed heap block.at block.class)) classes in
+    let size = class_within block.class in_classes in
+    let behind : IsPermutation (block ∷ free) after =
+    flat_map-more (free_of (freed heap block.at block.class)) (free_of heap) block 17 5 block.class size.0 (omega (arith, size.1))
+    (ap (map (λ a. record { at = a; class = block.class }))
+    (cond-true (eqb block.class block.class) (block.at ∷ heap.free block.class) (heap.free block.class)
+    (eq-eqb block.class block.class refl)))
+    (λ q other. ap (map (λ a. record { at = a; class = q }))
+    (cond-false (eqb q block.class) (block.at ∷ heap.free block.class) (heap.free q) (ne_eqb q block.class other))) in
+    IsPermutation-trans _ _ _ (IsPermutation-append_left free heap.used (block ∷ left) (used_front memory heap block is used))
+    (IsPermutation-trans _ _ _ (IsPermutation-sym _ _ (IsPermutation-middle left block free))
+    (IsPermutation-append_right left (block ∷ free) after behind))
+
+-- so no class has more of them
+pub freed_count : (memory : FlatMemory) (heap : Heap) (block : Block) (class : ℕ) → IsHeap memory heap → Contains heap.used block
+    → Contains classes block.class → blocks_in (freed heap block.at block.class) class ≡ blocks_in heap class
+freed_count memory heap block class is used in_classes =
+    sum_by-IsPermutation (λ (b : Block). if b.class == class then 1 else 0) (blocks_of heap) (blocks_of (freed heap block.at block.class))
+    (freed_blocks memory heap block is used in_classes)
