@@ -19,3 +19,5 @@ pub mod BlockLinks
 pub mod StoreParts
 pub mod PutAnswers
 pub mod PlacedInPlace
+pub mod NewParts
+pub mod StoreRanges

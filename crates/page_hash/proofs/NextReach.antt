@@ -114,7 +114,7 @@ weigh_blocks (block ∷ blocks) classed =
     (omega (arith, within.1)) (in_class-here block blocks) (λ q apart. in_class-apart q block blocks apart)
     ∙ ap (λ x. block_bytes block + x) (weigh_blocks blocks classed.1)
 
-fill_bytes : (from to : ℕ) (blocks : List Block) → Fill from blocks to → to ≡ from + all_bytes blocks
+pub fill_bytes : (from to : ℕ) (blocks : List Block) → Fill from blocks to → to ≡ from + all_bytes blocks
 fill_bytes from to [] fill = omega (arith, fill)
 fill_bytes from to (block ∷ blocks) fill =
     let rest = fill_bytes (from + block_bytes block) to blocks fill.1 in omega (arith, rest)

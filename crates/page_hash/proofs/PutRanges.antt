@@ -123,10 +123,10 @@ bucket_range memory store of bucket is inside =
       ];
     }
 
--- a part of a range may be stored to where the range may
-pub ready_part : (state : MemoryState) (address size other n : ℕ) → address ≤ other → other + n ≤ address + size
-    → IsReady state address size → IsReady state other n
-ready_part state address size other n low high ready page inside =
+-- a page of a part is one of the range
+pub range_part : (address size other n page : ℕ) → address ≤ other → other + n ≤ address + size → IsInRange page other n
+    → IsInRange page address size
+range_part address size other n page low high inside =
     let meets = meets_range other n page inside in
     let some : 0 < size = elim (cases_eq n 0) [
       | inl none ↦
@@ -134,4 +134,9 @@ ready_part state address size other n low high ready page inside =
           absurd (omega (arith, inside.0, inside.1, count))
       | inr more ↦ omega (arith, more, low, high)
     ] in
-    ready page (in_range address size page some (omega (arith, low, meets.0)) (omega (arith, high, meets.1)))
+    in_range address size page some (omega (arith, low, meets.0)) (omega (arith, high, meets.1))
+
+-- a part of a range may be stored to where the range may
+pub ready_part : (state : MemoryState) (address size other n : ℕ) → address ≤ other → other + n ≤ address + size
+    → IsReady state address size → IsReady state other n
+ready_part state address size other n low high ready page inside = ready page (range_part address size other n page low high inside)

@@ -14,7 +14,7 @@ use Rattle.vm_base.proofs.FlatLaws.{bytes_at-with_bytes, bytes_at-with_bytes_apa
 use Rattle.store_meaning.specs.Layout.{number_at, word_at}
 use Rattle.store_meaning.proofs.HeapSteps.{KeepsPages}
 use Rattle.page_hash.specs.PairStores.{length_stored, value_stored}
-use Rattle.page_hash.proofs.PutRanges.{ready_part}
+use Rattle.page_hash.proofs.PutRanges.{ready_part, range_part}
 
 -- only bytes of this range may be others, and the same pages are present
 pub record StoresIn (old new : FlatMemory) (address n : ℕ) : Type 0 where
@@ -72,6 +72,11 @@ stores_on one two three address n first second = record {
   pages = λ page. second.pages page ∙ first.pages page;
   full = λ page. second.full page ∙ first.full page;
 }
+
+-- a part of full pages
+pub full_part : (memory : FlatMemory) (address size other n : ℕ) → address ≤ other → other + n ≤ address + size
+    → AreFullPages memory.present address size → AreFullPages memory.present other n
+full_part memory address size other n low high full page inside = full page (range_part address size other n page low high inside)
 
 pub full_then : (old new : FlatMemory) (address n other size : ℕ) → StoresIn old new address n → AreFullPages old.present other size
     → AreFullPages new.present other size
