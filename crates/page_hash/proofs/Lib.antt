@@ -21,3 +21,5 @@ pub mod PutAnswers
 pub mod PlacedInPlace
 pub mod NewParts
 pub mod StoreRanges
+pub mod NewSteps
+pub mod PlacedNew

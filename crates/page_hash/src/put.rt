@@ -1,17 +1,25 @@
 //! Setting a pair.
-ghost use Rattle.std.specs.Prelude.{◌≡◌, ◌+◌, ◌≤◌, length, OnOk, IfErr, Some};
+ghost use Rattle.std.specs.Prelude.{◌≡◌, ◌^◌, ◌<◌, [], OnOk, IfErr};
 ghost use Rattle.vm_base.specs.MemoryState.{IsKept};
 ghost use Rattle.store_meaning.specs.Layout.{store_cells};
-ghost use Rattle.store_meaning.specs.HashLayout.{Pairs, Store, IsStore, pair_class, pair_size};
+ghost use Rattle.store_meaning.specs.HashLayout.{Pairs, Store, IsStore, pair_size};
 ghost use Rattle.store_meaning.specs.Standing.{IsStanding};
-ghost use Rattle.page_hash.specs.Walks.{IsSearch};
-ghost use Rattle.page_hash.specs.Puts.{FitsPair, Places, PlaceFails, IsFoundInPlace};
+ghost use Rattle.page_heap.specs.HeapCalls.{IsPlanned};
+ghost use Rattle.page_hash.specs.Puts.{FitsPair, Places, PlaceFails, IsFoundInPlace, LacksKey, IsReadyForNew, new_stored};
 
 use crate::chain::Located;
-use crate::layout::HEAD;
-use crate::pair_stores::store_value;
-use crate::touching::touch_range;
+use crate::layout::{HEAD, PAIRS_FIELD};
+use crate::pair_stores::{store_pair, store_value};
+use crate::search::Search;
+use crate::touching::{touch_present, touch_range};
+use crate::words::store_word;
+use page_heap::{Plan, commit, plan};
 use vm_base::{Memory, Refused};
+
+// The header's address, and its bytes.
+const HEADER: u64 = 2_097_152;
+
+const HEADER_SIZE: u64 = 4096;
 
 // Sets the value of a pair whose block has the class already.
 fn put_in_place<M: Memory>(
@@ -37,4 +45,54 @@ fn put_in_place<M: Memory>(
     }
     store_value(m, located.at, located.length, key.len() as u32, value);
     Ok(())
+}
+
+// Puts a pair of a new key in front of its chain.
+fn put_new<M: Memory>(
+    m: &mut M,
+    search: &Search,
+    key: &[u8],
+    value: &[u8],
+) -> Result<(), Refused>
+    requires stands { IsStanding (M.state m.old) }
+    requires fits { FitsPair key.now value.now }
+    requires lacks { (store : Store) (pairs : Pairs) → IsStore (M.state m.old).mem store pairs
+        → LacksKey (M.state m.old).mem store key.now search.now }
+    ensures put { OnOk result (Places (M.state m.old) (M.state m.new) key.now value.now) }
+    ensures refused { IfErr result (λ refused.
+        PlaceFails (M.state m.old) (M.state m.new) key.now value.now refused.at) }
+    ensures keeps { IsKept (M.state m.old) (M.state m.new) store_cells }
+    ensures aside { M.aside m.new ≡ M.aside m.old }
+    ensures went { M.went m.old m.new }
+{
+    let size = HEAD + key.len() + value.len();
+    let plan = plan(m, size as u32);
+    if let Err(refused) = touch_range(m, plan.addr, size as u64) {
+        return Err(refused);
+    }
+    if let Err(refused) = touch_range(m, search.bucket, 8) {
+        return Err(refused);
+    }
+    touch_present(m, HEADER, HEADER_SIZE);
+    store_new(m, &plan, search, key, value);
+    Ok(())
+}
+
+// Takes the block of a plan, stores a pair there, and makes it the first one of its bucket.
+fn store_new<M: Memory>(m: &mut M, plan: &Plan, search: &Search, key: &[u8], value: &[u8])
+    requires planned { IsPlanned (M.state m.old) plan.now }
+    requires fits { FitsPair key.now value.now }
+    requires ready { IsReadyForNew (M.state m.old) plan.now search.now.bucket
+        (pair_size key.now value.now) }
+    requires count { search.now.head.pairs < 2 ^ 48 }
+    ensures stored { M.state m.new
+        ≡ new_stored (M.state m.old) plan.now search.now key.now value.now }
+    ensures keeps { IsKept (M.state m.old) (M.state m.new) [] }
+    ensures aside { M.aside m.new ≡ M.aside m.old }
+    ensures went { M.went m.old m.new }
+{
+    commit(m, plan);
+    store_pair(m, plan.addr, search.first, key, value);
+    store_word(m, search.bucket, plan.addr);
+    store_word(m, PAIRS_FIELD, search.head.pairs + 1);
 }
