@@ -10,7 +10,7 @@ use Rattle.std.proofs.lemmas.List.Sorted.{length_permutation}
 use Rattle.byteorder.specs.Endian.{big_bytes, big_number}
 use Rattle.vm_base.specs.FlatMemory.{FlatMemory, bytes_at}
 use Rattle.vm_base.specs.FlatLaws.{AreApart, AreFullPages}
-use Rattle.vm_base.specs.MemoryState.{MemoryState, IsMemory}
+use Rattle.vm_base.specs.MemoryState.{MemoryState, IsMemory, IsIn}
 use Rattle.vm_base.specs.MemoryCalls.{IsReady, after_store}
 use Rattle.vm_base.proofs.FlatLaws.{bytes_at-with_bytes, full_from_ready}
 use Rattle.vm_base.proofs.FlatPages.{with_bytes-append}
@@ -242,3 +242,7 @@ half_from (suc n) first size more low end some few = elim (cases_Bool (nat_le si
 -- a size is at least half of the block of its class
 pub class_half : (size : ℕ) → 16 ≤ size → size ≤ 2097152 → 2 ^ (class_of size - 1) ≤ size
 class_half size some few = half_from 17 5 size (inl refl) (omega arith) refl some few
+
+-- what may be stored to, where the pages that may be are the same
+pub ready_same : (old new : MemoryState) (address n : ℕ) → new.ready ≡ old.ready → IsReady old address n → IsReady new address n
+ready_same old new address n same ready page inside = subst (IsIn page) (sym same) (ready page inside)

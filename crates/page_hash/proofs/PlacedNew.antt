@@ -1,5 +1,5 @@
 -- A put of a new key: what its touches and its stores leave.
-use Rattle.std.proofs.Common.{◌≡◌, ℕ, suc, ◌+◌, ◌-◌, ◌*◌, ◌^◌, ◌<◌, ◌≤◌, ◌⊎◌, List, [], ◌∷◌, ◌++◌, length, IsSome, is_some, refl, sym, ◌∙◌, ap, subst, arith, inl, inr, Contains}
+use Rattle.std.proofs.Common.{◌≡◌, ℕ, suc, ◌+◌, ◌-◌, ◌*◌, ◌^◌, ◌<◌, ◌≤◌, ◌⊎◌, List, [], ◌∷◌, ◌++◌, length, map, IsSome, is_some, refl, sym, ◌∙◌, ap, subst, arith, inl, inr, Contains}
 use Rattle.std.specs.Prelude.{IsNone, None}
 use Rattle.std.specs.Option.{option_map}
 use Rattle.std.specs.FinMap.{get, insert, entries}
@@ -14,10 +14,13 @@ use Rattle.vm_base.specs.MemoryCalls.{IsInRange, IsReady, after_store}
 use Rattle.vm_base.proofs.FlatLaws.{full_from_ready}
 use Rattle.store_meaning.specs.Layout.{classes, class_of, header_at, heap_at, heap_end, pairs_field, store_cells, word_at}
 use Rattle.store_meaning.specs.HeapLayout.{Heap, IsHeap, ArePresent, next_at, committed}
-use Rattle.store_meaning.specs.HashLayout.{Entry, Store, Pairs, IsStore, pair_size, pair_class, entries_of}
+use Rattle.store_meaning.specs.HashLayout.{Entry, Store, Pairs, IsStore, pair_size, pair_class, entry_block, entries_of, chain_of}
 use Rattle.store_meaning.specs.StoreSteps.{bucket_of, entry_for, put_by, put_in, with_new}
 use Rattle.store_meaning.specs.Reach.{Place, At, reach_of, count_of}
 use Rattle.store_meaning.specs.Standing.{Stands, MayHoldStore, blocks_in}
+use Rattle.store_meaning.proofs.Lists.{all_mono, all_left, all_map, map_all, all_permuted}
+use Rattle.store_meaning.proofs.Blocks.{LiesIn}
+use Rattle.store_meaning.proofs.HeapSteps.{blocks_within, first_small}
 use Rattle.store_meaning.proofs.OwnedApart.{class_of-holds}
 use Rattle.page_heap.specs.declared.planned.Plan.{Plan}
 use Rattle.page_heap.specs.HeapCalls.{IsPlanned, block_plan, plan_for, commit_store}
@@ -27,7 +30,7 @@ use Rattle.page_hash.specs.PairStores.{pair_bytes}
 use Rattle.page_hash.specs.Touching.{IsOfStore, MakesPresent, LacksPage, MakesReady}
 use Rattle.page_hash.specs.Walks.{bucket_at, IsSearch}
 use Rattle.page_hash.specs.Puts.{FitsPair, PutIsPresent, AddsOnly, MeetsBlock, MeetsPlace, Places, PlaceFails, LacksKey, IsReadyForNew, new_stored, put_at}
-use Rattle.page_hash.proofs.MapEntries.{get_entry}
+use Rattle.page_hash.proofs.MapEntries.{get_entry, chain_part}
 use Rattle.page_hash.proofs.NextReach.{bytes_of, committed_within, next_within, count_new}
 use Rattle.page_hash.proofs.StoreChanges.{bucket_inside}
 use Rattle.page_hash.proofs.PutRanges.{heap_range, header_range, bucket_range, ready_part}
@@ -81,7 +84,7 @@ may_kept old new may keeps = record {
 }
 
 -- the key has one more pair of the class behind the put
-more_new : (memory : FlatMemory) (store : Store) (of : Pairs) (key value : List ℕ) → IsStore memory store of → entry_for store key ≡ None
+pub more_new : (memory : FlatMemory) (store : Store) (of : Pairs) (key value : List ℕ) → IsStore memory store of → entry_for store key ≡ None
     → count_of (insert of key value) (pair_class key value) ≡ suc (count_of of (pair_class key value))
 more_new memory store of key value is none =
     count_new of key value (entries of) (get_entry memory store of key is ∙ ap (option_map (λ (e : Entry). e.value)) none)
@@ -156,7 +159,7 @@ adds_first old one key value plan planned makes place store of is page there abs
     ]
 
 -- where no entry was found the pair goes into the next block
-place_new : (store : Store) (key value : List ℕ) → entry_for store key ≡ None
+pub place_new : (store : Store) (key value : List ℕ) → entry_for store key ≡ None
     → put_at store key value (entry_for store key) ≡ next_at store.heap (pair_class key value)
 place_new store key value none = ap (put_at store key value) none
 
@@ -352,3 +355,46 @@ placed_new old one two ready new m1 m2 m3 key value plan search sound_one sound_
             (λ s o i. place_new s key value (searched s o i).none) store of is page first absent)
         | inr inside ↦ inr (subst (λ b. IsInRange page b 8) (searched store of is).is.bucket inside)
       ])
+
+-- the first word of a chain is small
+pub first_low : (memory : FlatMemory) (store : Store) (of : Pairs) (key : List ℕ) → IsStore memory store of
+    → word_at memory (bucket_at store.table key) < 2 ^ 64
+first_low memory store of key is =
+    let Lies : Entry → Type 0 = λ e. LiesIn heap_at store.heap.top (entry_block e) in
+    let Small : Entry → Type 0 = λ e. e.at < 2 ^ 64 in
+    let bucket = bucket_of store.table key in
+    let lies = all_map (LiesIn heap_at store.heap.top) entry_block (entries_of store.table)
+    (all_permuted (LiesIn heap_at store.heap.top) store.heap.used (map entry_block (entries_of store.table)) is.used
+    (all_left (LiesIn heap_at store.heap.top) store.heap.used _ (blocks_within memory store.heap is.heap))) in
+    let small = all_mono Lies Small (entries_of store.table) (λ e lie. omega (arith, lie.1, is.heap.within)) lies in
+    first_small memory (bucket_at store.table key) (2 ^ 64) (map (λ (e : Entry). e.at) (chain_of store.table bucket)) (omega arith)
+    (is.table.linked bucket (bucket_inside memory store of key is))
+    (map_all (λ at. at < 2 ^ 64) (λ (e : Entry). e.at) (chain_of store.table bucket) (chain_part Small store.table.chains bucket small))
+
+-- there are not too many pairs to count one more
+pub pairs_few : (memory : FlatMemory) (store : Store) (of : Pairs) (key : List ℕ) (search : Search) → IsStore memory store of
+    → LacksKey memory store key search → search.head.pairs < 2 ^ 48
+pairs_few memory store of key search is lack = omega (arith, lack.is.head.pairs, entries_few memory store of is)
+
+-- the put of a new key, all in all
+pub made_new : (old one two ready : MemoryState) (store : Store) (of : Pairs) (key value : List ℕ) (plan : Plan) (search : Search)
+    → IsMemory one → IsMemory two → IsMemory ready → MayHoldStore ready → FitsPair key value → IsStore old.mem store of
+    → IsPlanOf old.mem plan (pair_size key value)
+    → NewTouches old one two ready plan search.bucket (16 + length key + length value)
+    → ((store : Store) (of : Pairs) → IsStore old.mem store of → LacksKey old.mem store key search)
+    → Places old (new_stored ready plan search key value) key value
+made_new old one two ready store of key value plan search sound_one sound_two sound may fits is planned touches searched =
+    let size = pair_size key value in
+    let lack = searched store of is in
+    let low = bucket_between old.mem store of key is in
+    let at = plan_is old.mem store of plan size is planned in
+    let in_classes : Contains classes plan.class = subst (Contains classes) (sym at.1) (class_is_listed size) in
+    let is_ready = ready_new old one two ready store of key value plan search.bucket touches fits is planned
+    (omega (arith, lack.is.bucket, low.1)) in
+    let first = first_low old.mem store of key is in
+    let same : search.first ≡ word_at old.mem (bucket_at store.table key) = lack.is.first ∙ ap (word_at old.mem) lack.is.bucket in
+    placed_new old one two ready (new_stored ready plan search key value) _ _ _ key value plan search sound_one sound_two fits planned touches
+    (new_stores ready plan search key value sound fits in_classes is_ready (omega (arith, planned.within.1)) (omega (arith, first, same))
+    (pairs_few old.mem store of key search is lack))
+    (λ heap is_heap given. commits ready heap plan sound may.room is_heap in_classes given is_ready.header is_ready.half)
+    (commit_ready ready plan).1 searched
