@@ -1,5 +1,5 @@
 -- Numbers and bytes in the front of a block that was read into a longer buffer.
-use Rattle.std.proofs.Common.{◌≡◌, ℕ, ◌+◌, ◌<◌, ◌≤◌, List, [], ◌∷◌, ◌++◌, length, take, drop, map, get_or, sym, ◌∙◌, ap, arith, eqb, refl, Bool, true, false}
+use Rattle.std.proofs.Common.{◌≡◌, ℕ, ◌+◌, ◌<◌, ◌≤◌, List, [], ◌∷◌, ◌++◌, length, take, drop, get_or, sym, ◌∙◌, ap, arith, eqb, refl, true, false}
 use Rattle.std.specs.Str.{bytes_eq}
 use Rattle.std.specs.Prelude.{◌&&◌}
 use Rattle.std.proofs.lemmas.List.{same_lists, length-take-le, length-drop, get_or-take, get_or-drop}
@@ -37,7 +37,8 @@ pub bytes_eq-append : (xs us ys vs : List ℕ) → length xs ≡ length us
 bytes_eq-append [] [] ys vs same = refl
 bytes_eq-append [] (u ∷ us) ys vs same = absurd (omega (arith, same))
 bytes_eq-append (x ∷ xs) [] ys vs same = absurd (omega (arith, same))
-bytes_eq-append (x ∷ xs) (u ∷ us) ys vs same = elim (eqb x u) as (λ b. (b && bytes_eq (xs ++ ys) (us ++ vs)) ≡ ((b && bytes_eq xs us) && bytes_eq ys vs)) [
-  | true ↦ bytes_eq-append xs us ys vs (omega (arith, same))
-  | false ↦ refl
-]
+bytes_eq-append (x ∷ xs) (u ∷ us) ys vs same = elim (eqb x u)
+    as (λ b. (b && bytes_eq (xs ++ ys) (us ++ vs)) ≡ ((b && bytes_eq xs us) && bytes_eq ys vs)) [
+      | true ↦ bytes_eq-append xs us ys vs (omega (arith, same))
+      | false ↦ refl
+    ]

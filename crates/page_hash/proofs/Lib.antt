@@ -4,7 +4,11 @@ pub mod MapEntries
 pub mod MapSteps
 pub mod StoreChanges
 pub mod ChainSteps
+pub mod Filled
 pub mod FrontReads
+pub mod Fronts
+pub mod FrozenReads
+pub mod Pieces
 pub mod WalkLemmas
 pub mod Touched
 pub mod StoredPairs
@@ -23,3 +27,5 @@ pub mod NewParts
 pub mod StoreRanges
 pub mod NewSteps
 pub mod PlacedNew
+pub mod Unlinking
+pub mod Searching

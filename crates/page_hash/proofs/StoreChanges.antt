@@ -87,7 +87,8 @@ set_here : (before : List (List Entry)) (one two : List Entry) (behind : List (L
 set_here [] one two behind = refl
 set_here (first ∷ before) one two behind = ap (λ l. first ∷ l) (set_here before one two behind)
 
-read_here : (before : List (List Entry)) (one : List Entry) (behind : List (List Entry))
+-- the chain between them is read at its place
+pub read_here : (before : List (List Entry)) (one : List Entry) (behind : List (List Entry))
     → get_or (before ++ one ∷ behind) (length before) [] ≡ one
 read_here [] one behind = refl
 read_here (first ∷ before) one behind = read_here before one behind

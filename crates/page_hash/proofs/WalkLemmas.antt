@@ -1,5 +1,5 @@
 -- Chains of a store, from a bucket's word on.
-use Rattle.std.proofs.Common.{◌≡◌, ℕ, zero, suc, ◌+◌, ◌*◌, ◌^◌, ◌<◌, ◌≤◌, Bool, true, false, List, [], ◌∷◌, length, map, Option, Some, None, refl, sym, ◌∙◌, ap, subst, arith, inl, inr}
+use Rattle.std.proofs.Common.{◌≡◌, ℕ, zero, suc, ◌+◌, ◌*◌, ◌^◌, ◌<◌, ◌≤◌, true, List, [], ◌∷◌, length, map, Option, Some, None, refl, sym, ◌∙◌, ap, subst, arith, inl, inr}
 use Rattle.std.specs.Prelude.{nat_le, unwrap_or}
 use Rattle.std.specs.Option.{option_map}
 use Rattle.std.specs.List.{AllByRecursion, find, range_with_len}
@@ -8,16 +8,17 @@ use Rattle.std.proofs.lemmas.Bool.{cases_Bool, cond-true, cond-false}
 use Rattle.std.proofs.lemmas.Bool.Decides.{nat_tests}
 use Rattle.std.proofs.lemmas.List.Elements.{recursion_from_All}
 use Rattle.vm_base.specs.FlatMemory.{FlatMemory, bytes_at}
-use Rattle.store_meaning.specs.Layout.{classes, class_of, heap_at, heap_end, pairs_field, word_at}
-use Rattle.store_meaning.specs.HeapLayout.{Block, Links, blocks_of}
+use Rattle.store_meaning.specs.Layout.{heap_at, heap_end, pairs_field, word_at}
+use Rattle.store_meaning.specs.HeapLayout.{Links}
 use Rattle.store_meaning.specs.HashLayout.{Entry, Holds, Store, Pairs, IsStore, pair_size, entry_block, chain_of, entries_of}
-use Rattle.store_meaning.specs.StoreSteps.{bucket_of, entry_in, entry_for}
+use Rattle.store_meaning.specs.StoreSteps.{bucket_of, entry_for}
 use Rattle.store_meaning.proofs.Lists.{all_left, all_map, all_permuted}
 use Rattle.store_meaning.proofs.Blocks.{LiesIn}
 use Rattle.store_meaning.proofs.HeapSteps.{blocks_within}
 use Rattle.page_hash.specs.declared.chain.Located.{Located}
+use Rattle.page_hash.specs.declared.search.Search.{Search}
 use Rattle.page_hash.specs.Lookups.{FoundFor}
-use Rattle.page_hash.specs.Walks.{IsBlockOf, IsChainFrom, HasChain, bucket_at, located_in}
+use Rattle.page_hash.specs.Walks.{IsBlockOf, IsChainFrom, HasChain, IsSearch, bucket_at, located_in}
 use Rattle.page_hash.proofs.ChainSteps.{is_located, entry_in-located, entry_in-lost}
 use Rattle.page_hash.proofs.MapEntries.{chain_part, chain_few, entry_in-some, get_entry}
 
@@ -116,3 +117,10 @@ found_none memory store of key is none =
     get_entry memory store of key is
     ∙ ap (option_map (λ (entry : Entry). entry.value))
     (entry_in-lost (bucket_at store.table key) (chain_of store.table (bucket_of store.table key)) key none)
+
+-- the same where a search told it
+pub searched : (memory : FlatMemory) (store : Store) (key : List ℕ) (search : Search) (located : Option Located)
+    → IsSearch memory store key search → search.located ≡ located
+    → located_in (bucket_at store.table key) (chain_of store.table (bucket_of store.table key)) key ≡ located
+searched memory store key search located is told =
+    sym (ap (λ b. located_in b (chain_of store.table (bucket_of store.table key)) key) is.bucket) ∙ sym is.located ∙ told

@@ -1,4 +1,5 @@
 pub mod HashCalls
+pub mod Listing
 pub mod Lookups
 pub mod Walks
 pub mod Touching
@@ -6,3 +7,4 @@ pub mod PairStores
 pub mod Puts
 pub mod Clears
 pub mod Relinking
+pub mod Removing

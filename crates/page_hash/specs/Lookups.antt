@@ -3,7 +3,8 @@ use Rattle.std.specs.Prelude.{◌≡◌, ⊤, ℕ, List, ◌++◌, length, take,
 use Rattle.vm_base.specs.FlatMemory.{FlatMemory, bytes_at}
 use Rattle.page_hash.specs.declared.found.Found.{Found}
 
--- the answer of a search: where the value of the key stands and how long it is, or that there is none
+-- the answer of a lookup: where the value of the key stands and how long it is, or that there is
+-- none
 abbrev pub FoundFor : FlatMemory → Option Found → Option (List ℕ) → Type 0
 FoundFor memory None None = ⊤
 FoundFor memory None (Some value) = ⊥

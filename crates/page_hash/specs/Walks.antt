@@ -32,10 +32,13 @@ pub record HasChain (memory : FlatMemory) (at most : ℕ) : Type 0 where
 abbrev pub front_of : ℕ → ℕ
 front_of key_length = min (16 + key_length) 272
 
--- the buffer has the front of a block, as much as is read for a key of this length
+-- the buffer has the front of a block: its head, and what fits of a key of this length, if the heap
+-- goes on so far
 pub record IsFrontOf (memory : FlatMemory) (at key_length : ℕ) (front : List ℕ) : Type 0 where
   pub room : length front ≡ 272
-  pub bytes : take (front_of key_length) front ≡ bytes_at memory.present at (front_of key_length)
+  pub head : take 16 front ≡ bytes_at memory.present at 16
+  pub key : at + 16 + key_length ≤ heap_end
+      → take (front_of key_length) front ≡ bytes_at memory.present at (front_of key_length)
 
 -- the length of the value that a block has for the key
 abbrev pub value_seen : Entry → List ℕ → Option ℕ

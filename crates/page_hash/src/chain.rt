@@ -15,7 +15,7 @@ use vm_base::Memory;
 // So much of a block is read at once at most: its head, and 256 bytes of its key.
 const FRONT: usize = 272;
 
-// What a block says: the next one's address, and the value's length where it has the key.
+/// What a block says: the next one's address, and the value's length where it has the key.
 #[derive(Clone, Copy, Debug)]
 pub struct Seen {
     pub next: u64,
@@ -76,18 +76,32 @@ fn look_at<M: Memory>(m: &mut M, at: u64, key: &[u8]) -> Seen
     ensures went { M.went m.old m.new }
 {
     let mut front = [0; FRONT];
-    let size = front_size(at, key.len());
-    read_area(m, at, &mut front[..size]);
+    read_front(m, at, key.len(), &mut front);
     let next = BigEndian::read_u64(&front);
     let key_length = BigEndian::read_u32(&front[8..]);
-    let value_length = BigEndian::read_u32(&front[12..]);
-    if key_length as usize == key.len() && has_key(m, at, &front, key) {
-        return Seen {
-            next,
-            value: Some(value_length),
-        };
+    if key_length as usize != key.len() {
+        return Seen { next, value: None };
     }
-    Seen { next, value: None }
+    let value_length = BigEndian::read_u32(&front[12..]);
+    let has = has_key(m, at, &front, key);
+    Seen {
+        next,
+        value: has.then_some(value_length),
+    }
+}
+
+// Reads the head of a block, and as much of a key as fits behind it.
+fn read_front<M: Memory>(m: &mut M, at: u64, key_length: usize, front: &mut [u8])
+    requires heap { Contains (M.state m.old).mem.areas heap_area }
+    requires within { (heap_at ≤ at) × (at + 16 ≤ heap_end) }
+    requires room { (length front.old ≡ 272) × (key_length ≤ 65536) }
+    ensures front { IsFrontOf (M.state m.old).mem at key_length front.new }
+    ensures same { M.state m.new ≡ M.state m.old }
+    ensures aside { M.aside m.new ≡ M.aside m.old }
+    ensures went { M.went m.old m.new }
+{
+    let size = front_size(at, key_length);
+    read_area(m, at, &mut front[..size]);
 }
 
 // How much of a block is read at once: no more than stands in front of the heap's end.
