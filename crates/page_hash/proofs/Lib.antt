@@ -29,3 +29,4 @@ pub mod NewSteps
 pub mod PlacedNew
 pub mod Unlinking
 pub mod Searching
+pub mod MovedSteps

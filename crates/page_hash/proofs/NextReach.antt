@@ -149,7 +149,7 @@ top_within memory heap ps is all =
 -- ---- the blocks behind a take and behind a giving back
 
 -- the free blocks of a class from the first one on
-free_front : (heap : Heap) (class at : ℕ) (free : List ℕ) → Contains classes class → heap.free class ≡ at ∷ free
+pub free_front : (heap : Heap) (class at : ℕ) (free : List ℕ) → Contains classes class → heap.free class ≡ at ∷ free
     → IsPermutation (record { at = at; class = class } ∷ flat_map (free_of (with_next heap class (at ∷ free))) classes)
     (flat_map (free_of heap) classes)
 free_front heap class at free in_classes front =

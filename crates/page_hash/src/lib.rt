@@ -20,7 +20,6 @@ mod touching;
 mod words;
 
 pub use clearing::clear;
-pub use found::Found;
 pub use found::{Found, PairsFault};
 pub use lookups::{find, get, len, value};
 pub use opening::begin;

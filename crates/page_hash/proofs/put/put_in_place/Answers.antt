@@ -5,6 +5,7 @@ use Rattle.page_hash.proofs.PlacedInPlace.{range_in_place, placed_in_place, fail
 use Rattle.page_hash.proofs.NewParts.{holds_pair}
 use Rattle.page_hash.proofs.NewSteps.{new_makes}
 use Rattle.page_hash.proofs.PlacedNew.{alike_new}
+use Rattle.page_hash.proofs.MovedSteps.{moved_makes}
 use Rattle.page_hash.proofs.put.put_in_place.Goals as goal
 
 pub touch_range-requires-clause-range : goal.touch_range-requires-clause-range
