@@ -30,3 +30,4 @@ pub mod PlacedNew
 pub mod Unlinking
 pub mod Searching
 pub mod MovedSteps
+pub mod PlacedMoved

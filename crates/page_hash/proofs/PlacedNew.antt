@@ -48,14 +48,14 @@ pub record IsPlanOf (memory : FlatMemory) (plan : Plan) (size : ℕ) : Type 0 wh
 
 -- ---- what a store says of the plan
 
-size_few : (key value : List ℕ) → FitsPair key value → (16 ≤ pair_size key value) × (pair_size key value ≤ 2097152)
+pub size_few : (key value : List ℕ) → FitsPair key value → (16 ≤ pair_size key value) × (pair_size key value ≤ 2097152)
 size_few key value fits = (omega arith, omega (arith, fits.0, fits.1))
 
-plan_is : (memory : FlatMemory) (store : Store) (of : Pairs) (plan : Plan) (size : ℕ) → IsStore memory store of → IsPlanOf memory plan size
+pub plan_is : (memory : FlatMemory) (store : Store) (of : Pairs) (plan : Plan) (size : ℕ) → IsStore memory store of → IsPlanOf memory plan size
     → (plan.addr ≡ next_at store.heap (class_of size)) × (plan.class ≡ class_of size)
 plan_is memory store of plan size is planned = planned_at store.heap (class_of size) plan (planned.given store.heap is.heap)
 
-plan_room : (memory : FlatMemory) (store : Store) (of : Pairs) (plan : Plan) (size : ℕ) → IsStore memory store of → IsPlanOf memory plan size
+pub plan_room : (memory : FlatMemory) (store : Store) (of : Pairs) (plan : Plan) (size : ℕ) → IsStore memory store of → IsPlanOf memory plan size
     → size ≤ 2097152 → size ≤ 2 ^ plan.class
 plan_room memory store of plan size is planned few =
     subst (λ c. size ≤ 2 ^ c) (sym (plan_is memory store of plan size is planned).1) (class_of-holds size few)
@@ -109,7 +109,7 @@ allowed_new old key value plan of before gone fits stands planned more =
 -- ---- the touches
 
 -- the first touch was made
-keeps_first : (old one : MemoryState) (key value : List ℕ) (plan : Plan) → IsMemory one → FitsPair key value
+pub keeps_first : (old one : MemoryState) (key value : List ℕ) (plan : Plan) → IsMemory one → FitsPair key value
     → IsPlanOf old.mem plan (pair_size key value) → MakesPresent old one plan.addr (16 + length key + length value)
     → ((of : Pairs) (store : Store) → IsStore old.mem store of
     → count_of (insert of key value) (pair_class key value) ≡ suc (count_of of (pair_class key value)))
@@ -145,7 +145,7 @@ failed_first old new key value plan at sound fits planned lacks more place =
     (subst (λ m. IsSome (get m.present page)) lacks.mem there)))
 
 -- the pages that the first touch adds
-adds_first : (old one : MemoryState) (key value : List ℕ) (plan : Plan) → IsPlanOf old.mem plan (pair_size key value)
+pub adds_first : (old one : MemoryState) (key value : List ℕ) (plan : Plan) → IsPlanOf old.mem plan (pair_size key value)
     → MakesPresent old one plan.addr (16 + length key + length value)
     → ((store : Store) (of : Pairs) → IsStore old.mem store of → put_at store key value (entry_for store key)
     ≡ next_at store.heap (pair_class key value))

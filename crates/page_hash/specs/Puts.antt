@@ -4,18 +4,20 @@ use Rattle.std.specs.FinMap.{get, insert}
 use Rattle.byteorder.specs.Endian.{big_bytes}
 use Rattle.vm_base.specs.Counts.{Rose}
 use Rattle.vm_base.specs.FlatMemory.{FlatMemory}
-use Rattle.vm_base.specs.MemoryState.{MemoryState}
+use Rattle.vm_base.specs.MemoryState.{MemoryState, KeepsReady}
 use Rattle.vm_base.specs.MemoryCalls.{IsInRange, IsReady, after_store}
-use Rattle.store_meaning.specs.Layout.{header_at, pairs_field}
+use Rattle.store_meaning.specs.Layout.{class_of, header_at, pairs_field, word_at}
 use Rattle.store_meaning.specs.HeapLayout.{ArePresent, next_at}
-use Rattle.store_meaning.specs.HashLayout.{Pairs, Store, Entry, IsStore, pair_size, pair_class}
-use Rattle.store_meaning.specs.StoreSteps.{entry_for, put_in}
+use Rattle.store_meaning.specs.HashLayout.{Pairs, Store, Entry, IsStore, pair_size, pair_class, chain_of}
+use Rattle.store_meaning.specs.StoreSteps.{bucket_of, entry_for, put_in}
 use Rattle.store_meaning.specs.Reach.{At}
 use Rattle.store_meaning.specs.Standing.{Follows}
 use Rattle.page_heap.specs.declared.planned.Plan.{Plan}
-use Rattle.page_heap.specs.HeapCalls.{commit_store}
+use Rattle.page_heap.specs.HeapCalls.{commit_store, free_store}
+use Rattle.page_hash.specs.HashCalls.{IsOfArea}
+use Rattle.page_hash.specs.Touching.{IsOfStore}
 use Rattle.page_hash.specs.PairStores.{pair_bytes}
-use Rattle.page_hash.specs.Walks.{bucket_at, IsSearch}
+use Rattle.page_hash.specs.Walks.{bucket_at, located_in, IsSearch}
 use Rattle.page_hash.specs.declared.chain.Located.{Located}
 use Rattle.page_hash.specs.declared.search.Search.{Search}
 
@@ -106,3 +108,48 @@ pub record IsReadyForNew (state : MemoryState) (plan : Plan) (place size : ℕ) 
   pub link : IsReady state place 8
   pub header : IsReady state header_at 4096
   pub low : (plan.addr + size ≤ 2 ^ 48) × (place + 8 ≤ 2 ^ 48)
+
+-- the search has found the key's block, and its class is not the one that the new pair has
+pub record IsFoundElsewhere (store : Store) (key value : List ℕ) (located : Located) : Type 0 where
+  pub named : Some located
+      ≡ located_in (bucket_at store.table key) (chain_of store.table (bucket_of store.table key)) key
+  pub apart : class_of (16 + length key + located.length) ≡ pair_class key value → ⊥
+
+-- the word that names a block, the block's first word and the header belong to a store, and are
+-- present
+pub record HasWords (memory : FlatMemory) (located : Located) : Type 0 where
+  pub link : IsOfStore memory located.link 8
+  pub link_there : ArePresent memory located.link 8
+  pub block : IsOfStore memory located.at 8
+  pub block_there : ArePresent memory located.at 8
+  pub header : IsOfStore memory header_at 4096
+  pub header_there : ArePresent memory header_at 4096
+
+-- these may be stored to, and nothing else has changed
+pub record MakesWordsReady (old new : MemoryState) (located : Located) : Type 0 where
+  pub mem : new.mem ≡ old.mem
+  pub most : new.most ≡ old.most
+  pub link : IsReady new located.link 8
+  pub block : IsReady new located.at 8
+  pub header : IsReady new header_at 4096
+  pub keeps : KeepsReady old new
+
+-- a pair in another block, which has the old one's next block behind it, and the link to it
+abbrev pub linked_stored : MemoryState → Plan → Located → List ℕ → List ℕ → MemoryState
+linked_stored state plan located key value = after_store
+    (after_store (commit_store state plan) plan.addr
+    (pair_bytes (word_at state.mem located.at) key value))
+    located.link (big_bytes 8 plan.addr)
+
+-- and the old block given back
+abbrev pub moved_stored : MemoryState → Plan → Located → ℕ → List ℕ → List ℕ → MemoryState
+moved_stored state plan located class key value =
+    free_store (linked_stored state plan located key value) located.at class
+
+-- what a pair in another block stores to may be stored to
+pub record IsReadyForMove (state : MemoryState) (plan : Plan) (located : Located) (size : ℕ)
+    : Type 0 where
+  pub new : IsReadyForNew state plan located.link size
+  pub block : IsReady state located.at 8
+  pub part : IsOfArea state.mem located.at 8
+  pub low : located.at + 8 ≤ 2 ^ 48
