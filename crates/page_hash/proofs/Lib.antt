@@ -31,3 +31,4 @@ pub mod Unlinking
 pub mod Searching
 pub mod MovedSteps
 pub mod PlacedMoved
+pub mod PlacedPairs

@@ -37,6 +37,7 @@ use Rattle.page_hash.proofs.NewParts.{CommitsIn, commits_in, commit_ready, word_
 use Rattle.page_hash.proofs.NewSteps.{class_is_listed}
 use Rattle.page_hash.proofs.MovedSteps.{still_in_use, entry_in_use, linked_heap, moved_makes}
 use Rattle.page_hash.proofs.Unlinking.{IsEntryOf, entry_named, in_order, words_below, linked_at, CanTouch, can_touch, class_named, link_up}
+use Rattle.page_hash.proofs.PlacedInPlace.{entry_lies}
 use Rattle.page_hash.proofs.PlacedNew.{IsPlanOf, plan_is, plan_room, size_few, keeps_first, adds_first}
 use Rattle.page_hash.proofs.PutAnswers.{places_by, KeepsMore}
 
@@ -214,3 +215,209 @@ moved_stores ready plan located class key value sound fits in_classes in_class m
       linked = word_stored m2 located.link plan.addr f2 (omega (arith, low));
       gave = λ heap is used. gives_back m3 heap located.at class is used in_class g3 f3;
     }
+
+-- what the stores say in the store's own words
+record InStore (m0 m1 m2 m3 m4 m5 : FlatMemory) (store : Store) (key value : List ℕ) (entry : Entry) (spot : Spot) : Type 0 where
+  fits : FitsPair entry.key value
+  pair : StoresIn m1 m2 (next_at store.heap (pair_class entry.key value)) (pair_size entry.key value)
+  link : StoresIn m2 m3 (link_at store.table.array spot) 8
+  block : StoresIn m3 m4 entry.at 8
+  head : StoresIn m4 m5 (list_field (pair_class entry.key entry.value)) 8
+  taken : IsHeap m1 (committed store.heap (pair_class entry.key value))
+  holds : HoldsPair m2 (next_at store.heap (pair_class entry.key value)) (word_at m0 entry.at) entry.key value
+  linked : word_at m3 (link_at store.table.array spot) ≡ next_at store.heap (pair_class entry.key value)
+
+in_store : (old ready : MemoryState) (m1 m2 m3 m4 m5 : FlatMemory) (key value : List ℕ) (plan : Plan) (located : Located) (class : ℕ)
+    (store : Store) (of : Pairs) (facts : IsEntryOf store key located) → FitsPair key value → IsStore old.mem store of
+    → IsStore ready.mem store of → IsPlanOf old.mem plan (pair_size key value)
+    → MovedStores ready.mem m1 m2 m3 m4 m5 plan located class key value → class ≡ class_of (16 + length key + located.length)
+    → ((heap : Heap) → IsHeap ready.mem heap → plan ≡ plan_for heap plan.class → IsHeap m1 (committed heap plan.class))
+    → InStore ready.mem m1 m2 m3 m4 m5 store key value facts.entry facts.spot
+in_store old ready m1 m2 m3 m4 m5 key value plan located class store of facts fits is then planned stores class_is heap =
+    let size = pair_size key value in
+    let entry = facts.entry in
+    let named : key ≡ entry.key = sym facts.place.named in
+    let at = plan_is old.mem store of plan size is planned in
+    let given : plan ≡ plan_for store.heap plan.class = planned.given store.heap is.heap ∙ ap (plan_for store.heap) (sym at.1) in
+    let class_here : class ≡ pair_class entry.key entry.value = class_named store key located class facts class_is in
+    record {
+      fits = subst (λ k. FitsPair k value) named fits;
+      pair = subst (λ k. StoresIn m1 m2 (next_at store.heap (pair_class k value)) (pair_size k value)) named
+          (subst (λ a. StoresIn m1 m2 a size) at.0 stores.pair);
+      link = subst (λ a. StoresIn m2 m3 a 8) facts.link stores.link;
+      block = subst (λ a. StoresIn m3 m4 a 8) facts.at stores.block;
+      head = subst (λ c. StoresIn m4 m5 (list_field c) 8) class_here stores.head;
+      taken = subst (λ k. IsHeap m1 (committed store.heap (pair_class k value))) named
+          (subst (λ c. IsHeap m1 (committed store.heap c)) at.1 (heap store.heap then.heap given));
+      holds = subst (λ k. HoldsPair m2 (next_at store.heap (pair_class k value)) (word_at ready.mem entry.at) k value) named
+          (subst (λ a. HoldsPair m2 a (word_at ready.mem entry.at) key value) at.0
+          (subst (λ a. HoldsPair m2 plan.addr (word_at ready.mem a) key value) facts.at stores.holds));
+      linked = sym (ap (word_at m3) facts.link) ∙ stores.linked ∙ at.0 ∙ ap (λ k. next_at store.heap (pair_class k value)) named;
+    }
+
+-- the old block is in use when it is given back
+heap_linked : (old ready : MemoryState) (m1 m2 m3 m4 m5 : FlatMemory) (key value : List ℕ) (plan : Plan) (located : Located) (class : ℕ)
+    (store : Store) (of : Pairs) (facts : IsEntryOf store key located) → IsStore ready.mem store of
+    → InStore ready.mem m1 m2 m3 m4 m5 store key value facts.entry facts.spot → class ≡ class_of (16 + length key + located.length)
+    → IsHeap m3 (committed store.heap (pair_class facts.entry.key value))
+    × Contains (committed store.heap (pair_class facts.entry.key value)).used (record { at = located.at; class = class })
+heap_linked old ready m1 m2 m3 m4 m5 key value plan located class store of facts then known class_is =
+    let entry = facts.entry in
+    let class_here : class ≡ pair_class entry.key entry.value = class_named store key located class facts class_is in
+    let used = still_in_use store.heap (pair_class entry.key value) (entry_block entry)
+    (entry_in_use ready.mem store of key entry facts.spot then facts.place) in (
+      linked_heap m1 m2 m3 ready.mem store of key value entry facts.spot then facts.place known.fits known.pair known.link known.taken,
+      subst (λ a. Contains (committed store.heap (pair_class entry.key value)).used (record { at = a; class = class })) (sym facts.at)
+          (subst (λ c. Contains (committed store.heap (pair_class entry.key value)).used (record { at = entry.at; class = c }))
+          (sym class_here) used),
+    )
+
+-- each store has the pair in its new block
+puts_moved : (old ready : MemoryState) (m1 m2 m3 m4 m5 : FlatMemory) (key value : List ℕ) (plan : Plan) (located : Located) (class : ℕ)
+    (store : Store) (of : Pairs) → FitsPair key value → IsPlanOf old.mem plan (pair_size key value) → ReadsAlike old.mem ready.mem
+    → MovedStores ready.mem m1 m2 m3 m4 m5 plan located class key value → class ≡ class_of (16 + length key + located.length)
+    → ((heap : Heap) → IsHeap ready.mem heap → plan ≡ plan_for heap plan.class → IsHeap m1 (committed heap plan.class))
+    → IsFoundElsewhere store key value located → IsStore old.mem store of → IsStore m5 (put_in store key value) (insert of key value)
+puts_moved old ready m1 m2 m3 m4 m5 key value plan located class store of fits planned alike stores class_is heap found is =
+    let then = store_alike old.mem ready.mem store of alike is in
+    let facts = entry_named ready.mem store of key located then found.named in
+    let entry = facts.entry in
+    let known = in_store old ready m1 m2 m3 m4 m5 key value plan located class store of facts fits is then planned stores class_is heap in
+    let linked = heap_linked old ready m1 m2 m3 m4 m5 key value plan located class store of facts then known class_is in
+    let class_here : class ≡ pair_class entry.key entry.value = class_named store key located class facts class_is in
+    let gave : IsHeap m5 (freed (committed store.heap (pair_class entry.key value)) entry.at (pair_class entry.key entry.value)) =
+    subst (λ a. IsHeap m5 (freed (committed store.heap (pair_class entry.key value)) a (pair_class entry.key entry.value))) facts.at
+    (subst (λ c. IsHeap m5 (freed (committed store.heap (pair_class entry.key value)) located.at c)) class_here
+    (stores.gave (committed store.heap (pair_class entry.key value)) linked.0 linked.1)) in
+    subst (λ s. IsStore m5 s (insert of key value)) (sym (put_elsewhere store key value located facts found))
+    (moved_makes ready.mem m1 m2 m3 m4 m5 store of key value entry facts.spot stores.commit.field (word_at ready.mem entry.at) then facts.place
+    known.fits stores.commit.stores stores.commit.below known.pair known.link known.block known.head known.taken gave known.holds known.linked
+    refl)
+
+-- the blocks keep within the peaks
+blocks_moved : (old : MemoryState) (key value : List ℕ) (located : Located) (of : Pairs) (before : ℕ) (gone : List Place)
+    → FitsPair key value → (stands : Stands old of before gone) → IsFoundElsewhere stands.store key value located
+    → (m1 : FlatMemory) → IsHeap m1 (committed stands.store.heap (pair_class key value))
+    → AllZip (λ class peak. blocks_in (put_in stands.store key value).heap class ≤ peak) classes
+    (reach_of (gone ++ At (insert of key value) ∷ [])).peaks
+blocks_moved old key value located of before gone fits stands found m1 heap =
+    let places = gone ++ At (insert of key value) ∷ [] in
+    let store = stands.store in
+    let class = pair_class key value in
+    let facts = entry_named old.mem store of key located stands.stands found.named in
+    let entry = facts.entry in
+    let same : pair_class entry.key value ≡ class = ap (λ k. pair_class k value) facts.place.named in
+    let taken : AllZip (λ c peak. blocks_in (committed store.heap class) c ≤ peak) classes (reach_of places).peaks =
+    committed_within old.mem store of (insert of key value) class (reach_of places).peaks stands.stands
+    (class_is_listed (pair_size key value)) (more_elsewhere old.mem store of key value located stands.stands found)
+    (counted_behind old of (insert of key value) before gone stands)
+    (keeps_more old of (insert of key value) before gone stands).within.blocks in
+    let used = still_in_use store.heap class (entry_block entry)
+    (entry_in_use old.mem store of key entry facts.spot stands.stands facts.place) in
+    let in_class = class_of-entry old.mem store of facts.spot entry stands.stands facts.place.chains in
+    subst (λ (s : Store). AllZip (λ c peak. blocks_in s.heap c ≤ peak) classes (reach_of places).peaks)
+    (sym (put_elsewhere store key value located facts found))
+    (subst (λ k. AllZip (λ c peak. blocks_in (freed (committed store.heap k) entry.at (pair_class entry.key entry.value)) c ≤ peak) classes
+    (reach_of places).peaks) (sym same)
+    (zip_mono (blocks_in (committed store.heap class))
+    (blocks_in (freed (committed store.heap class) entry.at (pair_class entry.key entry.value))) classes (reach_of places).peaks
+    (λ c p less. omega (arith, less, freed_same m1 (committed store.heap class) (entry_block entry) c heap used in_class)) taken))
+
+-- the put was made
+pub placed_moved : (old one ready new : MemoryState) (m1 m2 m3 m4 : FlatMemory) (key value : List ℕ) (plan : Plan) (located : Located)
+    (class : ℕ) → IsMemory one → FitsPair key value → IsPlanOf old.mem plan (pair_size key value)
+    → MovedTouches old one ready plan located (16 + length key + length value)
+    → MovedStores ready.mem m1 m2 m3 m4 new.mem plan located class key value → class ≡ class_of (16 + length key + located.length)
+    → ((heap : Heap) → IsHeap ready.mem heap → plan ≡ plan_for heap plan.class → IsHeap m1 (committed heap plan.class))
+    → new.most ≡ ready.most
+    → ((store : Store) (of : Pairs) → IsStore old.mem store of → IsFoundElsewhere store key value located)
+    → Places old new key value
+placed_moved old one ready new m1 m2 m3 m4 key value plan located class sound fits planned touches stores class_is heap most searched =
+    let size = 16 + length key + length value in
+    let alike = alike_moved old one ready plan located size touches in
+    places_by old ready new key value
+    (λ store of is. puts_moved old ready m1 m2 m3 m4 new.mem key value plan located class store of fits planned alike stores class_is heap
+    (searched store of is) is)
+    (λ of before gone stands.
+      let kept = keeps_first old one key value plan sound fits planned touches.first
+      (λ of store is. more_elsewhere old.mem store of key value located is (searched store of is)) of before gone stands in
+      record {
+        stands = subst (λ m. IsStore m stands.store of) (sym touches.words.mem) kept.stands;
+        within = record {
+          blocks = kept.within.blocks;
+          pages = λ page there. kept.within.pages page (subst (λ m. IsSome (get m.present page)) touches.words.mem there);
+          buckets = kept.within.buckets;
+        };
+        most = omega (arith, touches.words.most, kept.most);
+      })
+    (λ of before gone stands.
+      let at = plan_is old.mem stands.store of plan (pair_size key value) stands.stands planned in
+      let then = store_alike old.mem ready.mem stands.store of alike stands.stands in
+      let given : plan ≡ plan_for stands.store.heap plan.class =
+      planned.given stands.store.heap stands.stands.heap ∙ ap (plan_for stands.store.heap) (sym at.1) in
+      blocks_moved old key value located of before gone fits stands (searched stands.store of stands.stands) m1
+      (subst (λ c. IsHeap m1 (committed stands.store.heap c)) at.1 (heap stands.store.heap then.heap given)))
+    (λ page. stores.head.pages page ∙ stores.block.pages page ∙ stores.link.pages page ∙ stores.pair.pages page
+    ∙ stores.commit.stores.pages page)
+    most
+    (λ store of is page there absent.
+      inl (adds_first old one key value plan planned touches.first
+      (λ s o i. place_elsewhere old.mem s o key value located i (searched s o i)) store of is page
+      (subst (λ m. IsSome (get m.present page)) touches.words.mem there) absent))
+
+-- the put, all in all
+pub made_moved : (old one ready : MemoryState) (store : Store) (of : Pairs) (key value : List ℕ) (plan : Plan) (located : Located) (class : ℕ)
+    → IsMemory one → IsMemory ready → MayHoldStore ready → FitsPair key value → IsStore old.mem store of
+    → IsPlanOf old.mem plan (pair_size key value) → MovedTouches old one ready plan located (16 + length key + length value)
+    → class ≡ class_of (16 + length key + located.length)
+    → ((store : Store) (of : Pairs) → IsStore old.mem store of → IsFoundElsewhere store key value located)
+    → Places old (moved_stored ready plan located class key value) key value
+made_moved old one ready store of key value plan located class sound_one sound may fits is planned touches class_is searched =
+    let size = pair_size key value in
+    let found = searched store of is in
+    let then = store_alike old.mem ready.mem store of
+    (alike_moved old one ready plan located (16 + length key + length value) touches) is in
+    let facts = entry_named ready.mem store of key located then found.named in
+    let at = plan_is old.mem store of plan size is planned in
+    let in_classes : Contains classes plan.class = subst (Contains classes) (sym at.1) (class_is_listed size) in
+    let is_ready = ready_moved old one ready store of key value plan located touches fits is planned found in
+    let low : word_at ready.mem located.at < 2 ^ 64 = subst (λ a. word_at ready.mem a < 2 ^ 64) (sym facts.at)
+    (next_low ready.mem store of key facts.entry facts.spot then facts.place) in
+    placed_moved old one ready (moved_stored ready plan located class key value) _ _ _ _ key value plan located class sound_one fits planned touches
+    (moved_stores ready plan located class key value sound fits in_classes
+    (subst (Contains classes) (sym class_is) (class_is_listed (16 + length key + located.length))) is_ready
+    (omega (arith, planned.within.1)) low)
+    class_is (λ heap is_heap given. commits ready heap plan sound may.room is_heap in_classes given is_ready.new.header is_ready.new.half)
+    (commit_ready ready plan).1 searched
+
+-- and the old block is in use when it is given back
+pub in_use_moved : (old one ready : MemoryState) (store : Store) (of : Pairs) (key value : List ℕ) (plan : Plan) (located : Located)
+    (class : ℕ) → IsMemory ready → MayHoldStore ready → FitsPair key value → IsStore old.mem store of
+    → IsPlanOf old.mem plan (pair_size key value) → MovedTouches old one ready plan located (16 + length key + length value)
+    → class ≡ class_of (16 + length key + located.length) → IsFoundElsewhere store key value located
+    → IsInUse (linked_stored ready plan located key value).mem located.at class
+in_use_moved old one ready store of key value plan located class sound may fits is planned touches class_is found =
+    let size = pair_size key value in
+    let then = store_alike old.mem ready.mem store of
+    (alike_moved old one ready plan located (16 + length key + length value) touches) is in
+    let facts = entry_named ready.mem store of key located then found.named in
+    let at = plan_is old.mem store of plan size is planned in
+    let in_classes : Contains classes plan.class = subst (Contains classes) (sym at.1) (class_is_listed size) in
+    let is_ready = ready_moved old one ready store of key value plan located touches fits is planned found in
+    let low : word_at ready.mem located.at < 2 ^ 64 = subst (λ a. word_at ready.mem a < 2 ^ 64) (sym facts.at)
+    (next_low ready.mem store of key facts.entry facts.spot then facts.place) in
+    let stores = moved_stores ready plan located class key value sound fits in_classes
+    (subst (Contains classes) (sym class_is) (class_is_listed (16 + length key + located.length))) is_ready
+    (omega (arith, planned.within.1)) low in
+    let known = in_store old ready _ _ _ _ _ key value plan located class store of facts fits is then planned stores class_is
+    (λ heap is_heap given. commits ready heap plan sound may.room is_heap in_classes given is_ready.new.header is_ready.new.half) in
+    let linked = heap_linked old ready _ _ _ _ _ key value plan located class store of facts then known class_is in
+    record { heap = committed store.heap (pair_class facts.entry.key value); is = linked.0; used = linked.1 }
+
+-- the old value's length is within its limit
+pub length_found : (memory : FlatMemory) (store : Store) (of : Pairs) (key value : List ℕ) (located : Located) → IsStore memory store of
+    → IsFoundElsewhere store key value located → located.length ≤ 1048576
+length_found memory store of key value located is found =
+    let facts = entry_named memory store of key located is found.named in
+    let holds = (entry_lies memory store of key facts.entry is facts.found).1 in
+    omega (arith, facts.size, holds.short_value)

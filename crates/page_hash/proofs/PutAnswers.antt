@@ -19,7 +19,7 @@ use Rattle.page_hash.specs.Puts.{PutIsPresent, AddsOnly, MeetsBlock, MeetsPlace,
 use Rattle.page_hash.proofs.PutStanding.{ReadsAlike, KeepsTo, keeps_stored, stands_by, store_alike, present_alike}
 
 -- a put changes no count of buckets
-by_chains : (store : Store) (key value : List ℕ) (found : Option Entry)
+pub by_chains : (store : Store) (key value : List ℕ) (found : Option Entry)
     → length (put_by store key value found).table.chains ≡ length store.table.chains
 by_chains store key value None = length-set store.table.chains _ _
 by_chains store key value (Some entry) = by (eqb (pair_class entry.key entry.value) (pair_class entry.key value))

@@ -42,7 +42,7 @@ use Rattle.page_hash.proofs.StoreChanges.{Lack, IsSpot, find_spot, class_of-entr
 -- ---- the block of a key
 
 -- a search that finds an entry behind others says so
-located_behind : (link : ℕ) (key : List ℕ) (front : List Entry) (entry : Entry) (back : List Entry) → Lack key front → entry.key ≡ key
+pub located_behind : (link : ℕ) (key : List ℕ) (front : List Entry) (entry : Entry) (back : List Entry) → Lack key front → entry.key ≡ key
     → located_in link (front ++ entry ∷ back) key ≡ Some (record { link = link_of link front; at = entry.at; length = length entry.value })
 located_behind link key [] entry back lack named =
     cond-true (bytes_eq entry.key key) _ _ ((bytes_eq-Decides entry.key key).1 named)

@@ -1,16 +1,17 @@
 //! Setting a pair.
-ghost use Rattle.std.specs.Prelude.{◌≡◌, ◌^◌, ◌<◌, [], OnOk, IfErr};
+ghost use Rattle.std.specs.Prelude.{◌≡◌, ◌⊎◌, ◌^◌, ◌≤◌, ◌<◌, [], OnOk, IfOk, IfErr, IsTrue, IsFalse};
 ghost use Rattle.vm_base.specs.MemoryState.{IsKept};
 ghost use Rattle.store_meaning.specs.Layout.{store_cells};
 ghost use Rattle.store_meaning.specs.HashLayout.{Pairs, Store, IsStore, pair_size};
+ghost use Rattle.store_meaning.specs.StoreSteps.{put_in};
 ghost use Rattle.store_meaning.specs.Standing.{IsStanding, MayHoldStore};
 ghost use Rattle.page_heap.specs.HeapCalls.{IsPlanned, IsInUse};
-ghost use Rattle.page_hash.specs.Puts.{FitsPair, Places, PlaceFails, IsFoundInPlace, IsFoundElsewhere, LacksKey, HasWords, MakesWordsReady, IsReadyForNew, IsReadyForMove, new_stored, linked_stored, moved_stored};
+ghost use Rattle.page_hash.specs.Puts.{FitsPair, Places, PlaceFails, SaysDue, IsNamedFor, IsFoundInPlace, IsFoundElsewhere, LacksKey, HasWords, MakesWordsReady, IsReadyForNew, IsReadyForMove, new_stored, linked_stored, moved_stored};
 
 use crate::chain::Located;
 use crate::layout::{HEAD, PAIRS_FIELD};
 use crate::pair_stores::{store_pair, store_value};
-use crate::search::Search;
+use crate::search::{Search, locate};
 use crate::touching::{touch_present, touch_range};
 use crate::words::{read_word, store_word};
 use page_heap::{Plan, class_for, commit, free, plan};
@@ -20,6 +21,76 @@ use vm_base::{Memory, Refused};
 const HEADER: u64 = 2_097_152;
 
 const HEADER_SIZE: u64 = 4096;
+
+// There are no more buckets than these.
+const MOST_BUCKETS: u64 = 16_777_216;
+
+// Sets a pair, and answers whether a doubling is due then.
+pub fn place<M: Memory>(m: &mut M, key: &[u8], value: &[u8]) -> Result<bool, Refused>
+    requires stands { IsStanding (M.state m.old) }
+    requires fits { FitsPair key.now value.now }
+    ensures put { OnOk result (Places (M.state m.old) (M.state m.new) key.now value.now) }
+    ensures due { IfOk result (λ due. (store : Store) (pairs : Pairs)
+        → IsStore (M.state m.old).mem store pairs → SaysDue (put_in store key.now value.now) due) }
+    ensures refused { IfErr result (λ refused.
+        PlaceFails (M.state m.old) (M.state m.new) key.now value.now refused.at) }
+    ensures keeps { IsKept (M.state m.old) (M.state m.new) store_cells }
+    ensures aside { M.aside m.new ≡ M.aside m.old }
+    ensures went { M.went m.old m.new }
+{
+    let search = locate(m, key);
+    match search.located {
+        None => {
+            if let Err(refused) = put_new(m, &search, key, value) {
+                return Err(refused);
+            }
+            Ok(is_due(search.head.pairs + 1, search.head.buckets))
+        }
+        Some(located) => {
+            if let Err(refused) = put_found(m, &located, key, value) {
+                return Err(refused);
+            }
+            Ok(is_due(search.head.pairs, search.head.buckets))
+        }
+    }
+}
+
+// Whether there are more pairs than buckets, and fewer buckets than there may be.
+fn is_due(pairs: u64, buckets: u64) -> bool
+    ensures due { IsTrue result → (buckets < pairs) × (buckets < 2 ^ 24) }
+    ensures spare { IsFalse result → (pairs ≤ buckets) ⊎ (2 ^ 24 ≤ buckets) }
+{
+    if pairs > buckets {
+        return buckets < MOST_BUCKETS;
+    }
+    false
+}
+
+// Sets the value of a key that has a block: there, where its class stays.
+fn put_found<M: Memory>(
+    m: &mut M,
+    located: &Located,
+    key: &[u8],
+    value: &[u8],
+) -> Result<(), Refused>
+    requires stands { IsStanding (M.state m.old) }
+    requires fits { FitsPair key.now value.now }
+    requires found { (store : Store) (pairs : Pairs) → IsStore (M.state m.old).mem store pairs
+        → IsNamedFor store key.now located.now }
+    ensures put { OnOk result (Places (M.state m.old) (M.state m.new) key.now value.now) }
+    ensures refused { IfErr result (λ refused.
+        PlaceFails (M.state m.old) (M.state m.new) key.now value.now refused.at) }
+    ensures keeps { IsKept (M.state m.old) (M.state m.new) store_cells }
+    ensures aside { M.aside m.new ≡ M.aside m.old }
+    ensures went { M.went m.old m.new }
+{
+    let front = (HEAD + key.len()) as u32;
+    let class = class_for(front + located.length);
+    if class == class_for(front + value.len() as u32) {
+        return put_in_place(m, located, key, value);
+    }
+    put_moved(m, located, key, value)
+}
 
 // Sets the value of a pair whose block has the class already.
 fn put_in_place<M: Memory>(
