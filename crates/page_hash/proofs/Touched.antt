@@ -16,6 +16,7 @@ use Rattle.vm_base.proofs.FlatLaws.{get-with_pages_there, get-with_pages_absent,
 use Rattle.vm_base.proofs.FlatAreas.{touch_of-in_area}
 use Rattle.vm_base.proofs.FlatSlots.{slots-among, touch_answer-areas}
 use Rattle.vm_base.proofs.FlatPages.{with_page_there}
+use Rattle.vm_base.proofs.IsKeptOn.{IsKept-on}
 use Rattle.store_meaning.specs.Layout.{store_cells}
 use Rattle.store_meaning.specs.HeapLayout.{ArePresent}
 use Rattle.store_meaning.specs.Standing.{MayHoldStore}
@@ -99,7 +100,7 @@ makes_ready old new address n sound some there makes =
       keeps = makes.keeps;
     }
 
-absent_not : (page : Option (List ℕ)) → IsNone page → IsSome page → ⊥
+pub absent_not : (page : Option (List ℕ)) → IsNone page → IsSome page → ⊥
 absent_not page absent there = false≢true (sym absent ∙ there)
 
 -- a page of a range meets it
@@ -140,3 +141,14 @@ pub ready_by : {X E : Type 0} (old new : MemoryState) (address n : ℕ) (result 
 ready_by old new address n (Ok done) at sound some there makes lacks = makes_ready old new address n sound some there makes
 ready_by old new address n (Err error) at sound some there makes lacks =
     absurd (lacks_none old new address n (at error) there lacks)
+
+-- calls that give no slot behind one that may
+pub kept_cells : (one two three : MemoryState) → IsKept one two store_cells → IsKept two three [] → IsKept one three store_cells
+kept_cells one two three first second =
+    IsKept-on one two three store_cells [] store_cells first second (λ cell is. is) (λ cell is. absurd (false≢true is))
+
+pub kept_both : (one two three : MemoryState) → IsKept one two store_cells → IsKept two three store_cells → IsKept one three store_cells
+kept_both one two three first second = IsKept-on one two three store_cells store_cells store_cells first second (λ cell is. is) (λ cell is. is)
+
+pub kept_none : (one two three : MemoryState) → IsKept one two [] → IsKept two three [] → IsKept one three []
+kept_none one two three first second = IsKept-on one two three [] [] [] first second (λ cell is. is) (λ cell is. is)

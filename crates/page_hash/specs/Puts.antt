@@ -1,16 +1,23 @@
 -- What a put needs, answers and leaves.
-use Rattle.std.specs.Prelude.{◌≡◌, ◌⊎◌, ℕ, ◌+◌, ◌*◌, ◌≤◌, ◌<◌, IsSome, IsNone, IsTrue, ◌↔◌, ◌==◌, if◌then◌else◌, List, [], ◌∷◌, length, Option, Some, None, Bool}
+use Rattle.std.specs.Prelude.{◌≡◌, ◌⊎◌, ℕ, ◌+◌, ◌-◌, ◌*◌, ◌^◌, ◌≤◌, IsSome, IsNone, ◌==◌, if◌then◌else◌, IsTrue, IsFalse, Bool, List, [], ◌∷◌, length, Option, Some, None}
 use Rattle.std.specs.FinMap.{get, insert}
+use Rattle.byteorder.specs.Endian.{big_bytes}
 use Rattle.vm_base.specs.Counts.{Rose}
 use Rattle.vm_base.specs.FlatMemory.{FlatMemory}
-use Rattle.vm_base.specs.MemoryState.{MemoryState}
-use Rattle.vm_base.specs.MemoryCalls.{IsInRange}
+use Rattle.vm_base.specs.MemoryState.{MemoryState, KeepsReady}
+use Rattle.vm_base.specs.MemoryCalls.{IsInRange, IsReady, after_store}
+use Rattle.store_meaning.specs.Layout.{class_of, header_at, pairs_field, word_at}
 use Rattle.store_meaning.specs.HeapLayout.{ArePresent, next_at}
-use Rattle.store_meaning.specs.HashLayout.{other_array, Pairs, Store, Entry, IsStore, pair_size, pair_class, entries_of}
-use Rattle.store_meaning.specs.StoreSteps.{bucket_of, entry_for, put_in, doubled, IsCrowded}
+use Rattle.store_meaning.specs.HashLayout.{Pairs, Store, Entry, IsStore, pair_size, pair_class, chain_of}
+use Rattle.store_meaning.specs.StoreSteps.{bucket_of, entry_for, put_in, IsCrowded}
 use Rattle.store_meaning.specs.Reach.{At}
 use Rattle.store_meaning.specs.Standing.{Follows}
-use Rattle.page_hash.specs.Walks.{bucket_at, IsSearch}
+use Rattle.page_heap.specs.declared.planned.Plan.{Plan}
+use Rattle.page_heap.specs.HeapCalls.{commit_store, free_store}
+use Rattle.page_hash.specs.HashCalls.{IsOfArea}
+use Rattle.page_hash.specs.Touching.{IsOfStore}
+use Rattle.page_hash.specs.PairStores.{pair_bytes}
+use Rattle.page_hash.specs.Walks.{bucket_at, located_in, IsSearch}
 use Rattle.page_hash.specs.declared.chain.Located.{Located}
 use Rattle.page_hash.specs.declared.search.Search.{Search}
 
@@ -74,13 +81,84 @@ pub record PlaceFails (old new : MemoryState) (key value : List ℕ) (at : ℕ) 
   pub lacked : (store : Store) (pairs : Pairs) → IsStore old.mem store pairs
       → PutIsPresent old.mem store key value → ⊥
 
--- the search has found an entry of the key's block
-abbrev pub IsFound : Store → List ℕ → Located → Type 0
-IsFound store key located = (entry : Entry) × ((entry_for store key ≡ Some entry)
-    × (located.at ≡ entry.at) × (located.length ≡ length entry.value) × (entry.key ≡ key))
-
--- and the class of that block is the one that the new pair has
+-- the search has found the key's block, and its class is the one that the new pair has
 abbrev pub IsFoundInPlace : Store → List ℕ → List ℕ → Located → Type 0
 IsFoundInPlace store key value located = (entry : Entry) × ((entry_for store key ≡ Some entry)
     × (located.at ≡ entry.at) × (located.length ≡ length entry.value) × (entry.key ≡ key)
     × (pair_class entry.key entry.value ≡ pair_class key value))
+
+-- the search has found no block of the key
+pub record LacksKey (memory : FlatMemory) (store : Store) (key : List ℕ) (search : Search) : Type 0
+    where
+  pub none : entry_for store key ≡ None
+  pub is : IsSearch memory store key search
+
+-- what a pair of a new key stores: the word of its heap, its block, its bucket, and the count
+abbrev pub new_stored : MemoryState → Plan → Search → List ℕ → List ℕ → MemoryState
+new_stored state plan search key value = after_store
+    (after_store
+    (after_store (commit_store state plan) plan.addr (pair_bytes search.first key value))
+    search.bucket (big_bytes 8 plan.addr))
+    pairs_field (big_bytes 8 (search.head.pairs + 1))
+
+-- the block of a plan, the word that will name it and the header may be stored to
+pub record IsReadyForNew (state : MemoryState) (plan : Plan) (place size : ℕ) : Type 0 where
+  pub block : IsReady state plan.addr size
+  pub half : IsReady state plan.addr (2 ^ (plan.class - 1))
+  pub link : IsReady state place 8
+  pub header : IsReady state header_at 4096
+  pub low : (plan.addr + size ≤ 2 ^ 48) × (place + 8 ≤ 2 ^ 48)
+
+-- the search has found the key's block, and its class is not the one that the new pair has
+pub record IsFoundElsewhere (store : Store) (key value : List ℕ) (located : Located) : Type 0 where
+  pub named : Some located
+      ≡ located_in (bucket_at store.table key) (chain_of store.table (bucket_of store.table key)) key
+  pub apart : class_of (16 + length key + located.length) ≡ pair_class key value → ⊥
+
+-- the word that names a block, the block's first word and the header belong to a store, and are
+-- present
+pub record HasWords (memory : FlatMemory) (located : Located) : Type 0 where
+  pub link : IsOfStore memory located.link 8
+  pub link_there : ArePresent memory located.link 8
+  pub block : IsOfStore memory located.at 8
+  pub block_there : ArePresent memory located.at 8
+  pub header : IsOfStore memory header_at 4096
+  pub header_there : ArePresent memory header_at 4096
+
+-- these may be stored to, and nothing else has changed
+pub record MakesWordsReady (old new : MemoryState) (located : Located) : Type 0 where
+  pub mem : new.mem ≡ old.mem
+  pub most : new.most ≡ old.most
+  pub link : IsReady new located.link 8
+  pub block : IsReady new located.at 8
+  pub header : IsReady new header_at 4096
+  pub keeps : KeepsReady old new
+
+-- a pair in another block, which has the old one's next block behind it, and the link to it
+abbrev pub linked_stored : MemoryState → Plan → Located → List ℕ → List ℕ → MemoryState
+linked_stored state plan located key value = after_store
+    (after_store (commit_store state plan) plan.addr
+    (pair_bytes (word_at state.mem located.at) key value))
+    located.link (big_bytes 8 plan.addr)
+
+-- and the old block given back
+abbrev pub moved_stored : MemoryState → Plan → Located → ℕ → List ℕ → List ℕ → MemoryState
+moved_stored state plan located class key value =
+    free_store (linked_stored state plan located key value) located.at class
+
+-- what a pair in another block stores to may be stored to
+pub record IsReadyForMove (state : MemoryState) (plan : Plan) (located : Located) (size : ℕ)
+    : Type 0 where
+  pub new : IsReadyForNew state plan located.link size
+  pub block : IsReady state located.at 8
+  pub part : IsOfArea state.mem located.at 8
+  pub low : located.at + 8 ≤ 2 ^ 48
+
+-- a doubling is due in the store exactly where the answer says so
+abbrev pub SaysDue : Store → Bool → Type 0
+SaysDue store due = (IsTrue due → IsCrowded store) × (IsFalse due → IsCrowded store → ⊥)
+
+-- the block is the one that a search names for the key
+abbrev pub IsNamedFor : Store → List ℕ → Located → Type 0
+IsNamedFor store key located = Some located
+    ≡ located_in (bucket_at store.table key) (chain_of store.table (bucket_of store.table key)) key
