@@ -1,0 +1,4 @@
+mod CopiedLeaves
+mod OneLeaf
+mod JoinedNumbers
+mod SomeLeaves
