@@ -1,4 +1,4 @@
-mod CopiedLeaves
-mod OneLeaf
-mod JoinedNumbers
-mod SomeLeaves
+pub mod CopiedLeaves
+pub mod OneLeaf
+pub mod JoinedNumbers
+pub mod SomeLeaves

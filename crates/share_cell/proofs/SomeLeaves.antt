@@ -126,11 +126,11 @@ counted-on before middle after one (inl same) = subst (IsCounted before) (sym sa
 counted-on before middle after one (inr more) = inr (rose-on before middle after one more.0, more.1)
 
 -- a copy counts as one behind others
-later-copy : (before middle after : ℕ) (old new : Leaf) (was : Leaf) → IsCounted before middle → IsLeafCopied true middle after old new → IsLeafCopied true before after was new
+pub later-copy : (before middle after : ℕ) (old new : Leaf) (was : Leaf) → IsCounted before middle → IsLeafCopied true middle after old new → IsLeafCopied true before after was new
 later-copy before middle after old new was counted (inl own) = inl own
 later-copy before middle after old new was counted (inr lost) = inr (lost.0, lost.1, rose-on before middle lost.0 counted lost.2, lost.3, lost.4)
 
-earlier-copy : (before middle after : ℕ) (old new : Leaf) → IsCounted middle after → IsLeafCopied true before middle old new → IsLeafCopied true before after old new
+pub earlier-copy : (before middle after : ℕ) (old new : Leaf) → IsCounted middle after → IsLeafCopied true before middle old new → IsLeafCopied true before after old new
 earlier-copy before middle after old new counted (inl own) = inl own
 earlier-copy before middle after old new counted (inr lost) = inr (lost.0, lost.1, lost.2, at-most lost.0 middle after lost.3 lost.4 counted, lost.4)
 
@@ -192,30 +192,34 @@ pub record KeepsPages (old new : CellView) : Type 0 where
 pub keeps-none : (view : CellView) → KeepsPages view view
 keeps-none view = record { parent = refl; reads = λ p small. refl; kept = λ n p unlost small. refl; still = λ p alone. alone; writable = λ p may. may }
 
--- who is not lost behind the copy of a joined leaf was not before
-unlost-before : (n middle after : ℕ) (mids news : List Kept) → AllByRecursion (λ it. (it.number == n) ≡ true → is_lost it.leaf ≡ false) mids → AreCopied (is_number n) middle after mids news
-    → (k : ℕ) → has_leaf_where is_lost (kept_by news k) ≡ false → has_leaf_where is_lost (kept_by mids k) ≡ false
-unlost-before n middle after [] [] joined copied k unlost = refl
-unlost-before n middle after [] (w ∷ ws) joined copied k unlost = absurd copied
-unlost-before n middle after (m ∷ ms) [] joined copied k unlost = absurd copied
-unlost-before n middle after (m ∷ ms) (w ∷ ws) joined copied k unlost =
-    by (m.number == k) (ap (λ x. has_leaf_where is_lost (cond (x == k) (Some w) (kept_by ws k))) (sym copied.0) ∙ unlost) (unlost-before n middle after ms ws joined.1 copied.3 k)
+-- who is not lost behind copies of leaves that were not lost was not before
+pub unlost-before : (test : Kept → Bool) (middle after : ℕ) (mids news : List Kept) → AllByRecursion (λ it. test it ≡ true → is_lost it.leaf ≡ false) mids
+    → AreCopied test middle after mids news → (k : ℕ) → has_leaf_where is_lost (kept_by news k) ≡ false → has_leaf_where is_lost (kept_by mids k) ≡ false
+unlost-before test middle after [] [] joined copied k unlost = refl
+unlost-before test middle after [] (w ∷ ws) joined copied k unlost = absurd copied
+unlost-before test middle after (m ∷ ms) [] joined copied k unlost = absurd copied
+unlost-before test middle after (m ∷ ms) (w ∷ ws) joined copied k unlost =
+    by (m.number == k) (ap (λ x. has_leaf_where is_lost (cond (x == k) (Some w) (kept_by ws k))) (sym copied.0) ∙ unlost)
+    (unlost-before test middle after ms ws joined.1 copied.3 k)
   where
-    here : (b : Bool) → (m.number == n) ≡ b → IsLeafCopied b middle after m.leaf w.leaf → is_lost w.leaf ≡ false → is_lost m.leaf ≡ false
+    here : (b : Bool) → test m ≡ b → IsLeafCopied b middle after m.leaf w.leaf → is_lost w.leaf ≡ false → is_lost m.leaf ≡ false
     here true is now unlost = joined.0 is
     here false is now unlost = ap is_lost (sym now) ∙ unlost
 
-    by : (b : Bool) → has_leaf_where is_lost (cond b (Some w) (kept_by ws k)) ≡ false → (has_leaf_where is_lost (kept_by ws k) ≡ false → has_leaf_where is_lost (kept_by ms k) ≡ false)
+    by : (b : Bool) → has_leaf_where is_lost (cond b (Some w) (kept_by ws k)) ≡ false
+        → (has_leaf_where is_lost (kept_by ws k) ≡ false → has_leaf_where is_lost (kept_by ms k) ≡ false)
         → has_leaf_where is_lost (cond b (Some m) (kept_by ms k)) ≡ false
-    by true unlost later = here (m.number == n) refl copied.2 unlost
+    by true unlost later = here (test m) refl copied.2 unlost
     by false unlost later = later unlost
 
-pub keeps-more : (n middle after : ℕ) (old between new : CellView) → AllByRecursion (λ it. (it.number == n) ≡ true → is_lost it.leaf ≡ false) between.leaves.kept
-    → KeepsPages old between → Copies (is_number n) middle after between new → KeepsPages old new
-keeps-more n middle after old between new joined first next = record {
+pub keeps-more : (test : Kept → Bool) (middle after : ℕ) (old between new : CellView)
+    → AllByRecursion (λ it. test it ≡ true → is_lost it.leaf ≡ false) between.leaves.kept
+    → KeepsPages old between → Copies test middle after between new → KeepsPages old new
+keeps-more test middle after old between new joined first next = record {
   parent = next.parent ∙ first.parent;
   reads = λ p small. next.reads p small ∙ first.reads p small;
-  kept = λ k p unlost small. next.kept k p unlost small ∙ first.kept k p (unlost-before n middle after between.leaves.kept new.leaves.kept joined next.snapshots k unlost) small;
+  kept = λ k p unlost small. next.kept k p unlost small
+      ∙ first.kept k p (unlost-before test middle after between.leaves.kept new.leaves.kept joined next.snapshots k unlost) small;
   still = λ p alone. next.still p (first.still p alone);
   writable = λ p may. first.writable p (next.writable p may);
 }

@@ -1,6 +1,6 @@
 use Rattle.std.proofs.Common.{◌≡◌, ℕ, ◌+◌, ◌<◌, ◌≤◌, List, [], ◌∷◌, ◌++◌, length, Some, None, refl, sym, ◌∙◌, ap, subst, arith, inl, append_assoc, append-nil, length-append}
 use Rattle.std.specs.List.{slice_get}
-use Rattle.kernel_meaning.specs.CellActs.{leaf_copied, leaves_copied}
+use Rattle.kernel_meaning.specs.CellActs.{is_number, leaf_copied, leaves_copied}
 use Rattle.leaf_cell.specs.CellView.{CellView}
 use Rattle.share_cell.specs.Parts.{MadeWithin}
 use Rattle.share_cell.specs.Copies.{is_joined_by}
@@ -62,7 +62,7 @@ loop-number-preserved g c =
         snapshots = some-more c.args.joining n before middle after c.args.cell.now.leaves.kept c.loop-number.cell.leaves.kept c.copy_leaf.new.cell.leaves.kept
             stood.some.counted c.copy_leaf.ensures.copied.counted
             (first-passes c.args.joining n c.loop-number.cell.leaves.kept (tail_of now) c.in-Some.ensures.rising head) stood.some.snapshots c.copy_leaf.ensures.copied.snapshots;
-        pages = keeps-more n middle after c.args.cell.now c.loop-number.cell c.copy_leaf.new.cell
+        pages = keeps-more (is_number n) middle after c.args.cell.now c.loop-number.cell c.copy_leaf.new.cell
             (passes-unlost c.args.joining n c.loop-number.cell.leaves.kept (first-passes c.args.joining n c.loop-number.cell.leaves.kept (tail_of now) c.in-Some.ensures.rising head))
             stood.some.pages c.copy_leaf.ensures.copied;
         counted = counted-on before middle after stood.some.counted c.copy_leaf.ensures.copied.counted;
