@@ -5,7 +5,7 @@ use Rattle.vm_base.specs.Deals.{Deal, LeadsAlong}
 use Rattle.vm_base.specs.declared.permission.Perm.{Perm}
 use Rattle.vm_base.specs.declared.frame_request.Want.TheVariants as want
 use Rattle.kernel_meaning.specs.Requests.{Answer, Yes, No, answers_of}
-use Rattle.kernel_meaning.specs.Leaves.{CellLeaves, version_at, has_pages, has_present}
+use Rattle.kernel_meaning.specs.Leaves.{CellLeaves, version_at, has_pages, has_present, is_shared, is_marked}
 use Rattle.kernel_meaning.specs.CellActs.{Course, before_change, leaf_copied, leaf_copy_answered, leaves_copied, numbers_where, coming_answer, asking, course_touched, touched_as, present_touched, new_page_asked, parent_leaf_answered, cleared, pages_cleared, protected}
 use Rattle.kernel_meaning.specs.CellAccount.{CellAct, Touch, Clear, Protect, CellAccount}
 use Rattle.leaf_cell.specs.CellView.{CellView, AreUnjoined}
@@ -28,7 +28,9 @@ parent-copied [] course = refl
 parent-copied (n ∷ ns) course = parent-copied ns (leaf_copied n course) ∙ parent-answered n (coming_answer course) (asking want.Leaf course)
 
 pub parent-before : (course : Course) → (before_change course).cell.parent ≡ course.cell.parent
-parent-before course = parent-copied _ _ ∙ parent-copied _ course
+parent-before course =
+    let unshared : Course = leaves_copied (numbers_where is_shared course.cell) course in
+    parent-copied (numbers_where is_marked unshared.cell) unshared ∙ parent-copied (numbers_where is_shared course.cell) course
 
 -- a touch begins with the copies, so that behind them it is the same
 pub touched-behind_copies : (page : ℕ) (course : Course) → has_pages course.cell.parent ≡ true → AreUnjoined (before_change course).cell.kept

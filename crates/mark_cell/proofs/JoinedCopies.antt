@@ -1,6 +1,9 @@
 -- What copying the shared leaves and then the marked ones leaves of a cell.
 use Rattle.std.proofs.Common.{◌≡◌, ℕ, List, [], ◌∷◌, refl, sym, ◌∙◌, ap, subst, inl, inr}
-use Rattle.std.specs.Prelude.{Bool, true, false, not, ◌&&◌}
+use Rattle.std.specs.Prelude.{Bool, true, false, not, ◌&&◌, Result, Ok, Err, OnOk, OnErr, IfErr}
+use Rattle.vm_base.specs.Counts.{next_count}
+use Rattle.vm_base.specs.declared.refusals.Refused.{Refused}
+use Rattle.leaf_cell.specs.Touching.{IsTouched}
 use Rattle.std.specs.List.{AllByRecursion}
 use Rattle.std.proofs.lemmas.Bool.{false≢true, and_parts}
 use Rattle.kernel_meaning.specs.Leaves.{Leaf, Own, Lost, Kept, is_joined, is_lost, is_async, is_shared, is_marked}
@@ -8,7 +11,7 @@ use Rattle.leaf_cell.specs.CellView.{CellView, AreUnjoined}
 use Rattle.share_cell.specs.Copies.{AreCopied, Copies, IsLeafCopied, is_joined_kept}
 use Rattle.share_cell.proofs.CopiedLeaves.{joined-unlost}
 use Rattle.share_cell.proofs.SomeLeaves.{IsCounted, KeepsPages, counted-on, earlier-copy, later-copy, keeps-more}
-use Rattle.mark_cell.specs.Changes.{CopiesJoined}
+use Rattle.mark_cell.specs.Changes.{CopiesJoined, TouchEnds}
 
 -- a leaf that is its own or lost is not joined
 copied-unjoined : (before after : ℕ) (old new : Leaf) → IsLeafCopied true before after old new → is_joined new ≡ false
@@ -110,3 +113,9 @@ copies-none count view unjoined = record {
   };
   unjoined = unjoined;
 }
+
+-- how the touch ends behind the copies
+pub touch-ends : (page count after : ℕ) (between new : CellView) (result : Result (Unit {0}) Refused) → OnOk result (IsTouched page count after between new)
+    → OnErr result (new ≡ between) → IfErr result (λ e. (after ≡ next_count count) × (e.at ≡ after)) → TouchEnds page after new result count between
+touch-ends page count after between new (Ok done) touched same counted = touched
+touch-ends page count after between new (Err refused) touched same counted = (same, counted.0, counted.1)

@@ -1,7 +1,7 @@
 -- What a copy that a snapshot makes at a cell tells and leaves.
 use Rattle.std.specs.Prelude.{◌≡◌, ℕ, List, Option, Some, None, Result, Ok, Err}
 use Rattle.vm_base.specs.Counts.{next_count}
-use Rattle.vm_base.specs.Deals.{Deal, LeadsAlong, SpendsOne}
+use Rattle.vm_base.specs.Deals.{Deal, LeadsAlong}
 use Rattle.vm_base.specs.declared.refusals.Refused.{Refused}
 use Rattle.kernel_meaning.specs.Leaves.{Own}
 use Rattle.kernel_meaning.specs.Requests.{opening_requests, answers_of}
@@ -34,13 +34,6 @@ CopyLeaves number (Ok copied.Nothing) before after old new = (after ≡ before) 
 CopyLeaves number (Ok (copied.Lost at)) before after old new = (after ≡ before) × (new ≡ old)
 CopyLeaves number (Err refused) before after old new =
     (after ≡ next_count before) × (refused.at ≡ after) × (new ≡ old)
-
--- one of the frames that may still be granted was, where the copy was made and their number is told; else as many may be as before
-abbrev pub Spends : Result Copied Refused → Option ℕ → Option ℕ → Type 0
-Spends (Ok copied.Copied) before after = SpendsOne before after
-Spends (Ok copied.Nothing) before after = after ≡ before
-Spends (Ok (copied.Lost at)) before after = after ≡ before
-Spends (Err refused) before after = after ≡ before
 
 -- a call made a copy: its deals led from one state of the allot to the other; each account that the cell stood for allows the copy where the snapshot has the cell, and is taken to the one behind it; and what is told is what the definitions tell
 pub record MadeCopy {State : Type 0} (goes : State → Deal → State → Type 0) (from to : State)

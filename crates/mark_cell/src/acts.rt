@@ -1,5 +1,5 @@
 //! The changes of a cell, with the leaf copies that come before them.
-ghost use Rattle.std.specs.Prelude.{◌≡◌, ◌+◌, ◌<◌, ◌≤◌, None, false, true, OnErr};
+ghost use Rattle.std.specs.Prelude.{◌≡◌, ◌+◌, ◌<◌, ◌≤◌, None, false, true, OnOk, OnErr};
 ghost use Rattle.kernel_meaning.specs.Leaves.{has_present, version_at};
 ghost use Rattle.kernel_meaning.specs.CellAccount.{Clear, Protect, Touch};
 ghost use Rattle.leaf_cell.specs.CellView.{held_of};
@@ -7,7 +7,7 @@ ghost use Rattle.leaf_cell.specs.Permissions.{allowed};
 ghost use Rattle.leaf_cell.specs.Standing.{MadeAct};
 ghost use Rattle.leaf_cell.specs.States.{refused_count};
 ghost use Rattle.leaf_cell.specs.Touching.{IsCleared};
-ghost use Rattle.leaf_cell.specs.Writable.{without_writable};
+ghost use Rattle.leaf_cell.specs.Writable.{writable_at, without_writable};
 ghost use Rattle.kernel_meaning.specs.CellActs.{before_change};
 ghost use Rattle.share_cell.specs.Parts.{MadeWithin};
 ghost use Rattle.mark_cell.specs.Changes.{BehindCopies, CopiesJoined, TouchEnds};
@@ -27,6 +27,7 @@ pub fn touch_page<A: Allot>(cell: &mut Cell, page: u16, allot: &mut A) -> Result
     ensures held { A.out (A.state allot.new) + held_of cell.old ≡ A.out (A.state allot.old) + held_of cell.new }
     ensures untold { A.grants allot.new ≡ None }
     ensures ends { BehindCopies (A.refused (A.state allot.old)) cell.old (TouchEnds page (A.refused (A.state allot.new)) cell.new result) }
+    ensures allowed { OnOk result (writable_at cell.new.writable page ≡ true) }
     ensures absent { OnErr result (version_at cell.old.leaves.parent page ≡ None) }
 {
     // A leaf is joined only where the parent has its table.

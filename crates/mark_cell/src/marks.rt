@@ -1,16 +1,15 @@
 //! Leaves that an async fork marked, and their copies by the snapshot.
-ghost use Rattle.std.specs.Prelude.{ℕ, ◌≡◌, ◌+◌, ◌<◌, ◌≤◌, [], None, true, IfSome};
+ghost use Rattle.std.specs.Prelude.{ℕ, ◌≡◌, ◌+◌, ◌≤◌, [], None, true};
 ghost use Rattle.vm_base.specs.declared.fork_mode.Mode.TheVariants as modes;
 ghost use Rattle.kernel_meaning.specs.Leaves.{has_pages, kept_by, Joined, is_marked};
-ghost use Rattle.kernel_meaning.specs.CellActs.{with_fork, numbers_where};
-ghost use Rattle.kernel_meaning.specs.CellAccount.{CellAccount, Fork, Unmark};
+ghost use Rattle.kernel_meaning.specs.CellActs.{with_fork, numbers_where, copy_end};
+ghost use Rattle.kernel_meaning.specs.CellAccount.{CellAccount, Fork, Copy as CopyAct, Unmark};
 ghost use Rattle.leaf_cell.specs.CellView.{held_of, without_snapshot};
 ghost use Rattle.leaf_cell.specs.Standing.{StandsFor, TakesAccount};
-ghost use Rattle.leaf_cell.specs.States.{has_joined, state_of};
-ghost use Rattle.leaf_cell.specs.declared.snapshot.LeafState.TheVariants as state;
+ghost use Rattle.leaf_cell.specs.States.{has_joined, refused_count};
 ghost use Rattle.share_cell.specs.Parts.{MadeWithin};
 ghost use Rattle.share_cell.specs.Copies.{Copies, copied_where};
-ghost use Rattle.mark_cell.specs.OneCopy.{CopyLeaves, MadeCopy, Spends};
+ghost use Rattle.mark_cell.specs.OneCopy.{CopyLeaves, MadeCopy};
 
 use leaf_cell::{Cell, LeafState};
 use share_cell::{Joining, copy_leaves};
@@ -46,10 +45,11 @@ pub fn copy_one<A: Allot>(
     number: u32,
     allot: &mut A,
 ) -> Result<Copied, Refused>
-    requires granted { state_of (kept_by cell.old.leaves.kept number) ≡ state.Marked → IfSome (A.grants allot.old) (λ left. 0 < left) }
+    requires held { held_of cell.old ≤ A.out (A.state allot.old) }
+    requires untold { A.grants allot.old ≡ None }
     ensures made { MadeCopy A.goes (A.state allot.old) (A.state allot.new) number cell.old cell.new result }
     ensures held { A.out (A.state allot.new) + held_of cell.old ≡ A.out (A.state allot.old) + held_of cell.new }
-    ensures spent { Spends result (A.grants allot.old) (A.grants allot.new) }
+    ensures untold { A.grants allot.new ≡ None }
     ensures leaves { CopyLeaves number result (A.refused (A.state allot.old)) (A.refused (A.state allot.new)) cell.old cell.new }
 {
     match cell.state(number) {
@@ -61,9 +61,7 @@ pub fn copy_one<A: Allot>(
             Err(refused) => Err(refused),
         },
         LeafState::Lost(at) => Ok(Copied::Lost(at)),
-        LeafState::Absent => Ok(Copied::Nothing),
-        LeafState::Own => Ok(Copied::Nothing),
-        LeafState::Shared => Ok(Copied::Nothing),
+        LeafState::Absent | LeafState::Own | LeafState::Shared => Ok(Copied::Nothing),
     }
 }
 

@@ -25,7 +25,7 @@ use Rattle.share_cell.proofs.JoinedNumbers.{numbers, joined-by, same-test, not-j
 -- ---- parts of an act, one behind another
 
 -- deals that lead along, and more behind them
-leads-append : {State : Type 0} (goes : State → Deal → State → Type 0) (front back : List Deal) (from middle to : State) → LeadsAlong goes from front middle → LeadsAlong goes middle back to → LeadsAlong goes from (front ++ back) to
+pub leads-append : {State : Type 0} (goes : State → Deal → State → Type 0) (front back : List Deal) (from middle to : State) → LeadsAlong goes from front middle → LeadsAlong goes middle back to → LeadsAlong goes from (front ++ back) to
 leads-append goes [] back from middle to first next = subst (λ s. LeadsAlong goes s back to) first next
 leads-append goes (deal ∷ front) back from middle to first next = (first.0, (first.1.0, leads-append goes front back first.0 middle to first.1.1 next))
 
