@@ -1,9 +1,10 @@
 -- What copying the shared leaves and then the marked ones leaves of a cell.
 use Rattle.std.proofs.Common.{◌≡◌, ℕ, List, [], ◌∷◌, refl, sym, ◌∙◌, ap, subst, inl, inr}
-use Rattle.std.specs.Prelude.{Bool, true, false, not, ◌&&◌, Result, Ok, Err, OnOk, OnErr, IfErr}
+use Rattle.std.specs.Prelude.{Bool, true, false, not, ◌&&◌, slice_set, Result, Ok, Err, OnOk, OnErr, IfErr}
 use Rattle.vm_base.specs.Counts.{next_count}
 use Rattle.vm_base.specs.declared.refusals.Refused.{Refused}
 use Rattle.leaf_cell.specs.Touching.{IsTouched}
+use Rattle.leaf_cell.specs.Writable.{writable_at}
 use Rattle.std.specs.List.{AllByRecursion}
 use Rattle.std.proofs.lemmas.Bool.{false≢true, and_parts}
 use Rattle.kernel_meaning.specs.Leaves.{Leaf, Own, Lost, Kept, is_joined, is_lost, is_async, is_shared, is_marked}
@@ -115,7 +116,10 @@ copies-none count view unjoined = record {
 }
 
 -- how the touch ends behind the copies
-pub touch-ends : (page count after : ℕ) (between new : CellView) (result : Result (Unit {0}) Refused) → OnOk result (IsTouched page count after between new)
-    → OnErr result (new ≡ between) → IfErr result (λ e. (after ≡ next_count count) × (e.at ≡ after)) → TouchEnds page after new result count between
-touch-ends page count after between new (Ok done) touched same counted = touched
-touch-ends page count after between new (Err refused) touched same counted = (same, counted.0, counted.1)
+pub touch-ends : (page count after : ℕ) (between new : CellView) (result : Result (Unit {0}) Refused)
+    → OnOk result (IsTouched page count after between new) → OnOk result (new.writable ≡ slice_set between.writable page true)
+    → OnOk result (writable_at new.writable page ≡ true) → OnErr result (new ≡ between)
+    → IfErr result (λ e. (after ≡ next_count count) × (e.at ≡ after)) → TouchEnds page after new result count between
+touch-ends page count after between new (Ok done) touched permitted allowed same counted =
+    record { touched = touched; permitted = permitted; allowed = allowed }
+touch-ends page count after between new (Err refused) touched permitted allowed same counted = (same, counted.0, counted.1)

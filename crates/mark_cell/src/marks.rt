@@ -1,15 +1,16 @@
 //! Leaves that an async fork marked, and their copies by the snapshot.
-ghost use Rattle.std.specs.Prelude.{ℕ, ◌≡◌, ◌+◌, ◌≤◌, [], None, true};
+ghost use Rattle.std.specs.Prelude.{ℕ, ◌≡◌, ◌+◌, ◌<◌, ◌≤◌, [], None, true, IfSome};
 ghost use Rattle.vm_base.specs.declared.fork_mode.Mode.TheVariants as modes;
 ghost use Rattle.kernel_meaning.specs.Leaves.{has_pages, kept_by, Joined, is_marked};
-ghost use Rattle.kernel_meaning.specs.CellActs.{with_fork, numbers_where, copy_end};
-ghost use Rattle.kernel_meaning.specs.CellAccount.{CellAccount, Fork, Copy as CopyAct, Unmark};
+ghost use Rattle.kernel_meaning.specs.CellActs.{with_fork, numbers_where};
+ghost use Rattle.kernel_meaning.specs.CellAccount.{CellAccount, Fork, Unmark};
 ghost use Rattle.leaf_cell.specs.CellView.{held_of, without_snapshot};
 ghost use Rattle.leaf_cell.specs.Standing.{StandsFor, TakesAccount};
-ghost use Rattle.leaf_cell.specs.States.{has_joined, refused_count};
+ghost use Rattle.leaf_cell.specs.States.{has_joined, state_of};
+ghost use Rattle.leaf_cell.specs.declared.snapshot.LeafState.TheVariants as state;
 ghost use Rattle.share_cell.specs.Parts.{MadeWithin};
 ghost use Rattle.share_cell.specs.Copies.{Copies, copied_where};
-ghost use Rattle.mark_cell.specs.OneCopy.{CopyLeaves, MadeCopy};
+ghost use Rattle.mark_cell.specs.OneCopy.{CopyLeaves, MadeCopy, Spends};
 
 use leaf_cell::{Cell, LeafState};
 use share_cell::{Joining, copy_leaves};
@@ -31,8 +32,10 @@ pub enum Copied {
 pub fn fork_mark(cell: &mut Cell, number: u32)
     requires present { has_pages cell.old.leaves.parent ≡ true }
     requires alone { cell.old.leaves.kept ≡ [] }
-    ensures forked { (seat : ℕ) (account : CellAccount) → StandsFor cell.old account → TakesAccount (Fork number modes.Async seat) cell.old cell.new [] None account }
-    ensures cell { cell.new ≡ record cell.old { leaves = with_fork number modes.Async Joined cell.old.leaves } }
+    ensures forked { (seat : ℕ) (account : CellAccount) → StandsFor cell.old account
+        → TakesAccount (Fork number modes.Async seat) cell.old cell.new [] None account }
+    ensures cell { cell.new ≡ record cell.old
+        { leaves = with_fork number modes.Async Joined cell.old.leaves } }
     ensures held { held_of cell.new ≡ held_of cell.old }
 {
     cell.set_lazy(number, Mode::Async);
@@ -45,12 +48,15 @@ pub fn copy_one<A: Allot>(
     number: u32,
     allot: &mut A,
 ) -> Result<Copied, Refused>
-    requires held { held_of cell.old ≤ A.out (A.state allot.old) }
-    requires untold { A.grants allot.old ≡ None }
-    ensures made { MadeCopy A.goes (A.state allot.old) (A.state allot.new) number cell.old cell.new result }
-    ensures held { A.out (A.state allot.new) + held_of cell.old ≡ A.out (A.state allot.old) + held_of cell.new }
-    ensures untold { A.grants allot.new ≡ None }
-    ensures leaves { CopyLeaves number result (A.refused (A.state allot.old)) (A.refused (A.state allot.new)) cell.old cell.new }
+    requires granted { state_of (kept_by cell.old.leaves.kept number) ≡ state.Marked
+        → IfSome (A.grants allot.old) (λ left. 0 < left) }
+    ensures made { MadeCopy A.goes (A.state allot.old) (A.state allot.new) number cell.old cell.new
+        result }
+    ensures held { A.out (A.state allot.new) + held_of cell.old
+        ≡ A.out (A.state allot.old) + held_of cell.new }
+    ensures spent { Spends result (A.grants allot.old) (A.grants allot.new) }
+    ensures leaves { CopyLeaves number result (A.refused (A.state allot.old))
+        (A.refused (A.state allot.new)) cell.old cell.new }
 {
     match cell.state(number) {
         LeafState::Marked => match allot.take(Want::Leaf) {
@@ -71,11 +77,15 @@ pub fn copy_one<A: Allot>(
 pub fn sync<A: Allot>(cell: &mut Cell, allot: &mut A)
     requires held { held_of cell.old ≤ A.out (A.state allot.old) }
     requires untold { A.grants allot.old ≡ None }
-    ensures made { MadeWithin A.goes (A.state allot.old) (A.state allot.new) (copied_where is_marked) cell.old cell.new }
-    ensures held { A.out (A.state allot.new) + held_of cell.old ≡ A.out (A.state allot.old) + held_of cell.new }
+    ensures made { MadeWithin A.goes (A.state allot.old) (A.state allot.new)
+        (copied_where is_marked) cell.old cell.new }
+    ensures held { A.out (A.state allot.new) + held_of cell.old
+        ≡ A.out (A.state allot.old) + held_of cell.new }
     ensures untold { A.grants allot.new ≡ None }
-    ensures copied { Copies is_marked (A.refused (A.state allot.old)) (A.refused (A.state allot.new)) cell.old cell.new }
-    ensures none { numbers_where is_marked cell.old.leaves ≡ [] → (cell.new ≡ cell.old) × (A.state allot.new ≡ A.state allot.old) }
+    ensures copied { Copies is_marked (A.refused (A.state allot.old))
+        (A.refused (A.state allot.new)) cell.old cell.new }
+    ensures none { numbers_where is_marked cell.old.leaves ≡ [] → (cell.new ≡ cell.old)
+        × (A.state allot.new ≡ A.state allot.old) }
 {
     copy_leaves(cell, Joining::Marked, allot);
 }
@@ -84,7 +94,8 @@ pub fn sync<A: Allot>(cell: &mut Cell, allot: &mut A)
 /// cell. No frame goes back.
 pub fn unmark(cell: &mut Cell, number: u32)
     requires joined { has_joined (kept_by cell.old.leaves.kept number) ≡ true }
-    ensures unmarked { (account : CellAccount) → StandsFor cell.old account → TakesAccount (Unmark number) cell.old cell.new [] None account }
+    ensures unmarked { (account : CellAccount) → StandsFor cell.old account
+        → TakesAccount (Unmark number) cell.old cell.new [] None account }
     ensures cell { cell.new ≡ record cell.old { leaves = without_snapshot number cell.old.leaves } }
     ensures held { held_of cell.new ≡ held_of cell.old }
 {

@@ -34,7 +34,8 @@ is_state_joined Marked (state.Lost at) = false
 abbrev pub copied_where : (Kept → Bool) → Course → Course
 copied_where test course = leaves_copied (numbers_where test course.cell) course
 
--- what became of a leaf that was to be copied, or was not: it is the snapshot's own, or it is lost at a count of refused requests that was reached meanwhile; or it is as it was
+-- what became of a leaf that was to be copied, or was not: it is the snapshot's own, or it is lost
+-- at a count of refused requests that was reached meanwhile; or it is as it was
 abbrev pub IsLeafCopied : Bool → ℕ → ℕ → Leaf → Leaf → Type 0
 IsLeafCopied false before after old new = new ≡ old
 IsLeafCopied true before after old new =
@@ -53,7 +54,8 @@ AreCopied test before after (old ∷ olds) (new ∷ news) = (new.number ≡ old.
 abbrev pub snapshot_bytes : CellView → ℕ → ℕ → Option (List ℕ)
 snapshot_bytes view n p = option_and_then (λ it. kept_page view it p) (kept_by view.leaves.kept n)
 
--- the leaves that pass a test were copied, while the count of refused requests went from one number to another: nothing that a side reads has changed, and no more pages may be stored to as they are
+-- the leaves that pass a test were copied, while the count of refused requests went from one number
+-- to another: nothing that a side reads has changed, and no more pages may be stored to as they are
 pub record Copies (test : Kept → Bool) (before after : ℕ) (old new : CellView) : Type 0 where
   pub parent : new.leaves.parent ≡ old.leaves.parent
   pub reads : (p : ℕ) → p < 512 → parent_page new p ≡ parent_page old p

@@ -18,11 +18,15 @@ use vm_base::{Allot, Want};
 pub fn copy_leaves<A: Allot>(cell: &mut Cell, joining: Joining, allot: &mut A)
     requires held { held_of cell.old ≤ A.out (A.state allot.old) }
     requires untold { A.grants allot.old ≡ None }
-    ensures made { MadeWithin A.goes (A.state allot.old) (A.state allot.new) (copied_where (is_joined_by joining)) cell.old cell.new }
-    ensures held { A.out (A.state allot.new) + held_of cell.old ≡ A.out (A.state allot.old) + held_of cell.new }
+    ensures made { MadeWithin A.goes (A.state allot.old) (A.state allot.new)
+        (copied_where (is_joined_by joining)) cell.old cell.new }
+    ensures held { A.out (A.state allot.new) + held_of cell.old
+        ≡ A.out (A.state allot.old) + held_of cell.new }
     ensures untold { A.grants allot.new ≡ None }
-    ensures copied { Copies (is_joined_by joining) (A.refused (A.state allot.old)) (A.refused (A.state allot.new)) cell.old cell.new }
-    ensures none { numbers_where (is_joined_by joining) cell.old.leaves ≡ [] → (cell.new ≡ cell.old) × (A.state allot.new ≡ A.state allot.old) }
+    ensures copied { Copies (is_joined_by joining) (A.refused (A.state allot.old))
+        (A.refused (A.state allot.new)) cell.old cell.new }
+    ensures none { numbers_where (is_joined_by joining) cell.old.leaves ≡ [] → (cell.new ≡ cell.old)
+        × (A.state allot.new ≡ A.state allot.old) }
 {
     while let Some(number) = first_joined(cell, joining) {
         copy_leaf(cell, number, allot);
@@ -60,10 +64,13 @@ fn copy_leaf<A: Allot>(cell: &mut Cell, number: u32, allot: &mut A)
     requires joined { has_joined (kept_by cell.old.leaves.kept number) ≡ true }
     requires held { held_of cell.old ≤ A.out (A.state allot.old) }
     requires untold { A.grants allot.old ≡ None }
-    ensures made { MadeWithin A.goes (A.state allot.old) (A.state allot.new) (leaf_copied number) cell.old cell.new }
-    ensures held { A.out (A.state allot.new) + held_of cell.old ≡ A.out (A.state allot.old) + held_of cell.new }
+    ensures made { MadeWithin A.goes (A.state allot.old) (A.state allot.new) (leaf_copied number)
+        cell.old cell.new }
+    ensures held { A.out (A.state allot.new) + held_of cell.old
+        ≡ A.out (A.state allot.old) + held_of cell.new }
     ensures untold { A.grants allot.new ≡ None }
-    ensures copied { Copies (is_number number) (A.refused (A.state allot.old)) (A.refused (A.state allot.new)) cell.old cell.new }
+    ensures copied { Copies (is_number number) (A.refused (A.state allot.old))
+        (A.refused (A.state allot.new)) cell.old cell.new }
 {
     match allot.take(Want::Leaf) {
         Ok(frame) => cell.own_leaf(number, frame),

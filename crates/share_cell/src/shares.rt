@@ -19,8 +19,10 @@ use vm_base::{Allot, Mode};
 pub fn fork_share(cell: &mut Cell, number: u32)
     requires present { has_pages cell.old.leaves.parent ≡ true }
     requires alone { cell.old.leaves.kept ≡ [] }
-    ensures forked { (seat : ℕ) (account : CellAccount) → StandsFor cell.old account → TakesAccount (Fork number modes.OnDemand seat) cell.old cell.new [] None account }
-    ensures cell { cell.new ≡ record cell.old { leaves = with_fork number modes.OnDemand Joined cell.old.leaves } }
+    ensures forked { (seat : ℕ) (account : CellAccount) → StandsFor cell.old account
+        → TakesAccount (Fork number modes.OnDemand seat) cell.old cell.new [] None account }
+    ensures cell { cell.new ≡ record cell.old
+        { leaves = with_fork number modes.OnDemand Joined cell.old.leaves } }
     ensures held { held_of cell.new ≡ held_of cell.old }
 {
     cell.set_lazy(number, Mode::OnDemand);
@@ -31,11 +33,15 @@ pub fn fork_share(cell: &mut Cell, number: u32)
 pub fn unshare<A: Allot>(cell: &mut Cell, allot: &mut A)
     requires held { held_of cell.old ≤ A.out (A.state allot.old) }
     requires untold { A.grants allot.old ≡ None }
-    ensures made { MadeWithin A.goes (A.state allot.old) (A.state allot.new) (copied_where is_shared) cell.old cell.new }
-    ensures held { A.out (A.state allot.new) + held_of cell.old ≡ A.out (A.state allot.old) + held_of cell.new }
+    ensures made { MadeWithin A.goes (A.state allot.old) (A.state allot.new)
+        (copied_where is_shared) cell.old cell.new }
+    ensures held { A.out (A.state allot.new) + held_of cell.old
+        ≡ A.out (A.state allot.old) + held_of cell.new }
     ensures untold { A.grants allot.new ≡ None }
-    ensures copied { Copies is_shared (A.refused (A.state allot.old)) (A.refused (A.state allot.new)) cell.old cell.new }
-    ensures none { numbers_where is_shared cell.old.leaves ≡ [] → (cell.new ≡ cell.old) × (A.state allot.new ≡ A.state allot.old) }
+    ensures copied { Copies is_shared (A.refused (A.state allot.old))
+        (A.refused (A.state allot.new)) cell.old cell.new }
+    ensures none { numbers_where is_shared cell.old.leaves ≡ [] → (cell.new ≡ cell.old)
+        × (A.state allot.new ≡ A.state allot.old) }
 {
     copy_leaves(cell, Joining::Shared, allot);
 }

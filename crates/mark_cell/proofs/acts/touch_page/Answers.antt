@@ -41,5 +41,5 @@ returns-clause-ends g c = record {
         (copies-none (g.A.Allot.refused (g.A.Allot.state c.args.allot.now)) c.args.cell.now (c.has_pages.ensures.unjoined (sym c.has_pages.ensures.pages ∙ w.if-has_pages.false))))
   ];
   ends = touch-ends c.args.page (g.A.Allot.refused (g.A.Allot.state c.if-has_pages.allot)) (g.A.Allot.refused (g.A.Allot.state c.touch.new.allot)) c.if-has_pages.cell c.touch.new.self
-      c.touch.result c.touch.ensures.touched c.touch.ensures.refused c.touch.ensures.counted;
+      c.touch.result c.touch.ensures.touched c.touch.ensures.writable c.touch.ensures.allowed c.touch.ensures.refused c.touch.ensures.counted;
 }

@@ -19,6 +19,9 @@ returns-in-Absent g c = record {
   made = made-nothing g.A.Allot.goes (g.A.Allot.state c.args.allot.now) c.args.number c.args.cell.now c.state.result
       (no-mark c.state.result c.in-Absent.is).0 (no-mark c.state.result c.in-Absent.is).1 c.state.ensures.account;
   held = refl;
-  untold = c.requires.untold;
+  spent = refl;
   leaves = (refl, refl);
 }
+
+pub take-requires : goal.take-requires
+take-requires g c = c.requires.granted (sym c.state.ensures.state ∙ c.in-Marked.is)
