@@ -33,7 +33,8 @@ parent-before course =
     parent-copied (numbers_where is_marked unshared.cell) unshared ∙ parent-copied (numbers_where is_shared course.cell) course
 
 -- a touch begins with the copies, so that behind them it is the same
-pub touched-behind_copies : (page : ℕ) (course : Course) → has_pages course.cell.parent ≡ true → AreUnjoined (before_change course).cell.kept
+pub touched-behind_copies : (page : ℕ) (course : Course) → has_pages course.cell.parent ≡ true
+    → AreUnjoined (before_change course).cell.kept
     → course_touched page course ≡ course_touched page (before_change course)
 touched-behind_copies page course pages unjoined = by (version_at course.cell.parent page) refl
   where
@@ -42,9 +43,11 @@ touched-behind_copies page course pages unjoined = by (version_at course.cell.pa
 
     by : (o : Option ℕ) → version_at course.cell.parent page ≡ o → course_touched page course ≡ course_touched page (before_change course)
     by None is = ap (λ o. touched_as o page course) is
-        ∙ ap (λ b. cond b (new_page_asked page 0 (before_change course)) (parent_leaf_answered page (coming_answer course) (asking want.Leaf course))) pages
+        ∙ ap (λ b. cond b (new_page_asked page 0 (before_change course))
+        (parent_leaf_answered page (coming_answer course) (asking want.Leaf course))) pages
         ∙ sym (touched-absent page (before_change course) unjoined (same ∙ is) (ap has_pages (parent-before course) ∙ pages))
-    by (Some version) is = ap (λ o. touched_as o page course) is ∙ sym (touched-present page (before_change course) unjoined version (same ∙ is))
+    by (Some version) is = ap (λ o. touched_as o page course) is
+        ∙ sym (touched-present page (before_change course) unjoined version (same ∙ is))
 
 module _ {State : Type 0} (goes : State → Deal → State → Type 0) (from middle to : State) (old between new : CellView)
     (copied : MadeWithin goes from middle before_change old between) (unjoined : AreUnjoined between.leaves.kept) where
@@ -53,8 +56,10 @@ module _ {State : Type 0} (goes : State → Deal → State → Type 0) (from mid
 
   -- what the copies of an account come to, behind no deals
   copies-run : (account : CellAccount) (took : TakesWithin before_change old between copied.deals account) (later : List Deal)
-      → before_change (course_between account.state.leaves account.made (answers_of (copied.deals ++ later)) []) ≡ course_between took.leaves took.made (answers_of later) copied.deals
-  copies-run account took later = ap (λ coming. before_change (course_between account.state.leaves account.made coming [])) (answers-append copied.deals later)
+      → before_change (course_between account.state.leaves account.made (answers_of (copied.deals ++ later)) [])
+      ≡ course_between took.leaves took.made (answers_of later) copied.deals
+  copies-run account took later = ap (λ coming. before_change (course_between account.state.leaves account.made coming []))
+      (answers-append copied.deals later)
       ∙ took.runs.runs [] (answers_of later)
 
   module _ (account : CellAccount) (stands : StandsFor old account) where
@@ -65,29 +70,37 @@ module _ {State : Type 0} (goes : State → Deal → State → Type 0) (from mid
     meant = meant-unjoined between (account_between account took) took.stands unjoined
 
     takes-touched : (page : ℕ) (deals : List Deal) (refused : Option ℕ) → has_pages old.leaves.parent ≡ true
-        → TakesAccount (Touch page) between new deals refused (account_between account took) → TakesAccount (Touch page) old new (copied.deals ++ deals) refused account
+        → TakesAccount (Touch page) between new deals refused (account_between account took)
+        → TakesAccount (Touch page) old new (copied.deals ++ deals) refused account
     takes-touched page deals refused pages touch =
         let alone : Course = touched_alone page took.leaves took.made (answers_of deals) in
         let start : Course = course_between account.state.leaves account.made (answers_of (copied.deals ++ deals)) [] in
-        let runs : before_change start ≡ course_between took.leaves took.made (answers_of deals) copied.deals = copies-run account took deals in
-        let act : RunsAt (course_touched page) took.leaves took.made deals alone.cell alone.requests.made alone.refused = touch-runs page took.leaves took.made deals meant touch.asked in
+        let runs : before_change start ≡ course_between took.leaves took.made (answers_of deals) copied.deals =
+            copies-run account took deals in
+        let act : RunsAt (course_touched page) took.leaves took.made deals alone.cell alone.requests.made alone.refused =
+            touch-runs page took.leaves took.made deals meant touch.asked in
         takes-by (Touch page) (λ cell other it. it) old new (copied.deals ++ deals) refused account
         (record { cell = alone.cell; requests = requests_between alone.requests.made [] (copied.deals ++ deals); refused = alone.refused })
         (touched-behind_copies page start (meant-pages old account stands ∙ pages) (subst (λ c. AreUnjoined c.cell.kept) (sym runs) meant)
-        ∙ ap (course_touched page) (runs ∙ ap (λ coming. course_between took.leaves took.made coming copied.deals) (sym (append-nil (answers_of deals))))
+        ∙ ap (course_touched page) (runs ∙ ap (λ coming. course_between took.leaves took.made coming copied.deals)
+        (sym (append-nil (answers_of deals))))
         ∙ act.runs copied.deals [])
         touch.stands refl touch.ended
 
     takes-cleared : (first n : ℕ) (deals : List Deal) → has_present old.leaves.parent first n ≡ true
-        → TakesAccount (Clear first n) between new deals None (account_between account took) → TakesAccount (Clear first n) old new (copied.deals ++ deals) None account
+        → TakesAccount (Clear first n) between new deals None (account_between account took)
+        → TakesAccount (Clear first n) old new (copied.deals ++ deals) None account
     takes-cleared first n deals present clear =
         let here : Course = course_between took.leaves took.made (answers_of deals) [] in
         let start : Course = course_between account.state.leaves account.made (answers_of (copied.deals ++ deals)) [] in
-        let runs : before_change start ≡ course_between took.leaves took.made (answers_of deals) copied.deals = copies-run account took deals in
+        let runs : before_change start ≡ course_between took.leaves took.made (answers_of deals) copied.deals =
+            copies-run account took deals in
         let there : has_present account.state.leaves.parent first n ≡ true = sym (present-stands old account stands first n) ∙ present in
-        let still : has_present took.leaves.parent first n ≡ true = ap (λ c. has_present c.cell.parent first n) (sym runs) ∙ ap (λ vs. has_present vs first n) (parent-before start) ∙ there in
+        let still : has_present took.leaves.parent first n ≡ true = ap (λ c. has_present c.cell.parent first n) (sym runs)
+            ∙ ap (λ vs. has_present vs first n) (parent-before start) ∙ there in
         let act : course_behind (Clear first n) (account_between account took) deals ≡ pages_cleared first n here =
-        ap (λ b. cond b (pages_cleared first n (before_change here)) here) still ∙ ap (pages_cleared first n) (before_change-none here meant) in
+        ap (λ b. cond b (pages_cleared first n (before_change here)) here) still
+        ∙ ap (pages_cleared first n) (before_change-none here meant) in
         takes-by (Clear first n) (λ cell other it. it) old new (copied.deals ++ deals) None account
         (pages_cleared first n (course_between took.leaves took.made (answers_of deals) copied.deals))
         (ap (λ b. cond b (pages_cleared first n (before_change start)) start) there ∙ ap (pages_cleared first n) runs)
@@ -95,13 +108,16 @@ module _ {State : Type 0} (goes : State → Deal → State → Type 0) (from mid
         (ap (λ ds. copied.deals ++ ds) (ap (λ c. c.requests.deals) (sym act) ∙ clear.asked)) refl
 
     takes-protected : (first n : ℕ) (perm : Perm) (deals : List Deal) → has_present old.leaves.parent first n ≡ true
-        → TakesAccount (Protect first n perm) between new deals None (account_between account took) → TakesAccount (Protect first n perm) old new (copied.deals ++ deals) None account
+        → TakesAccount (Protect first n perm) between new deals None (account_between account took)
+        → TakesAccount (Protect first n perm) old new (copied.deals ++ deals) None account
     takes-protected first n perm deals present protect =
         let here : Course = course_between took.leaves took.made (answers_of deals) [] in
         let start : Course = course_between account.state.leaves account.made (answers_of (copied.deals ++ deals)) [] in
-        let runs : before_change start ≡ course_between took.leaves took.made (answers_of deals) copied.deals = copies-run account took deals in
+        let runs : before_change start ≡ course_between took.leaves took.made (answers_of deals) copied.deals =
+            copies-run account took deals in
         let there : has_present account.state.leaves.parent first n ≡ true = sym (present-stands old account stands first n) ∙ present in
-        let still : has_present took.leaves.parent first n ≡ true = ap (λ c. has_present c.cell.parent first n) (sym runs) ∙ ap (λ vs. has_present vs first n) (parent-before start) ∙ there in
+        let still : has_present took.leaves.parent first n ≡ true = ap (λ c. has_present c.cell.parent first n) (sym runs)
+            ∙ ap (λ vs. has_present vs first n) (parent-before start) ∙ there in
         let act : course_behind (Protect first n perm) (account_between account took) deals ≡ here =
         ap (λ b. cond b (before_change here) here) still ∙ before_change-none here meant in
         takes-by (Protect first n perm) (λ cell other it. it) old new (copied.deals ++ deals) None account
@@ -110,12 +126,14 @@ module _ {State : Type 0} (goes : State → Deal → State → Type 0) (from mid
         (subst (λ c. StandsFor new (account_of_course (Protect first n perm) (account_between account took) c)) act protect.stands)
         (sym (append-nil copied.deals) ∙ ap (λ ds. copied.deals ++ ds) (ap (λ c. c.requests.deals) (sym act) ∙ protect.asked)) refl
 
-  pub made-touched : (page : ℕ) (refused : Option ℕ) → has_pages old.leaves.parent ≡ true → MadeAct goes middle to (Touch page) between new refused
+  pub made-touched : (page : ℕ) (refused : Option ℕ) → has_pages old.leaves.parent ≡ true
+      → MadeAct goes middle to (Touch page) between new refused
       → MadeAct goes from to (Touch page) old new refused
   made-touched page refused pages made = record {
     deals = copied.deals ++ made.deals;
     led = leads-append goes copied.deals made.deals from middle to copied.led made.led;
-    follows = λ account stands. takes-touched account stands page made.deals refused pages (made.follows (account_between account (copied.follows account stands)) (copied.follows account stands).stands);
+    follows = λ account stands. takes-touched account stands page made.deals refused pages
+        (made.follows (account_between account (copied.follows account stands)) (copied.follows account stands).stands);
   }
 
   pub made-cleared : (first n : ℕ) → has_present old.leaves.parent first n ≡ true → MadeAct goes middle to (Clear first n) between new None
@@ -123,10 +141,12 @@ module _ {State : Type 0} (goes : State → Deal → State → Type 0) (from mid
   made-cleared first n present made = record {
     deals = copied.deals ++ made.deals;
     led = leads-append goes copied.deals made.deals from middle to copied.led made.led;
-    follows = λ account stands. takes-cleared account stands first n made.deals present (made.follows (account_between account (copied.follows account stands)) (copied.follows account stands).stands);
+    follows = λ account stands. takes-cleared account stands first n made.deals present
+        (made.follows (account_between account (copied.follows account stands)) (copied.follows account stands).stands);
   }
 
-  pub made-protected : (first n : ℕ) (perm : Perm) → has_present old.leaves.parent first n ≡ true → MadeAct goes middle to (Protect first n perm) between new None
+  pub made-protected : (first n : ℕ) (perm : Perm) → has_present old.leaves.parent first n ≡ true
+      → MadeAct goes middle to (Protect first n perm) between new None
       → MadeAct goes from to (Protect first n perm) old new None
   made-protected first n perm present made = record {
     deals = copied.deals ++ made.deals;

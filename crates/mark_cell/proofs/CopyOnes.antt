@@ -42,12 +42,14 @@ kept_of number versions mode leaf = Some (record { number = number; mode = mode;
 
 module _ (n : ℕ) (course : Course) (answer : Answer) where
   pub marked-runs : (o : Option Kept) → is_mark (state_of o) ≡ true
-      → (copied_as o n course ≡ copy_answered n (coming_answer course) (asking want.Leaf course)) × (copy_end_as o answer ≡ answer_end answer)
+      → (copied_as o n course ≡ copy_answered n (coming_answer course) (asking want.Leaf course))
+      × (copy_end_as o answer ≡ answer_end answer)
   marked-runs None e = absurd (false≢true e)
   marked-runs (Some it) e = by it.mode it.leaf e
     where
       by : (mode : Mode) (leaf : Leaf) → is_mark (leaf_state mode leaf) ≡ true
-          → (copied_as (kept_of it.number it.versions mode leaf) n course ≡ copy_answered n (coming_answer course) (asking want.Leaf course))
+          → (copied_as (kept_of it.number it.versions mode leaf) n course
+          ≡ copy_answered n (coming_answer course) (asking want.Leaf course))
           × (copy_end_as (kept_of it.number it.versions mode leaf) answer ≡ answer_end answer)
       by Eager Own e = absurd (false≢true e)
       by Eager Joined e = absurd (false≢true e)
@@ -59,7 +61,8 @@ module _ (n : ℕ) (course : Course) (answer : Answer) where
       by Async Joined e = (refl, refl)
       by Async (Lost at) e = absurd (false≢true e)
 
-  pub unmarked-runs : (o : Option Kept) → is_mark (state_of o) ≡ false → (copied_as o n course ≡ course) × (copy_end_as o answer ≡ state_end (state_of o))
+  pub unmarked-runs : (o : Option Kept) → is_mark (state_of o) ≡ false → (copied_as o n course ≡ course)
+      × (copy_end_as o answer ≡ state_end (state_of o))
   unmarked-runs None e = (refl, refl)
   unmarked-runs (Some it) e = by it.mode it.leaf e
     where
@@ -80,8 +83,10 @@ abbrev start_of : CellAccount → List Answer → Course
 start_of account answers = opening_course account.state.leaves (opening_requests account.made answers)
 
 -- an act that ran this course
-takes-copy : (n : ℕ) (old new : CellView) (deals : List Deal) (refused : Option ℕ) (account : CellAccount) → StandsFor old account → (course : Course)
-    → course_behind (Copy n) account deals ≡ course → StandsFor new (account_of_course (Copy n) account course) → course.requests.deals ≡ deals → course.refused ≡ refused
+takes-copy : (n : ℕ) (old new : CellView) (deals : List Deal) (refused : Option ℕ) (account : CellAccount) → StandsFor old account
+    → (course : Course)
+    → course_behind (Copy n) account deals ≡ course → StandsFor new (account_of_course (Copy n) account course)
+    → course.requests.deals ≡ deals → course.refused ≡ refused
     → TakesAccount (Copy n) old new deals refused account
 takes-copy n old new deals refused account stood course runs stands asked ended = record {
   allowed = allowed-stands old account stood (Copy n);
@@ -99,10 +104,13 @@ module _ {State : Type 0} (goes : State → Deal → State → Type 0) (from : S
   made-copied to new granted marked owned = record {
     deals = Granted want.Leaf ∷ [];
     led = (to, (granted, refl));
-    follows = λ account stands. takes-copy n old new (Granted want.Leaf ∷ []) None account stands (copy_answered n Yes (asking want.Leaf (start_of account (Yes ∷ []))))
+    follows = λ account stands. takes-copy n old new (Granted want.Leaf ∷ []) None account stands
+        (copy_answered n Yes (asking want.Leaf (start_of account (Yes ∷ []))))
         (marked-runs n (start_of account (Yes ∷ [])) Yes (kept_by account.state.leaves.kept n) (marked account stands)).0
-        (owned (record account { made = account.made + 1 }) (stands-made old account (account.made + 1) stands (omega arith))).stands refl refl;
-    told = λ account stands. (marked-runs n (start_of account (Yes ∷ [])) Yes (kept_by account.state.leaves.kept n) (marked account stands)).1;
+        (owned (record account { made = account.made + 1 }) (stands-made old account (account.made + 1) stands (omega arith))).stands refl
+        refl;
+    told = λ account stands. (marked-runs n (start_of account (Yes ∷ [])) Yes (kept_by account.state.leaves.kept n)
+        (marked account stands)).1;
   }
 
   -- it was refused
@@ -114,22 +122,28 @@ module _ {State : Type 0} (goes : State → Deal → State → Type 0) (from : S
     led = (to, (denied, refl));
     follows = λ account stands. takes-copy n old old (Denied want.Leaf refused.at ∷ []) (Some refused.at) account stands
         (copy_answered n (No refused.at) (asking want.Leaf (start_of account (No refused.at ∷ []))))
-        (marked-runs n (start_of account (No refused.at ∷ [])) (No refused.at) (kept_by account.state.leaves.kept n) (marked account stands)).0
+        (marked-runs n (start_of account (No refused.at ∷ [])) (No refused.at) (kept_by account.state.leaves.kept n)
+        (marked account stands)).0
         (stands-made old account (account.made + 1) stands (omega arith)) refl refl;
-    told = λ account stands. (marked-runs n (start_of account (No refused.at ∷ [])) (No refused.at) (kept_by account.state.leaves.kept n) (marked account stands)).1;
+    told = λ account stands. (marked-runs n (start_of account (No refused.at ∷ [])) (No refused.at) (kept_by account.state.leaves.kept n)
+        (marked account stands)).1;
   }
 
   -- there was no mark
-  unmarked : (s : LeafState) → is_mark s ≡ false → ((account : CellAccount) → StandsFor old account → s ≡ state_of (kept_by account.state.leaves.kept n))
-      → (account : CellAccount) → StandsFor old account → TakesAccount (Copy n) old old [] None account × (copy_end_as (kept_by account.state.leaves.kept n) Yes ≡ state_end s)
+  unmarked : (s : LeafState) → is_mark s ≡ false → ((account : CellAccount) → StandsFor old account
+      → s ≡ state_of (kept_by account.state.leaves.kept n))
+      → (account : CellAccount) → StandsFor old account → TakesAccount (Copy n) old old [] None account
+      × (copy_end_as (kept_by account.state.leaves.kept n) Yes ≡ state_end s)
   unmarked s none told account stands =
       let runs : (copied_as (kept_by account.state.leaves.kept n) n (start_of account []) ≡ start_of account [])
       × (copy_end_as (kept_by account.state.leaves.kept n) Yes ≡ state_end (state_of (kept_by account.state.leaves.kept n))) =
       unmarked-runs n (start_of account []) Yes (kept_by account.state.leaves.kept n) (ap is_mark (sym (told account stands)) ∙ none) in
-      (takes-copy n old old [] None account stands (start_of account []) runs.0 stands refl refl, runs.1 ∙ ap state_end (sym (told account stands)))
+      (takes-copy n old old [] None account stands (start_of account []) runs.0 stands refl refl, runs.1
+      ∙ ap state_end (sym (told account stands)))
 
   pub made-nothing : (s : LeafState) → is_mark s ≡ false → state_end s ≡ NothingToCopy
-      → ((account : CellAccount) → StandsFor old account → s ≡ state_of (kept_by account.state.leaves.kept n)) → MadeCopy goes from from n old old (Ok copied.Nothing)
+      → ((account : CellAccount) → StandsFor old account → s ≡ state_of (kept_by account.state.leaves.kept n))
+      → MadeCopy goes from from n old old (Ok copied.Nothing)
   made-nothing s none ends told = record {
     deals = [];
     led = refl;
@@ -137,7 +151,8 @@ module _ {State : Type 0} (goes : State → Deal → State → Type 0) (from : S
     told = λ account stands. (unmarked s none told account stands).1 ∙ ends;
   }
 
-  pub made-lost : (at : ℕ) → ((account : CellAccount) → StandsFor old account → state.Lost at ≡ state_of (kept_by account.state.leaves.kept n))
+  pub made-lost : (at : ℕ) → ((account : CellAccount) → StandsFor old account
+      → state.Lost at ≡ state_of (kept_by account.state.leaves.kept n))
       → MadeCopy goes from from n old old (Ok (copied.Lost at))
   made-lost at told = record {
     deals = [];
@@ -147,7 +162,8 @@ module _ {State : Type 0} (goes : State → Deal → State → Type 0) (from : S
   }
 
 -- no mark is there, and nothing lost
-pub no-mark : (s : LeafState) → (s ≡ state.Absent) ⊎ ((s ≡ state.Own) ⊎ (s ≡ state.Shared)) → (is_mark s ≡ false) × (state_end s ≡ NothingToCopy)
+pub no-mark : (s : LeafState) → (s ≡ state.Absent) ⊎ ((s ≡ state.Own) ⊎ (s ≡ state.Shared)) → (is_mark s ≡ false)
+    × (state_end s ≡ NothingToCopy)
 no-mark s (inl absent) = (ap is_mark absent, ap state_end absent)
 no-mark s (inr (inl own)) = (ap is_mark own, ap state_end own)
 no-mark s (inr (inr shared)) = (ap is_mark shared, ap state_end shared)

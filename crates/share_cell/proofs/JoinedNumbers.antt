@@ -48,7 +48,8 @@ not-joined Marked it h = ap (λ b. b && is_async it.mode) h
 pub state-tells : (joining : Joining) (it : Kept) → is_state_joined joining (leaf_state it.mode it.leaf) ≡ is_joined_by joining it
 state-tells joining it = by joining it.mode it.leaf
   where
-    by : (joining : Joining) (mode : Mode) (leaf : Leaf) → is_state_joined joining (leaf_state mode leaf) ≡ is_joined_by joining (record it { mode = mode; leaf = leaf })
+    by : (joining : Joining) (mode : Mode) (leaf : Leaf)
+        → is_state_joined joining (leaf_state mode leaf) ≡ is_joined_by joining (record it { mode = mode; leaf = leaf })
     by Shared Eager Own = refl
     by Shared Eager Joined = refl
     by Shared Eager (Lost at) = refl
@@ -93,7 +94,8 @@ found-nth (k ∷ others) zero it rising there =
     let same : k ≡ it = ap (λ o. unwrap_or o k) there in
     ap (λ b. cond b (Some k) (kept_by others it.number)) (ap (λ x. x.number == it.number) same ∙ eqb-refl it.number) ∙ ap Some same
 found-nth (k ∷ others) (suc nth) it rising there =
-    ap (λ b. cond b (Some k) (kept_by others it.number)) (ne_eqb k.number it.number (λ e. absurd (omega (arith, e, above-nth others nth it k.number rising.0 there))))
+    ap (λ b. cond b (Some k) (kept_by others it.number))
+    (ne_eqb k.number it.number (λ e. absurd (omega (arith, e, above-nth others nth it k.number rising.0 there))))
     ∙ found-nth others nth it rising.1 there
 
 -- the nth snapshot, where its number is known
@@ -109,16 +111,20 @@ is-nth kept nth n e = by (slice_get kept nth) refl e
     by None is e = absurd (false≢true (ap is_some e))
     by (Some it) is e = record { it = it; there = is; number = ap (λ o. unwrap_or o it.number) e }
 
-module _ (joining : Joining) (kept : List Kept) (nth : ℕ) (in-front : numbers (is_joined_by joining) (drop nth kept) ≡ numbers (is_joined_by joining) kept) where
+module _ (joining : Joining) (kept : List Kept) (nth : ℕ)
+    (in-front : numbers (is_joined_by joining) (drop nth kept) ≡ numbers (is_joined_by joining) kept) where
   -- it is the first that passes
   pub found-first : (n : ℕ) → AreRising kept → nth_number kept nth ≡ Some n → is_state_joined joining (state_of (kept_by kept n)) ≡ true
       → Some n ≡ slice_get (numbers (is_joined_by joining) kept) 0
   found-first n rising number told =
       let here : IsNth kept nth n = is-nth kept nth n number in
-      let found : kept_by kept n ≡ Some here.it = subst (λ x. kept_by kept x ≡ Some here.it) here.number (found-nth kept nth here.it rising here.there) in
-      let passes : is_joined_by joining here.it ≡ true = sym (state-tells joining here.it) ∙ ap (λ o. is_state_joined joining (state_of o)) (sym found) ∙ told in
+      let found : kept_by kept n ≡ Some here.it = subst (λ x. kept_by kept x ≡ Some here.it) here.number
+          (found-nth kept nth here.it rising here.there) in
+      let passes : is_joined_by joining here.it ≡ true =
+          sym (state-tells joining here.it) ∙ ap (λ o. is_state_joined joining (state_of o)) (sym found) ∙ told in
       ap Some (sym here.number)
-      ∙ ap (λ b. slice_get (map (λ it. it.number) (cond b (here.it ∷ filter (is_joined_by joining) (drop (suc nth) kept)) (filter (is_joined_by joining) (drop (suc nth) kept)))) 0) (sym passes)
+      ∙ ap (λ b. slice_get (map (λ it. it.number) (cond b (here.it ∷ filter (is_joined_by joining) (drop (suc nth) kept))
+      (filter (is_joined_by joining) (drop (suc nth) kept)))) 0) (sym passes)
       ∙ ap (λ xs. slice_get (numbers (is_joined_by joining) xs) 0) (sym (one-more kept nth here.it here.there))
       ∙ ap (λ ns. slice_get ns 0) in-front
 
@@ -127,14 +133,19 @@ module _ (joining : Joining) (kept : List Kept) (nth : ℕ) (in-front : numbers 
       → (numbers (is_joined_by joining) (drop (suc nth) kept) ≡ numbers (is_joined_by joining) kept) × (nth < length kept)
   passed-by n rising number told =
       let here : IsNth kept nth n = is-nth kept nth n number in
-      let found : kept_by kept n ≡ Some here.it = subst (λ x. kept_by kept x ≡ Some here.it) here.number (found-nth kept nth here.it rising here.there) in
-      let fails : is_joined_by joining here.it ≡ false = sym (state-tells joining here.it) ∙ ap (λ o. is_state_joined joining (state_of o)) (sym found) ∙ told in
-      (ap (λ b. map (λ it. it.number) (cond b (here.it ∷ filter (is_joined_by joining) (drop (suc nth) kept)) (filter (is_joined_by joining) (drop (suc nth) kept)))) (sym fails)
-      ∙ ap (numbers (is_joined_by joining)) (sym (one-more kept nth here.it here.there)) ∙ in-front, slice_get_within kept nth here.it here.there)
+      let found : kept_by kept n ≡ Some here.it = subst (λ x. kept_by kept x ≡ Some here.it) here.number
+          (found-nth kept nth here.it rising here.there) in
+      let fails : is_joined_by joining here.it ≡ false =
+          sym (state-tells joining here.it) ∙ ap (λ o. is_state_joined joining (state_of o)) (sym found) ∙ told in
+      (ap (λ b. map (λ it. it.number) (cond b (here.it ∷ filter (is_joined_by joining) (drop (suc nth) kept))
+      (filter (is_joined_by joining) (drop (suc nth) kept)))) (sym fails)
+      ∙ ap (numbers (is_joined_by joining)) (sym (one-more kept nth here.it here.there))
+      ∙ in-front, slice_get_within kept nth here.it here.there)
 
   -- there are no more
   pub none-first : nth_number kept nth ≡ None → None ≡ slice_get (numbers (is_joined_by joining) kept) 0
-  none-first none = ap (λ xs. slice_get (numbers (is_joined_by joining) xs) 0) (sym (past-end kept nth (nothing (slice_get kept nth) none))) ∙ ap (λ ns. slice_get ns 0) in-front
+  none-first none = ap (λ xs. slice_get (numbers (is_joined_by joining) xs) 0) (sym (past-end kept nth (nothing (slice_get kept nth) none)))
+      ∙ ap (λ ns. slice_get ns 0) in-front
     where
       nothing : (o : Option Kept) → option_map (λ it. it.number) o ≡ None → o ≡ None
       nothing None e = refl
@@ -146,45 +157,61 @@ head-above : (test : Kept → Bool) (n m : ℕ) (kept : List Kept) (rest : List 
 head-above test n m [] rest above e = absurd (nil-cons m rest e)
 head-above test n m (k ∷ others) rest above e = by (test k) e (head-above test n m others rest above.1)
   where
-    by : (b : Bool) → map (λ it. it.number) (cond b (k ∷ filter test others) (filter test others)) ≡ m ∷ rest → (numbers test others ≡ m ∷ rest → n < m) → n < m
+    by : (b : Bool) → map (λ it. it.number) (cond b (k ∷ filter test others) (filter test others)) ≡ m ∷ rest
+        → (numbers test others ≡ m ∷ rest → n < m) → n < m
     by true e later = subst (λ x. n < x) (ap head_of e) above.0
     by false e later = later e
 
-pub first-joined : (joining : Joining) (n : ℕ) (kept : List Kept) (rest : List ℕ) → AreRising kept → numbers (is_joined_by joining) kept ≡ n ∷ rest → has_joined (kept_by kept n) ≡ true
+pub first-joined : (joining : Joining) (n : ℕ) (kept : List Kept) (rest : List ℕ) → AreRising kept
+    → numbers (is_joined_by joining) kept ≡ n ∷ rest → has_joined (kept_by kept n) ≡ true
 first-joined joining n [] rest rising e = absurd (nil-cons n rest e)
 first-joined joining n (k ∷ others) rest rising e = by (is_joined_by joining k) refl e (first-joined joining n others rest rising.1)
   where
-    by : (b : Bool) → is_joined_by joining k ≡ b → map (λ it. it.number) (cond b (k ∷ filter (is_joined_by joining) others) (filter (is_joined_by joining) others)) ≡ n ∷ rest
-        → (numbers (is_joined_by joining) others ≡ n ∷ rest → has_joined (kept_by others n) ≡ true) → has_joined (cond (k.number == n) (Some k) (kept_by others n)) ≡ true
-    by true is e later = ap (λ b. has_joined (cond b (Some k) (kept_by others n))) (ap (λ x. x == n) (ap head_of e) ∙ eqb-refl n) ∙ joined-by joining k is
+    by : (b : Bool) → is_joined_by joining k ≡ b → map (λ it. it.number)
+        (cond b (k ∷ filter (is_joined_by joining) others) (filter (is_joined_by joining) others)) ≡ n ∷ rest
+        → (numbers (is_joined_by joining) others ≡ n ∷ rest → has_joined (kept_by others n) ≡ true)
+        → has_joined (cond (k.number == n) (Some k) (kept_by others n)) ≡ true
+    by true is e later = ap (λ b. has_joined (cond b (Some k) (kept_by others n))) (ap (λ x. x == n) (ap head_of e) ∙ eqb-refl n)
+        ∙ joined-by joining k is
     by false is e later = ap (λ b. has_joined (cond b (Some k) (kept_by others n)))
-        (ne_eqb k.number n (λ same. absurd (omega (arith, same, head-above (is_joined_by joining) k.number n others rest rising.0 e)))) ∙ later e
+        (ne_eqb k.number n (λ same. absurd (omega (arith, same, head-above (is_joined_by joining) k.number n others rest rising.0 e))))
+        ∙ later e
 
-none-above : (joining : Joining) (n : ℕ) (kept : List Kept) → AreAbove n kept → AllByRecursion (λ it. (it.number == n) ≡ true → is_joined_by joining it ≡ true) kept
+none-above : (joining : Joining) (n : ℕ) (kept : List Kept) → AreAbove n kept
+    → AllByRecursion (λ it. (it.number == n) ≡ true → is_joined_by joining it ≡ true) kept
 none-above joining n [] above = tt
-none-above joining n (it ∷ others) above = ((λ same. absurd (omega (arith, eqb-true it.number n same, above.0))), none-above joining n others above.1)
+none-above joining n (it ∷ others) above = ((λ same. absurd (omega (arith, eqb-true it.number n same, above.0))), none-above joining n
+    others above.1)
 
 -- the snapshot of this number passes the test, where one has it
-pub first-passes : (joining : Joining) (n : ℕ) (kept : List Kept) (rest : List ℕ) → AreRising kept → numbers (is_joined_by joining) kept ≡ n ∷ rest
+pub first-passes : (joining : Joining) (n : ℕ) (kept : List Kept) (rest : List ℕ) → AreRising kept
+    → numbers (is_joined_by joining) kept ≡ n ∷ rest
     → AllByRecursion (λ it. (it.number == n) ≡ true → is_joined_by joining it ≡ true) kept
 first-passes joining n [] rest rising e = tt
 first-passes joining n (k ∷ others) rest rising e = by (is_joined_by joining k) refl e (first-passes joining n others rest rising.1)
   where
-    by : (b : Bool) → is_joined_by joining k ≡ b → map (λ it. it.number) (cond b (k ∷ filter (is_joined_by joining) others) (filter (is_joined_by joining) others)) ≡ n ∷ rest
-        → (numbers (is_joined_by joining) others ≡ n ∷ rest → AllByRecursion (λ it. (it.number == n) ≡ true → is_joined_by joining it ≡ true) others)
-        → ((k.number == n) ≡ true → is_joined_by joining k ≡ true) × AllByRecursion (λ it. (it.number == n) ≡ true → is_joined_by joining it ≡ true) others
+    by : (b : Bool) → is_joined_by joining k ≡ b → map (λ it. it.number)
+        (cond b (k ∷ filter (is_joined_by joining) others) (filter (is_joined_by joining) others)) ≡ n ∷ rest
+        → (numbers (is_joined_by joining) others ≡ n ∷ rest
+        → AllByRecursion (λ it. (it.number == n) ≡ true → is_joined_by joining it ≡ true) others)
+        → ((k.number == n) ≡ true → is_joined_by joining k ≡ true)
+        × AllByRecursion (λ it. (it.number == n) ≡ true → is_joined_by joining it ≡ true) others
     by true is e later = ((λ same. is), none-above joining n others (subst (λ x. AreAbove x others) (ap head_of e) rising.0))
-    by false is e later = ((λ same. absurd (omega (arith, eqb-true k.number n same, head-above (is_joined_by joining) k.number n others rest rising.0 e))), later e)
+    by false is e later = ((λ same. absurd (omega (arith, eqb-true k.number n same, head-above (is_joined_by joining) k.number n others rest
+        rising.0 e))), later e)
 
 -- a leaf that was copied is not joined
-copied-unjoined : (joining : Joining) (before after : ℕ) (old new : Kept) → IsLeafCopied true before after old.leaf new.leaf → is_joined_by joining new ≡ false
+copied-unjoined : (joining : Joining) (before after : ℕ) (old new : Kept) → IsLeafCopied true before after old.leaf new.leaf
+    → is_joined_by joining new ≡ false
 copied-unjoined joining before after old new (inl own) = not-joined joining new (ap is_joined own)
 copied-unjoined joining before after old new (inr lost) = not-joined joining new (ap is_joined lost.1)
 
 -- one snapshot in front that passes as before
 pub same-head : (joining : Joining) (o w : Kept) (os ws : List Kept) → w.number ≡ o.number → is_joined_by joining w ≡ is_joined_by joining o
-    → numbers (is_joined_by joining) ws ≡ numbers (is_joined_by joining) os → numbers (is_joined_by joining) (w ∷ ws) ≡ numbers (is_joined_by joining) (o ∷ os)
-same-head joining o w os ws number test rest = ap (λ b. map (λ it. it.number) (cond b (w ∷ filter (is_joined_by joining) ws) (filter (is_joined_by joining) ws))) test ∙ by (is_joined_by joining o)
+    → numbers (is_joined_by joining) ws ≡ numbers (is_joined_by joining) os
+    → numbers (is_joined_by joining) (w ∷ ws) ≡ numbers (is_joined_by joining) (o ∷ os)
+same-head joining o w os ws number test rest = ap (λ b. map (λ it. it.number)
+    (cond b (w ∷ filter (is_joined_by joining) ws) (filter (is_joined_by joining) ws))) test ∙ by (is_joined_by joining o)
   where
     by : (b : Bool) → map (λ it. it.number) (cond b (w ∷ filter (is_joined_by joining) ws) (filter (is_joined_by joining) ws))
         ≡ map (λ it. it.number) (cond b (o ∷ filter (is_joined_by joining) os) (filter (is_joined_by joining) os))
@@ -192,7 +219,8 @@ same-head joining o w os ws number test rest = ap (λ b. map (λ it. it.number) 
     by false = rest
 
 -- behind the copy of number n, who has another number passes as before
-numbers-above : (joining : Joining) (n before after : ℕ) (olds news : List Kept) → AreAbove n olds → AreCopied (is_number n) before after olds news
+numbers-above : (joining : Joining) (n before after : ℕ) (olds news : List Kept) → AreAbove n olds
+    → AreCopied (is_number n) before after olds news
     → numbers (is_joined_by joining) news ≡ numbers (is_joined_by joining) olds
 numbers-above joining n before after [] [] above copied = refl
 numbers-above joining n before after [] (w ∷ ws) above copied = absurd copied
@@ -200,11 +228,13 @@ numbers-above joining n before after (o ∷ os) [] above copied = absurd copied
 numbers-above joining n before after (o ∷ os) (w ∷ ws) above copied =
     let other : (o.number == n) ≡ false = ne_eqb o.number n (λ e. absurd (omega (arith, e, above.0))) in
     let leaf : w.leaf ≡ o.leaf = subst (λ b. IsLeafCopied b before after o.leaf w.leaf) other copied.2 in
-    let rest : numbers (is_joined_by joining) ws ≡ numbers (is_joined_by joining) os = numbers-above joining n before after os ws above.1 copied.3 in
+    let rest : numbers (is_joined_by joining) ws ≡ numbers (is_joined_by joining) os =
+        numbers-above joining n before after os ws above.1 copied.3 in
     same-head joining o w os ws copied.0 (same-test joining o w copied.1 leaf) rest
 
 -- behind the copy of the first, those behind it are left
-pub numbers-left : (joining : Joining) (n before after : ℕ) (olds news : List Kept) (rest : List ℕ) → AreRising olds → AreCopied (is_number n) before after olds news
+pub numbers-left : (joining : Joining) (n before after : ℕ) (olds news : List Kept) (rest : List ℕ) → AreRising olds
+    → AreCopied (is_number n) before after olds news
     → numbers (is_joined_by joining) olds ≡ n ∷ rest → numbers (is_joined_by joining) news ≡ rest
 numbers-left joining n before after [] [] rest rising copied e = absurd (nil-cons n rest e)
 numbers-left joining n before after [] (w ∷ ws) rest rising copied e = absurd copied
@@ -212,8 +242,10 @@ numbers-left joining n before after (o ∷ os) [] rest rising copied e = absurd 
 numbers-left joining n before after (o ∷ os) (w ∷ ws) rest rising copied e =
     by (is_joined_by joining o) refl e (numbers-left joining n before after os ws rest rising.1 copied.3)
   where
-    by : (b : Bool) → is_joined_by joining o ≡ b → map (λ it. it.number) (cond b (o ∷ filter (is_joined_by joining) os) (filter (is_joined_by joining) os)) ≡ n ∷ rest
-        → (numbers (is_joined_by joining) os ≡ n ∷ rest → numbers (is_joined_by joining) ws ≡ rest) → numbers (is_joined_by joining) (w ∷ ws) ≡ rest
+    by : (b : Bool) → is_joined_by joining o ≡ b → map (λ it. it.number)
+        (cond b (o ∷ filter (is_joined_by joining) os) (filter (is_joined_by joining) os)) ≡ n ∷ rest
+        → (numbers (is_joined_by joining) os ≡ n ∷ rest → numbers (is_joined_by joining) ws ≡ rest)
+        → numbers (is_joined_by joining) (w ∷ ws) ≡ rest
     by true is e later =
         let same : o.number ≡ n = ap head_of e in
         let gone : is_joined_by joining w ≡ false = copied-unjoined joining before after o w
@@ -221,16 +253,20 @@ numbers-left joining n before after (o ∷ os) (w ∷ ws) rest rising copied e =
         ap (λ b. map (λ it. it.number) (cond b (w ∷ filter (is_joined_by joining) ws) (filter (is_joined_by joining) ws))) gone
         ∙ numbers-above joining n before after os ws (subst (λ x. AreAbove x os) same rising.0) copied.3 ∙ ap tail_of e
     by false is e later =
-        let apart : (o.number == n) ≡ false = ne_eqb o.number n (λ same. absurd (omega (arith, same, head-above (is_joined_by joining) o.number n os rest rising.0 e))) in
+        let apart : (o.number == n) ≡ false = ne_eqb o.number n
+            (λ same. absurd (omega (arith, same, head-above (is_joined_by joining) o.number n os rest rising.0 e))) in
         let leaf : w.leaf ≡ o.leaf = subst (λ b. IsLeafCopied b before after o.leaf w.leaf) apart copied.2 in
-        ap (λ b. map (λ it. it.number) (cond b (w ∷ filter (is_joined_by joining) ws) (filter (is_joined_by joining) ws))) (same-test joining o w copied.1 leaf ∙ is) ∙ later e
+        ap (λ b. map (λ it. it.number) (cond b (w ∷ filter (is_joined_by joining) ws) (filter (is_joined_by joining) ws)))
+        (same-test joining o w copied.1 leaf ∙ is) ∙ later e
 
 -- the same numbers on both sides
-pub numbers-alike : (joining : Joining) (name : ℕ → ℕ → ℕ) (view meant : List Kept) → AreKeptAlike name view meant → numbers (is_joined_by joining) meant ≡ numbers (is_joined_by joining) view
+pub numbers-alike : (joining : Joining) (name : ℕ → ℕ → ℕ) (view meant : List Kept) → AreKeptAlike name view meant
+    → numbers (is_joined_by joining) meant ≡ numbers (is_joined_by joining) view
 numbers-alike joining name [] [] alike = refl
 numbers-alike joining name [] (m ∷ ms) alike = absurd alike
 numbers-alike joining name (v ∷ vs) [] alike = absurd alike
-numbers-alike joining name (v ∷ vs) (m ∷ ms) alike = same-head joining v m vs ms (sym alike.0.number) (same-test joining v m (sym alike.0.mode) (sym alike.0.leaf))
+numbers-alike joining name (v ∷ vs) (m ∷ ms) alike =
+    same-head joining v m vs ms (sym alike.0.number) (same-test joining v m (sym alike.0.mode) (sym alike.0.leaf))
     (numbers-alike joining name vs ms alike.1)
 
 -- ---- lists of numbers

@@ -35,7 +35,8 @@ module _ {State : Type 0} (goes : State → Deal → State → Type 0) (from : S
   }
 
   -- it was refused, and the snapshot has lost the cell
-  pub made-refused : (middle to : State) (at : ℕ) → goes from (Denied want.Leaf at) middle → MadePart goes middle to (leaf_copy_answered n (No at)) old new
+  pub made-refused : (middle to : State) (at : ℕ) → goes from (Denied want.Leaf at) middle
+      → MadePart goes middle to (leaf_copy_answered n (No at)) old new
       → MadeWithin goes from to (leaf_copied n) old new
   made-refused middle to at denied lost = record {
     deals = Denied want.Leaf at ∷ lost.deals;
@@ -43,7 +44,8 @@ module _ {State : Type 0} (goes : State → Deal → State → Type 0) (from : S
     follows = λ account stands. takes account stands;
   }
     where
-      takes : (account : CellAccount) → StandsFor old account → TakesWithin (leaf_copied n) old new (Denied want.Leaf at ∷ lost.deals) account
+      takes : (account : CellAccount) → StandsFor old account
+          → TakesWithin (leaf_copied n) old new (Denied want.Leaf at ∷ lost.deals) account
       takes account stands =
           let part : TakesPart (leaf_copy_answered n (No at)) old new lost.deals (asked_once account) =
           lost.follows (asked_once account) (stands-made old account (account.made + 1) stands (omega arith)) in
@@ -57,7 +59,8 @@ module _ {State : Type 0} (goes : State → Deal → State → Type 0) (from : S
             runs = record {
               runs = λ before rest.
                   let dealt : (before ++ Denied want.Leaf at ∷ []) ++ replicate k Returned ≡ before ++ Denied want.Leaf at ∷ lost.deals =
-                  append_assoc before (Denied want.Leaf at ∷ []) (replicate k Returned) ∙ ap (λ ds. before ++ Denied want.Leaf at ∷ ds) part.asked in
+                  append_assoc before (Denied want.Leaf at ∷ []) (replicate k Returned)
+                  ∙ ap (λ ds. before ++ Denied want.Leaf at ∷ ds) part.asked in
                   λ i. record { cell = leaves; requests = requests_between (account.made + 1) (none i ++ rest) (dealt i); refused = None };
             };
           }

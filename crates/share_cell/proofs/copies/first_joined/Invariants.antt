@@ -6,7 +6,8 @@ use Rattle.share_cell.proofs.JoinedNumbers.{numbers}
 use Rattle.share_cell.proofs.copies.first_joined.Given as goal
 
 abbrev pub invariant-loop-number : goal.invariant-loop-number
-invariant-loop-number l = (numbers (is_joined_by l.joining) (drop l.nth l.cell.leaves.kept) ≡ numbers (is_joined_by l.joining) l.cell.leaves.kept)
+invariant-loop-number l = (numbers (is_joined_by l.joining) (drop l.nth l.cell.leaves.kept)
+    ≡ numbers (is_joined_by l.joining) l.cell.leaves.kept)
     × (l.nth ≤ length l.cell.leaves.kept)
 
 abbrev pub decreases-loop-number : goal.decreases-loop-number
