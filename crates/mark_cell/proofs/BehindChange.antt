@@ -76,9 +76,9 @@ module _ {State : Type 0} (goes : State → Deal → State → Type 0) (from mid
         let alone : Course = touched_alone page took.leaves took.made (answers_of deals) in
         let start : Course = course_between account.state.leaves account.made (answers_of (copied.deals ++ deals)) [] in
         let runs : before_change start ≡ course_between took.leaves took.made (answers_of deals) copied.deals =
-            copies-run account took deals in
+        copies-run account took deals in
         let act : RunsAt (course_touched page) took.leaves took.made deals alone.cell alone.requests.made alone.refused =
-            touch-runs page took.leaves took.made deals meant touch.asked in
+        touch-runs page took.leaves took.made deals meant touch.asked in
         takes-by (Touch page) (λ cell other it. it) old new (copied.deals ++ deals) refused account
         (record { cell = alone.cell; requests = requests_between alone.requests.made [] (copied.deals ++ deals); refused = alone.refused })
         (touched-behind_copies page start (meant-pages old account stands ∙ pages) (subst (λ c. AreUnjoined c.cell.kept) (sym runs) meant)
@@ -94,10 +94,10 @@ module _ {State : Type 0} (goes : State → Deal → State → Type 0) (from mid
         let here : Course = course_between took.leaves took.made (answers_of deals) [] in
         let start : Course = course_between account.state.leaves account.made (answers_of (copied.deals ++ deals)) [] in
         let runs : before_change start ≡ course_between took.leaves took.made (answers_of deals) copied.deals =
-            copies-run account took deals in
+        copies-run account took deals in
         let there : has_present account.state.leaves.parent first n ≡ true = sym (present-stands old account stands first n) ∙ present in
         let still : has_present took.leaves.parent first n ≡ true = ap (λ c. has_present c.cell.parent first n) (sym runs)
-            ∙ ap (λ vs. has_present vs first n) (parent-before start) ∙ there in
+        ∙ ap (λ vs. has_present vs first n) (parent-before start) ∙ there in
         let act : course_behind (Clear first n) (account_between account took) deals ≡ pages_cleared first n here =
         ap (λ b. cond b (pages_cleared first n (before_change here)) here) still
         ∙ ap (pages_cleared first n) (before_change-none here meant) in
@@ -114,10 +114,10 @@ module _ {State : Type 0} (goes : State → Deal → State → Type 0) (from mid
         let here : Course = course_between took.leaves took.made (answers_of deals) [] in
         let start : Course = course_between account.state.leaves account.made (answers_of (copied.deals ++ deals)) [] in
         let runs : before_change start ≡ course_between took.leaves took.made (answers_of deals) copied.deals =
-            copies-run account took deals in
+        copies-run account took deals in
         let there : has_present account.state.leaves.parent first n ≡ true = sym (present-stands old account stands first n) ∙ present in
         let still : has_present took.leaves.parent first n ≡ true = ap (λ c. has_present c.cell.parent first n) (sym runs)
-            ∙ ap (λ vs. has_present vs first n) (parent-before start) ∙ there in
+        ∙ ap (λ vs. has_present vs first n) (parent-before start) ∙ there in
         let act : course_behind (Protect first n perm) (account_between account took) deals ≡ here =
         ap (λ b. cond b (before_change here) here) still ∙ before_change-none here meant in
         takes-by (Protect first n perm) (λ cell other it. it) old new (copied.deals ++ deals) None account

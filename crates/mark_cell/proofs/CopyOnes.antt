@@ -137,9 +137,10 @@ module _ {State : Type 0} (goes : State → Deal → State → Type 0) (from : S
   unmarked s none told account stands =
       let runs : (copied_as (kept_by account.state.leaves.kept n) n (start_of account []) ≡ start_of account [])
       × (copy_end_as (kept_by account.state.leaves.kept n) Yes ≡ state_end (state_of (kept_by account.state.leaves.kept n))) =
-      unmarked-runs n (start_of account []) Yes (kept_by account.state.leaves.kept n) (ap is_mark (sym (told account stands)) ∙ none) in
-      (takes-copy n old old [] None account stands (start_of account []) runs.0 stands refl refl, runs.1
-      ∙ ap state_end (sym (told account stands)))
+      unmarked-runs n (start_of account []) Yes (kept_by account.state.leaves.kept n) (ap is_mark (sym (told account stands)) ∙ none) in (
+        takes-copy n old old [] None account stands (start_of account []) runs.0 stands refl refl,
+        runs.1 ∙ ap state_end (sym (told account stands)),
+      )
 
   pub made-nothing : (s : LeafState) → is_mark s ≡ false → state_end s ≡ NothingToCopy
       → ((account : CellAccount) → StandsFor old account → s ≡ state_of (kept_by account.state.leaves.kept n))

@@ -37,9 +37,12 @@ both-copied before middle after [] [] (w ∷ ws) one two first next = absurd nex
 both-copied before middle after [] (m ∷ ms) news one two first next = absurd first
 both-copied before middle after (o ∷ os) [] news one two first next = absurd first
 both-copied before middle after (o ∷ os) (m ∷ ms) [] one two first next = absurd next
-both-copied before middle after (o ∷ os) (m ∷ ms) (w ∷ ws) one two first next =
-    (next.0 ∙ first.0, next.1 ∙ first.1, by (is_shared o) refl first.2 (is_marked m) refl next.2, both-copied before middle after os ms ws
-    one two first.3 next.3)
+both-copied before middle after (o ∷ os) (m ∷ ms) (w ∷ ws) one two first next = (
+  next.0 ∙ first.0,
+  next.1 ∙ first.1,
+  by (is_shared o) refl first.2 (is_marked m) refl next.2,
+  both-copied before middle after os ms ws one two first.3 next.3,
+)
   where
     by : (s : Bool) → is_shared o ≡ s → IsLeafCopied s before middle o.leaf m.leaf → (k : Bool) → is_marked m ≡ k
         → IsLeafCopied k middle after m.leaf w.leaf
@@ -55,7 +58,7 @@ both-copied before middle after (o ∷ os) (m ∷ ms) (w ∷ ws) one two first n
         (later-copy before middle after m.leaf w.leaf o.leaf one now)
     by false shared was false marked now =
         let not_marked : (is_joined o.leaf && is_async o.mode) ≡ false = (λ i. is_joined (sym was i) && is_async (sym first.1 i))
-            ∙ marked in
+        ∙ marked in
         subst (λ b. IsLeafCopied b before after o.leaf w.leaf) (sym (neither (is_joined o.leaf) (is_async o.mode) shared not_marked)) (now
         ∙ was)
 
@@ -78,8 +81,10 @@ none-copied count (it ∷ others) unjoined =
 
 marked-unlost : (kept : List Kept) → AllByRecursion (λ it. is_marked it ≡ true → is_lost it.leaf ≡ false) kept
 marked-unlost [] = tt
-marked-unlost (it ∷ others) = ((λ marked. joined-unlost it.leaf (and_parts (is_joined it.leaf) (is_async it.mode) marked).0), marked-unlost
-    others)
+marked-unlost (it ∷ others) = (
+  (λ marked. joined-unlost it.leaf (and_parts (is_joined it.leaf) (is_async it.mode) marked).0),
+  marked-unlost others,
+)
 
 pages-of : (test : Kept → Bool) (before after : ℕ) (old new : CellView) → Copies test before after old new → KeepsPages old new
 pages-of test before after old new copies = record {
@@ -95,7 +100,7 @@ pub copies-joined : (before middle after : ℕ) (old between new : CellView) →
     → CopiesJoined before after old new
 copies-joined before middle after old between new first next =
     let pages : KeepsPages old new = keeps-more is_marked middle after old between new (marked-unlost between.leaves.kept)
-        (pages-of is_shared before middle old between first) next in
+    (pages-of is_shared before middle old between first) next in
     let all : AreCopied is_joined_kept before after old.leaves.kept new.leaves.kept =
     both-copied before middle after old.leaves.kept between.leaves.kept new.leaves.kept first.counted next.counted first.snapshots
     next.snapshots in

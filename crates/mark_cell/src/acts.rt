@@ -53,8 +53,8 @@ pub fn clear_pages<A: Allot>(cell: &mut Cell, first: u16, pages: u16, allot: &mu
     ensures cleared { has_present cell.old.leaves.parent first pages ≡ true
         → BehindCopies (A.refused (A.state allot.old)) cell.old (λ count between.
         IsCleared first pages between cell.new
-            × (cell.new.writable ≡ without_writable first pages between.writable)
-            × (A.refused (A.state allot.new) ≡ count)) }
+        × (cell.new.writable ≡ without_writable first pages between.writable)
+        × (A.refused (A.state allot.new) ≡ count)) }
     ensures unchanged { has_present cell.old.leaves.parent first pages ≡ false
         → (cell.new ≡ cell.old) × (A.state allot.new ≡ A.state allot.old) }
 {
@@ -66,13 +66,7 @@ pub fn clear_pages<A: Allot>(cell: &mut Cell, first: u16, pages: u16, allot: &mu
 
 /// Gives the parent's pages of a range a permission. Where one of them is present, first each leaf
 /// that is joined is copied; where none is nothing changes.
-pub fn protect_pages<A: Allot>(
-    cell: &mut Cell,
-    first: u16,
-    pages: u16,
-    perm: Perm,
-    allot: &mut A,
-)
+pub fn protect_pages<A: Allot>(cell: &mut Cell, first: u16, pages: u16, perm: Perm, allot: &mut A)
     requires range { first + pages ≤ 512 }
     requires held { held_of cell.old ≤ A.out (A.state allot.old) }
     requires untold { A.grants allot.old ≡ None }
@@ -84,7 +78,7 @@ pub fn protect_pages<A: Allot>(
     ensures protected { has_present cell.old.leaves.parent first pages ≡ true
         → BehindCopies (A.refused (A.state allot.old)) cell.old (λ count between.
         (cell.new ≡ record between { writable = allowed perm first pages between })
-            × (A.refused (A.state allot.new) ≡ count)) }
+        × (A.refused (A.state allot.new) ≡ count)) }
     ensures unchanged { has_present cell.old.leaves.parent first pages ≡ false
         → (cell.new ≡ cell.old) × (A.state allot.new ≡ A.state allot.old) }
 {

@@ -43,11 +43,7 @@ pub fn fork_mark(cell: &mut Cell, number: u32)
 
 /// The copy that the snapshot itself makes: a marked leaf becomes its own. After a refusal the leaf
 /// stays marked, and the snapshot may ask again.
-pub fn copy_one<A: Allot>(
-    cell: &mut Cell,
-    number: u32,
-    allot: &mut A,
-) -> Result<Copied, Refused>
+pub fn copy_one<A: Allot>(cell: &mut Cell, number: u32, allot: &mut A) -> Result<Copied, Refused>
     requires granted { state_of (kept_by cell.old.leaves.kept number) ≡ state.Marked
         → IfSome (A.grants allot.old) (λ left. 0 < left) }
     ensures made { MadeCopy A.goes (A.state allot.old) (A.state allot.new) number cell.old cell.new

@@ -51,7 +51,7 @@ with_leaf-above : (n : ℕ) (leaf : Leaf) (kept : List Kept) → AreAbove n kept
 with_leaf-above n leaf [] above = refl
 with_leaf-above n leaf (k ∷ ks) above =
     ap (λ b. cond b (record k { leaf = leaf }) k ∷ with_leaf (is_number n) leaf ks)
-        (ne_eqb k.number n (λ e. absurd (omega (arith, e, above.0))))
+    (ne_eqb k.number n (λ e. absurd (omega (arith, e, above.0))))
     ∙ ap (λ rest. k ∷ rest) (with_leaf-above n leaf ks above.1)
 
 pub joined-unlost : (leaf : Leaf) → is_joined leaf ≡ true → is_lost leaf ≡ false

@@ -119,9 +119,9 @@ module _ (joining : Joining) (kept : List Kept) (nth : ℕ)
   found-first n rising number told =
       let here : IsNth kept nth n = is-nth kept nth n number in
       let found : kept_by kept n ≡ Some here.it = subst (λ x. kept_by kept x ≡ Some here.it) here.number
-          (found-nth kept nth here.it rising here.there) in
+      (found-nth kept nth here.it rising here.there) in
       let passes : is_joined_by joining here.it ≡ true =
-          sym (state-tells joining here.it) ∙ ap (λ o. is_state_joined joining (state_of o)) (sym found) ∙ told in
+      sym (state-tells joining here.it) ∙ ap (λ o. is_state_joined joining (state_of o)) (sym found) ∙ told in
       ap Some (sym here.number)
       ∙ ap (λ b. slice_get (map (λ it. it.number) (cond b (here.it ∷ filter (is_joined_by joining) (drop (suc nth) kept))
       (filter (is_joined_by joining) (drop (suc nth) kept)))) 0) (sym passes)
@@ -134,13 +134,15 @@ module _ (joining : Joining) (kept : List Kept) (nth : ℕ)
   passed-by n rising number told =
       let here : IsNth kept nth n = is-nth kept nth n number in
       let found : kept_by kept n ≡ Some here.it = subst (λ x. kept_by kept x ≡ Some here.it) here.number
-          (found-nth kept nth here.it rising here.there) in
+      (found-nth kept nth here.it rising here.there) in
       let fails : is_joined_by joining here.it ≡ false =
-          sym (state-tells joining here.it) ∙ ap (λ o. is_state_joined joining (state_of o)) (sym found) ∙ told in
-      (ap (λ b. map (λ it. it.number) (cond b (here.it ∷ filter (is_joined_by joining) (drop (suc nth) kept))
-      (filter (is_joined_by joining) (drop (suc nth) kept)))) (sym fails)
-      ∙ ap (numbers (is_joined_by joining)) (sym (one-more kept nth here.it here.there))
-      ∙ in-front, slice_get_within kept nth here.it here.there)
+      sym (state-tells joining here.it) ∙ ap (λ o. is_state_joined joining (state_of o)) (sym found) ∙ told in (
+        ap (λ b. map (λ it. it.number) (cond b (here.it ∷ filter (is_joined_by joining) (drop (suc nth) kept))
+            (filter (is_joined_by joining) (drop (suc nth) kept)))) (sym fails)
+            ∙ ap (numbers (is_joined_by joining)) (sym (one-more kept nth here.it here.there))
+            ∙ in-front,
+        slice_get_within kept nth here.it here.there,
+      )
 
   -- there are no more
   pub none-first : nth_number kept nth ≡ None → None ≡ slice_get (numbers (is_joined_by joining) kept) 0
@@ -180,8 +182,10 @@ first-joined joining n (k ∷ others) rest rising e = by (is_joined_by joining k
 none-above : (joining : Joining) (n : ℕ) (kept : List Kept) → AreAbove n kept
     → AllByRecursion (λ it. (it.number == n) ≡ true → is_joined_by joining it ≡ true) kept
 none-above joining n [] above = tt
-none-above joining n (it ∷ others) above = ((λ same. absurd (omega (arith, eqb-true it.number n same, above.0))), none-above joining n
-    others above.1)
+none-above joining n (it ∷ others) above = (
+  (λ same. absurd (omega (arith, eqb-true it.number n same, above.0))),
+  none-above joining n others above.1,
+)
 
 -- the snapshot of this number passes the test, where one has it
 pub first-passes : (joining : Joining) (n : ℕ) (kept : List Kept) (rest : List ℕ) → AreRising kept
@@ -197,8 +201,14 @@ first-passes joining n (k ∷ others) rest rising e = by (is_joined_by joining k
         → ((k.number == n) ≡ true → is_joined_by joining k ≡ true)
         × AllByRecursion (λ it. (it.number == n) ≡ true → is_joined_by joining it ≡ true) others
     by true is e later = ((λ same. is), none-above joining n others (subst (λ x. AreAbove x others) (ap head_of e) rising.0))
-    by false is e later = ((λ same. absurd (omega (arith, eqb-true k.number n same, head-above (is_joined_by joining) k.number n others rest
-        rising.0 e))), later e)
+    by false is e later = (
+      (λ same. absurd (omega (
+        arith,
+        eqb-true k.number n same,
+        head-above (is_joined_by joining) k.number n others rest rising.0 e,
+      ))),
+      later e,
+    )
 
 -- a leaf that was copied is not joined
 copied-unjoined : (joining : Joining) (before after : ℕ) (old new : Kept) → IsLeafCopied true before after old.leaf new.leaf
@@ -229,7 +239,7 @@ numbers-above joining n before after (o ∷ os) (w ∷ ws) above copied =
     let other : (o.number == n) ≡ false = ne_eqb o.number n (λ e. absurd (omega (arith, e, above.0))) in
     let leaf : w.leaf ≡ o.leaf = subst (λ b. IsLeafCopied b before after o.leaf w.leaf) other copied.2 in
     let rest : numbers (is_joined_by joining) ws ≡ numbers (is_joined_by joining) os =
-        numbers-above joining n before after os ws above.1 copied.3 in
+    numbers-above joining n before after os ws above.1 copied.3 in
     same-head joining o w os ws copied.0 (same-test joining o w copied.1 leaf) rest
 
 -- behind the copy of the first, those behind it are left
@@ -254,7 +264,7 @@ numbers-left joining n before after (o ∷ os) (w ∷ ws) rest rising copied e =
         ∙ numbers-above joining n before after os ws (subst (λ x. AreAbove x os) same rising.0) copied.3 ∙ ap tail_of e
     by false is e later =
         let apart : (o.number == n) ≡ false = ne_eqb o.number n
-            (λ same. absurd (omega (arith, same, head-above (is_joined_by joining) o.number n os rest rising.0 e))) in
+        (λ same. absurd (omega (arith, same, head-above (is_joined_by joining) o.number n os rest rising.0 e))) in
         let leaf : w.leaf ≡ o.leaf = subst (λ b. IsLeafCopied b before after o.leaf w.leaf) apart copied.2 in
         ap (λ b. map (λ it. it.number) (cond b (w ∷ filter (is_joined_by joining) ws) (filter (is_joined_by joining) ws)))
         (same-test joining o w copied.1 leaf ∙ is) ∙ later e

@@ -161,19 +161,26 @@ some-more joining n before middle after [] [] (w ∷ ws) one two passes some cop
 some-more joining n before middle after [] (m ∷ ms) news one two passes some copied = absurd some
 some-more joining n before middle after (o ∷ os) [] news one two passes some copied = absurd some
 some-more joining n before middle after (o ∷ os) (m ∷ ms) [] one two passes some copied = absurd copied
-some-more joining n before middle after (o ∷ os) (m ∷ ms) (w ∷ ws) one two passes some copied =
-    (copied.0 ∙ some.0, copied.1 ∙ some.1, by (m.number == n) refl copied.2 some.2, some-more joining n before middle after os ms ws one two
-    passes.1 some.3 copied.3)
+some-more joining n before middle after (o ∷ os) (m ∷ ms) (w ∷ ws) one two passes some copied = (
+  copied.0 ∙ some.0,
+  copied.1 ∙ some.1,
+  by (m.number == n) refl copied.2 some.2,
+  some-more joining n before middle after os ms ws one two passes.1 some.3 copied.3,
+)
   where
     by : (b : Bool) → (m.number == n) ≡ b → IsLeafCopied b middle after m.leaf w.leaf
         → IsLeafSome (is_joined_by joining o) before middle o.leaf m.leaf
         → IsLeafSome (is_joined_by joining o) before after o.leaf w.leaf
-    by true is now (inl same) = inr (sym (same-test joining o m some.1 same)
-        ∙ passes.0 is, later-copy before middle after m.leaf w.leaf o.leaf one now)
+    by true is now (inl same) = inr (
+      sym (same-test joining o m some.1 same) ∙ passes.0 is,
+      later-copy before middle after m.leaf w.leaf o.leaf one now,
+    )
     by true is now (inr was) = inr (was.0, later-copy before middle after m.leaf w.leaf o.leaf one now)
     by false is now (inl same) = inl (now ∙ same)
-    by false is now (inr was) = inr (was.0, subst (IsLeafCopied true before after o.leaf) (sym now)
-        (earlier-copy before middle after o.leaf m.leaf two was.1))
+    by false is now (inr was) = inr (
+      was.0,
+      subst (IsLeafCopied true before after o.leaf) (sym now) (earlier-copy before middle after o.leaf m.leaf two was.1),
+    )
 
 -- none passes any more: all were copied
 pub some-all : (joining : Joining) (before after : ℕ) (olds news : List Kept) → numbers (is_joined_by joining) news ≡ []
@@ -182,9 +189,12 @@ pub some-all : (joining : Joining) (before after : ℕ) (olds news : List Kept) 
 some-all joining before after [] [] none some = tt
 some-all joining before after [] (w ∷ ws) none some = absurd some
 some-all joining before after (o ∷ os) [] none some = absurd some
-some-all joining before after (o ∷ os) (w ∷ ws) none some =
-    (some.0, some.1, by (is_joined_by joining o) refl some.2, some-all joining before after os ws (rest (is_joined_by joining w) none)
-    some.3)
+some-all joining before after (o ∷ os) (w ∷ ws) none some = (
+  some.0,
+  some.1,
+  by (is_joined_by joining o) refl some.2,
+  some-all joining before after os ws (rest (is_joined_by joining w) none) some.3,
+)
   where
     fails : is_joined_by joining w ≡ false
     fails = never (is_joined_by joining w) none
@@ -217,8 +227,13 @@ pub record KeepsPages (old new : CellView) : Type 0 where
   pub writable : (p : ℕ) → writable_at new.writable p ≡ true → writable_at old.writable p ≡ true
 
 pub keeps-none : (view : CellView) → KeepsPages view view
-keeps-none view = record { parent = refl; reads = λ p small. refl; kept = λ n p unlost small. refl; still = λ p alone. alone; writable =
-    λ p may. may }
+keeps-none view = record {
+  parent = refl;
+  reads = λ p small. refl;
+  kept = λ n p unlost small. refl;
+  still = λ p alone. alone;
+  writable = λ p may. may;
+}
 
 -- who is not lost behind copies of leaves that were not lost was not before
 pub unlost-before : (test : Kept → Bool) (middle after : ℕ) (mids news : List Kept)
@@ -258,5 +273,7 @@ pub passes-unlost : (joining : Joining) (n : ℕ) (kept : List Kept)
     → AllByRecursion (λ it. (it.number == n) ≡ true → is_joined_by joining it ≡ true) kept
     → AllByRecursion (λ it. (it.number == n) ≡ true → is_lost it.leaf ≡ false) kept
 passes-unlost joining n [] passes = tt
-passes-unlost joining n (it ∷ others) passes = ((λ same. joined-unlost it.leaf (joined-by joining it (passes.0 same))), passes-unlost
-    joining n others passes.1)
+passes-unlost joining n (it ∷ others) passes = (
+  (λ same. joined-unlost it.leaf (joined-by joining it (passes.0 same))),
+  passes-unlost joining n others passes.1,
+)
