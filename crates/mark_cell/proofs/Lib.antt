@@ -1,0 +1,3 @@
+mod JoinedCopies
+mod BehindChange
+mod CopyOnes

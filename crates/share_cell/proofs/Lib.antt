@@ -1,0 +1,4 @@
+pub mod CopiedLeaves
+pub mod OneLeaf
+pub mod JoinedNumbers
+pub mod SomeLeaves
