@@ -97,13 +97,13 @@ pub says_due : (store : Store) (key value : List ℕ) (due : Bool) (pairs bucket
     → (IsTrue due → (buckets < pairs) × (buckets < 2 ^ 24)) → (IsFalse due → (pairs ≤ buckets) ⊎ (2 ^ 24 ≤ buckets))
     → buckets ≡ length store.table.chains → pairs ≡ length (entries_of (put_in store key value).table)
     → SaysDue (put_in store key value) due
-says_due store key value due pairs buckets yes no buckets_are pairs_are =
+says_due store key value due pairs buckets is_so is_not buckets_are pairs_are =
     let chains = by_chains store key value (entry_for store key) in (
       λ is. record {
-        pairs = omega (arith, (yes is).0, buckets_are, pairs_are, chains);
-        few = omega (arith, (yes is).1, buckets_are, chains);
+        pairs = omega (arith, (is_so is).0, buckets_are, pairs_are, chains);
+        few = omega (arith, (is_so is).1, buckets_are, chains);
       },
-      λ is crowded. elim (no is) [
+      λ is crowded. elim (is_not is) [
         | inl few ↦ absurd (omega (arith, few, crowded.pairs, buckets_are, pairs_are, chains))
         | inr many ↦ absurd (omega (arith, many, crowded.few, buckets_are, chains))
       ],

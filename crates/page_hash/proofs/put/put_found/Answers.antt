@@ -2,8 +2,8 @@ use Rattle.std.proofs.Common.{◌≡◌, ◌+◌, ◌≤◌, length, sym, ◌∙
 use Rattle.page_hash.proofs.PlacedPairs.{found_in_place, length_named}
 use Rattle.page_hash.proofs.put.put_found.Goals as goal
 
-pub overflow_add-class : goal.overflow_add-class
-overflow_add-class g c =
+pub overflow_add-front-2 : goal.overflow_add-front-2
+overflow_add-front-2 g c =
     omega (arith, c.requires.fits.0, length_named (g.M.Memory.state c.args.m.now).mem c.requires.stands.stands.0 c.requires.stands.pairs c.args.key.now c.args.located.now c.requires.stands.stands.1 (c.requires.found c.requires.stands.stands.0 c.requires.stands.pairs c.requires.stands.stands.1))
 
 pub class_for-class-requires : goal.class_for-class-requires
