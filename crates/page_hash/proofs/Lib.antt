@@ -31,4 +31,3 @@ pub mod Unlinking
 pub mod Searching
 pub mod MovedSteps
 pub mod PlacedMoved
-pub mod PlacedPairs

@@ -10,8 +10,6 @@ mod key_hash;
 mod layout;
 mod lookups;
 mod opening;
-mod pair_stores;
-mod put;
 mod relinking;
 mod removing;
 mod search;
