@@ -53,4 +53,3 @@ pub mod DoublingDone
 pub mod Removals
 pub mod MovedSteps
 pub mod PlacedMoved
-pub mod PlacedPairs
