@@ -32,12 +32,6 @@ pub mod PlacedNew
 pub mod Unlinking
 pub mod Searching
 pub mod SnapshotsKept
-pub mod AreaSteps
-pub mod PresentTouch
-pub mod Cleared
-pub mod FrontReads
-pub mod HeadReads
-pub mod BlockLinks
 pub mod ChainTurns
 pub mod ChainsApart
 pub mod PartRelinks

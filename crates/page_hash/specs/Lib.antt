@@ -10,6 +10,4 @@ pub mod Doubling
 pub mod Touching
 pub mod PairStores
 pub mod Puts
-pub mod Clears
-pub mod Relinking
 pub mod Removing

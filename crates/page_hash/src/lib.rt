@@ -1,27 +1,20 @@
 //! A hash table in the pages of any memory.
 #![tactic(auto)]
 
-mod block_read;
-mod chain;
 mod arrays;
 mod block_head;
-mod clearing;
-mod doubling;
+mod block_read;
 mod chain;
 mod clearing;
+mod doubling;
 mod found;
 mod frozen_reads;
 mod key_hash;
 mod layout;
 mod lookups;
 mod opening;
-mod search;
-mod table_head;
-mod words;
-
-mod pair_stores;
-mod put;
 mod relinking;
+mod relinking_all;
 mod removing;
 mod search;
 mod table_head;
@@ -31,12 +24,5 @@ mod words;
 pub use clearing::clear;
 pub use found::{Found, PairsFault};
 pub use lookups::{find, get, len, value};
-mod relinking;
-mod relinking_all;
-mod words;
-
-pub use clearing::clear;
-pub use found::Found;
-pub use lookups::{len, value};
 pub use opening::begin;
 pub use removing::remove;
