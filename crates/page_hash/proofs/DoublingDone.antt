@@ -26,7 +26,7 @@ use Rattle.store_meaning.proofs.Reaching.{reach_of-more, KeepsWithin-more}
 use Rattle.page_hash.specs.declared.arrays.Arrays.{Arrays}
 use Rattle.page_hash.specs.Relinking.{MayRelink, KeepsPlace}
 use Rattle.page_hash.specs.ArrayRelinking.{IsOldTable, RelinksPart}
-use Rattle.page_hash.specs.Doubling.{IsDue, Doubles, LeavesSingle, AddsArray, LacksArray, MayMoveTo, MovesTo, areas_with_both}
+use Rattle.page_hash.specs.Doubling.{IsDue, DoublesArray, LeavesSingle, AddsArray, LacksArray, MayMoveTo, MovesTo, areas_with_both}
 use Rattle.page_hash.proofs.Cleared.{may_kept}
 use Rattle.page_hash.proofs.BlockLinks.{full_present}
 use Rattle.page_hash.proofs.PartRelinks.{blocks_part}
@@ -90,7 +90,7 @@ relinked_may old added relinked arrays store pairs due adds keeps =
 
 pub doubling_made : (old added relinked new : MemoryState) (arrays : Arrays) (store : Store) (pairs : Pairs) → IsDue old.mem arrays store pairs
     → AddsArray old added arrays → RelinksPart added.mem relinked.mem arrays store.table 0 arrays.buckets → KeepsPlace added relinked
-    → MovesTo relinked new arrays → Doubles old new store pairs
+    → MovesTo relinked new arrays → DoublesArray old new store pairs
 doubling_made old added relinked new arrays store pairs due adds part keeps moves =
     let table = added_table old added arrays store pairs due adds in
     let full : AreFullPages relinked.mem.present array_field 24 =
@@ -201,7 +201,7 @@ new_below memory arrays store pairs page due inside high =
 
 -- the store behind a doubling keeps within the reach of one place more
 doubled_within : (old new : MemoryState) (arrays : Arrays) (store : Store) (pairs : Pairs) (gone : List Place) → IsDue old.mem arrays store pairs
-    → Doubles old new store pairs → KeepsWithin old store (reach_of gone) → KeepsWithin new (doubled store) (reach_of (gone ++ At pairs ∷ []))
+    → DoublesArray old new store pairs → KeepsWithin old store (reach_of gone) → KeepsWithin new (doubled store) (reach_of (gone ++ At pairs ∷ []))
 doubled_within old new arrays store pairs gone due made within =
     let reach = reach_step (reach_of gone) (At pairs) in
     let more = KeepsWithin-more old store (reach_of gone) pairs within in
@@ -227,7 +227,7 @@ doubled_within old new arrays store pairs gone due made within =
 
 pub made_follows : (old new : MemoryState) (arrays : Arrays) → IsMemory old
     → ((store : Store) (pairs : Pairs) → IsStore old.mem store pairs → IsDue old.mem arrays store pairs)
-    → ((store : Store) (pairs : Pairs) → IsStore old.mem store pairs → Doubles old new store pairs)
+    → ((store : Store) (pairs : Pairs) → IsStore old.mem store pairs → DoublesArray old new store pairs)
     → new.most ≤ max old.most (own_of (touched old.mem arrays.new (16 * arrays.buckets)))
     → Follows old new (λ pairs. pairs) (λ pairs. At pairs ∷ [])
 made_follows old new arrays sound due made most = record {

@@ -22,7 +22,7 @@ use Rattle.store_meaning.proofs.OwnedApart.{class_of-holds}
 use Rattle.store_meaning.proofs.StoreKept.{both_hold}
 use Rattle.page_hash.specs.declared.chain.Located.{Located}
 use Rattle.page_hash.specs.PairStores.{value_stored}
-use Rattle.page_hash.specs.Touching.{IsOfStore, MakesPresent, LacksPage}
+use Rattle.page_hash.specs.Touching.{IsOfStore, MakesPresent, LacksStorePage}
 use Rattle.page_hash.specs.Puts.{FitsPair, PutIsPresent, AddsOnly, MeetsBlock, MeetsPlace, Places, PlaceFails, IsFoundInPlace, put_at}
 use Rattle.page_hash.proofs.MapEntries.{chain_part, entry_in-some}
 use Rattle.page_hash.proofs.NextReach.{bytes_of, top_within}
@@ -163,7 +163,7 @@ placed_in_place old ready key value located sound fits makes found =
 
 -- the put was refused
 pub failed_in_place : (old new : MemoryState) (key value : List ℕ) (located : Located) (at : ℕ) → IsMemory old → FitsPair key value
-    → LacksPage old new located.at (16 + length key + length value) at
+    → LacksStorePage old new located.at (16 + length key + length value) at
     → ((store : Store) (of : Pairs) → IsStore old.mem store of → IsFoundInPlace store key value located)
     → PlaceFails old new key value at
 failed_in_place old new key value located at sound fits lacks found =

@@ -25,7 +25,7 @@ use Rattle.page_heap.specs.HeapCalls.{IsInUse, IsPlanned, plan_for, commit_store
 use Rattle.page_heap.proofs.Plans.{commits}
 use Rattle.page_hash.specs.declared.chain.Located.{Located}
 use Rattle.page_hash.specs.PairStores.{pair_bytes}
-use Rattle.page_hash.specs.Touching.{IsOfStore, MakesPresent, LacksPage}
+use Rattle.page_hash.specs.Touching.{IsOfStore, MakesPresent, LacksStorePage}
 use Rattle.page_hash.specs.Puts.{FitsPair, AddsOnly, MeetsPlace, Places, IsFoundElsewhere, HasWords, MakesWordsReady, IsReadyForNew, IsReadyForMove, linked_stored, moved_stored, put_at}
 use Rattle.page_hash.proofs.NextReach.{committed_within, freed_same, zip_mono, count_moved}
 use Rattle.page_hash.proofs.StoreChanges.{IsSpot, class_of-entry, pairs_beside}

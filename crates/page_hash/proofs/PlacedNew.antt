@@ -27,7 +27,7 @@ use Rattle.page_heap.specs.HeapCalls.{IsPlanned, block_plan, plan_for, commit_st
 use Rattle.page_heap.proofs.Plans.{commits}
 use Rattle.page_hash.specs.declared.search.Search.{Search}
 use Rattle.page_hash.specs.PairStores.{pair_bytes}
-use Rattle.page_hash.specs.Touching.{IsOfStore, MakesPresent, LacksPage, MakesReady}
+use Rattle.page_hash.specs.Touching.{IsOfStore, MakesPresent, LacksStorePage, MakesReady}
 use Rattle.page_hash.specs.Walks.{bucket_at, IsSearch}
 use Rattle.page_hash.specs.Puts.{FitsPair, PutIsPresent, AddsOnly, MeetsBlock, MeetsPlace, Places, PlaceFails, LacksKey, IsReadyForNew, new_stored, put_at}
 use Rattle.page_hash.proofs.MapEntries.{get_entry, chain_part}
@@ -121,7 +121,7 @@ keeps_first old one key value plan sound fits planned makes more of before gone 
 
 -- it was refused
 pub failed_first : (old new : MemoryState) (key value : List ℕ) (plan : Plan) (at : ℕ) → IsMemory old → FitsPair key value
-    → IsPlanOf old.mem plan (pair_size key value) → LacksPage old new plan.addr (16 + length key + length value) at
+    → IsPlanOf old.mem plan (pair_size key value) → LacksStorePage old new plan.addr (16 + length key + length value) at
     → ((of : Pairs) (store : Store) → IsStore old.mem store of
     → count_of (insert of key value) (pair_class key value) ≡ suc (count_of of (pair_class key value)))
     → ((store : Store) (of : Pairs) → IsStore old.mem store of → put_at store key value (entry_for store key)
@@ -166,7 +166,7 @@ place_new store key value none = ap (put_at store key value) none
 -- the bucket's touch was refused
 pub failed_bucket : (old one new : MemoryState) (key value : List ℕ) (plan : Plan) (search : Search) (at : ℕ) → IsMemory one
     → FitsPair key value → IsPlanOf old.mem plan (pair_size key value)
-    → MakesPresent old one plan.addr (16 + length key + length value) → LacksPage one new search.bucket 8 at
+    → MakesPresent old one plan.addr (16 + length key + length value) → LacksStorePage one new search.bucket 8 at
     → old.refused ≤ one.refused
     → ((store : Store) (of : Pairs) → IsStore old.mem store of → LacksKey old.mem store key search)
     → PlaceFails old new key value at

@@ -24,7 +24,7 @@ use Rattle.store_meaning.proofs.HeapSteps.{KeepsPages}
 use Rattle.store_meaning.proofs.StoreKept.{store_kept}
 use Rattle.store_meaning.proofs.ReachFrames.{own_of-bound}
 use Rattle.store_meaning.proofs.Reaching.{reach_of-more, KeepsWithin-more, Stands-more}
-use Rattle.page_hash.specs.Touching.{IsOfStore, MakesPresent, LacksPage, MakesReady}
+use Rattle.page_hash.specs.Touching.{IsOfStore, MakesPresent, LacksStorePage, MakesReady}
 use Rattle.page_hash.proofs.NextReach.{bytes_of, place_counted}
 use Rattle.page_hash.proofs.Touched.{meets_range}
 
@@ -195,7 +195,7 @@ keeps_touched old new address n store of before places sound makes allowed keeps
 
 -- a touch that was refused
 pub keeps_lacking : (old new : MemoryState) (address n at : ℕ) (store : Store) (of : Pairs) (before : ℕ) (places : List Place)
-    → IsMemory old → LacksPage old new address n at → IsOfStore old.mem address n → IsAllowed address n places
+    → IsMemory old → LacksStorePage old new address n at → IsOfStore old.mem address n → IsAllowed address n places
     → KeepsTo old store of before places → KeepsTo new store of before places
 keeps_lacking old new address n at store of before places sound lacks is_of allowed keeps =
     let then : MemoryState = record old { mem = touched old.mem address n } in

@@ -20,7 +20,7 @@ use Rattle.vm_base.proofs.IsKeptOn.{IsKept-on}
 use Rattle.store_meaning.specs.Layout.{store_cells}
 use Rattle.store_meaning.specs.HeapLayout.{ArePresent}
 use Rattle.store_meaning.specs.Standing.{MayHoldStore}
-use Rattle.page_hash.specs.Touching.{IsOfStore, MakesPresent, LacksPage, MakesReady, told_count}
+use Rattle.page_hash.specs.Touching.{IsOfStore, MakesPresent, LacksStorePage, MakesReady, told_count}
 
 -- a touch of a range of a store is answered with the memory whose pages are present
 pub touch_granted : (state : MemoryState) (address n : ℕ) → IsMemory state → MayHoldStore state → IsOfStore state.mem address n
@@ -53,7 +53,7 @@ never_refused old new address n fault sound may is refuses =
 
 -- a touch that was refused
 pub lacks_page : (old new : MemoryState) (address n at : ℕ) (fault : Fault) → IsMemory old → MayHoldStore old → IsOfStore old.mem address n
-    → TouchFails old new address n fault → at ≡ told_count fault → LacksPage old new address n at
+    → TouchFails old new address n fault → at ≡ told_count fault → LacksStorePage old new address n at
 lacks_page old new address n at (NoFrame count page) sound may is fails told = record {
   rose = fails.rose;
   told = told ∙ fails.told;
@@ -114,7 +114,7 @@ meets_range address n page inside = elim (cases_eq n 0) [
       (omega (arith, inside.0), omega (arith, inside.1, count, some))
 ]
 
-pub lacks_none : (old new : MemoryState) (address n at : ℕ) → ArePresent old.mem address n → LacksPage old new address n at → ⊥
+pub lacks_none : (old new : MemoryState) (address n at : ℕ) → ArePresent old.mem address n → LacksStorePage old new address n at → ⊥
 lacks_none old new address n at there lacks =
     let meets = meets_range address n lacks.page lacks.range in
     absent_not (get old.mem.present lacks.page) lacks.absent (there lacks.page meets.0 meets.1)
@@ -136,7 +136,7 @@ keeps_cells old new address n is keeps = record {
 -- whatever a touch of present pages answered, it was made
 pub ready_by : {X E : Type 0} (old new : MemoryState) (address n : ℕ) (result : Result X E) (at : E → ℕ) → IsMemory old → 0 < n
     → ArePresent old.mem address n
-    → OnOk result (MakesPresent old new address n) → IfErr result (λ error. LacksPage old new address n (at error))
+    → OnOk result (MakesPresent old new address n) → IfErr result (λ error. LacksStorePage old new address n (at error))
     → MakesReady old new address n
 ready_by old new address n (Ok done) at sound some there makes lacks = makes_ready old new address n sound some there makes
 ready_by old new address n (Err error) at sound some there makes lacks =

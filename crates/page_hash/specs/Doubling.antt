@@ -18,7 +18,7 @@ use Rattle.page_hash.specs.declared.arrays.Arrays.{Arrays}
 use Rattle.page_hash.specs.ArrayRelinking.{AreArrays}
 
 -- the array was doubled, and no page was taken but those of the new one
-pub record Doubles (old new : MemoryState) (store : Store) (pairs : Pairs) : Type 0 where
+pub record DoublesArray (old new : MemoryState) (store : Store) (pairs : Pairs) : Type 0 where
   pub is : IsStore new.mem (doubled store) pairs
   pub pages : (page : ℕ) → IsSome (get new.mem.present page) → IsNone (get old.mem.present page)
       → IsInRange page (other_array store.table.array) (16 * length store.table.chains)

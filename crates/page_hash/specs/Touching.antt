@@ -31,7 +31,7 @@ pub record MakesPresent (old new : MemoryState) (address n : ℕ) : Type 0 where
   pub keeps : KeepsReady old new
 
 -- a frame was refused for a page of the range that is absent, and all reads as before
-pub record LacksPage (old new : MemoryState) (address n at : ℕ) : Type 0 where
+pub record LacksStorePage (old new : MemoryState) (address n at : ℕ) : Type 0 where
   pub rose : Rose old.refused new.refused
   pub told : at ≡ new.refused
   pub page : ℕ

@@ -8,7 +8,7 @@ ghost use Rattle.store_meaning.specs.StoreSteps.{IsCrowded};
 ghost use Rattle.store_meaning.specs.Reach.{At};
 ghost use Rattle.store_meaning.specs.Standing.{IsStanding, StaysStanding, Follows};
 ghost use Rattle.page_hash.specs.Relinking.{MayRelink};
-ghost use Rattle.page_hash.specs.Doubling.{Doubles, LeavesSingle, IsDue, AddsArray, LacksArray, MovesTo, IsFreshArea, TouchesArea, LeavesArea, MayMoveTo};
+ghost use Rattle.page_hash.specs.Doubling.{DoublesArray, LeavesSingle, IsDue, AddsArray, LacksArray, MovesTo, IsFreshArea, TouchesArea, LeavesArea, MayMoveTo};
 
 use crate::arrays::Arrays;
 use crate::layout::{ARRAY, ARRAY_FIELD, BUCKETS_FIELD, PAIRS_FIELD};
@@ -31,7 +31,7 @@ pub fn double<M: Memory>(m: &mut M) -> bool
     requires stands { IsStanding (M.state m.old) }
     requires due { (store : Store) (pairs : Pairs) → IsStore (M.state m.old).mem store pairs → IsCrowded store }
     ensures doubled { (store : Store) (pairs : Pairs) → IsStore (M.state m.old).mem store pairs → IsTrue result
-        → Doubles (M.state m.old) (M.state m.new) store pairs }
+        → DoublesArray (M.state m.old) (M.state m.new) store pairs }
     ensures left { (store : Store) (pairs : Pairs) → IsStore (M.state m.old).mem store pairs → IsFalse result
         → LeavesSingle (M.state m.old) (M.state m.new) store }
     ensures follows { Follows (M.state m.old) (M.state m.new) (λ pairs. pairs) (λ pairs. At pairs ∷ []) }

@@ -13,6 +13,8 @@ mod key_hash;
 mod layout;
 mod lookups;
 mod opening;
+mod pair_stores;
+mod put;
 mod relinking;
 mod relinking_all;
 mod removing;

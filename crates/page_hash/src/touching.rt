@@ -4,7 +4,7 @@ ghost use Rattle.vm_base.specs.MemoryState.{IsKept};
 ghost use Rattle.store_meaning.specs.Layout.{store_cells};
 ghost use Rattle.store_meaning.specs.HeapLayout.{ArePresent};
 ghost use Rattle.store_meaning.specs.Standing.{MayHoldStore};
-ghost use Rattle.page_hash.specs.Touching.{IsOfStore, MakesPresent, LacksPage, MakesReady, told_count};
+ghost use Rattle.page_hash.specs.Touching.{IsOfStore, MakesPresent, LacksStorePage, MakesReady, told_count};
 
 use vm_base::{Fault, Memory, Refused};
 
@@ -14,7 +14,7 @@ pub fn touch_range<M: Memory>(m: &mut M, addr: u64, len: u64) -> Result<(), Refu
     requires range { IsOfStore (M.state m.old).mem addr len }
     ensures touched { OnOk result (MakesPresent (M.state m.old) (M.state m.new) addr len) }
     ensures refused { IfErr result
-        (λ refused. LacksPage (M.state m.old) (M.state m.new) addr len refused.at) }
+        (λ refused. LacksStorePage (M.state m.old) (M.state m.new) addr len refused.at) }
     ensures keeps { IsKept (M.state m.old) (M.state m.new) store_cells }
     ensures aside { M.aside m.new ≡ M.aside m.old }
     ensures went { M.went m.old m.new }
