@@ -42,10 +42,16 @@ due_facts memory arrays store pairs due =
     let doubled = due.is.table.doubled in
     record {
       regions = elim (array_region memory store.table due.is.table) [
-        | inl first ↦ inl (due.old ∙ first, due.new ∙ cond-true (eqb store.table.array array_a) array_b array_a
-            (eq-eqb store.table.array array_a first))
-        | inr second ↦ inr (due.old ∙ second, due.new ∙ cond-false (eqb store.table.array array_a) array_b array_a
-            (ne_eqb store.table.array array_a (λ same. omega (arith, same, second))))
+        | inl first ↦ inl (
+          due.old ∙ first,
+          due.new ∙ cond-true (eqb store.table.array array_a) array_b array_a
+              (eq-eqb store.table.array array_a first),
+        )
+        | inr second ↦ inr (
+          due.old ∙ second,
+          due.new ∙ cond-false (eqb store.table.array array_a) array_b array_a
+              (ne_eqb store.table.array array_a (λ same. omega (arith, same, second))),
+        )
       ];
       part = 2 ^ doubled.0;
       whole = due.buckets ∙ doubled.1.buckets;
@@ -142,7 +148,8 @@ new_fresh old new arrays store pairs due may kept maps =
       some = omega (arith, facts.whole, facts.some);
       area = subst (λ a. Contains a (store_area arrays.new (arrays.buckets / 256))) (sym maps.areas)
           (new_listed arrays.old arrays.new (arrays.buckets / 512) (arrays.buckets / 256) facts.regions);
-      cells = λ at n low high. array_cells_listed arrays.new (16 * arrays.buckets) at n region (omega (arith, facts.whole, facts.few)) low high;
+      cells = λ at n low high. array_cells_listed arrays.new (16 * arrays.buckets) at n region
+          (omega (arith, facts.whole, facts.few)) low high;
       low = elim region [
         | inl first ↦ omega (arith, first, facts.whole, facts.few)
         | inr second ↦ omega (arith, second, facts.whole, facts.few)
@@ -150,7 +157,8 @@ new_fresh old new arrays store pairs due may kept maps =
     }
 
 -- the array was touched
-pub adds_array : (old mid new : MemoryState) (arrays : Arrays) → MapsNew old mid arrays → TouchesArea mid new arrays.new (16 * arrays.buckets)
+pub adds_array : (old mid new : MemoryState) (arrays : Arrays) → MapsNew old mid arrays
+    → TouchesArea mid new arrays.new (16 * arrays.buckets)
     → AddsArray old new arrays
 adds_array old mid new arrays maps touch =
     let size : ℕ = 16 * arrays.buckets in
@@ -236,7 +244,8 @@ lacks_array old mid left new arrays store pairs due sound maps leaves undone cou
     nothing None never = refl
     nothing (Some x) never = absurd (never refl)
 
-    count_few : AreRegions arrays.old arrays.new → (done : ℕ) → done < 16 * arrays.buckets → 16 * arrays.buckets ≡ 4096 * (arrays.buckets / 256)
+    count_few : AreRegions arrays.old arrays.new → (done : ℕ) → done < 16 * arrays.buckets → 16 * arrays.buckets
+        ≡ 4096 * (arrays.buckets / 256)
         → page_count arrays.new done ≤ arrays.buckets / 256
     count_few regions done below whole = elim (cases_eq done 0) [
       | inl none ↦

@@ -19,7 +19,8 @@ use Rattle.page_hash.proofs.Cleared.{may_kept}
 use Rattle.page_hash.proofs.BlockLinks.{kept_none}
 
 -- pages that are touched in two parts
-with_pages_add : (j k : ℕ) (present : PageMap) (first : ℕ) → with_pages present first (j + k) ≡ with_pages (with_pages present first j) (first + j) k
+with_pages_add : (j k : ℕ) (present : PageMap) (first : ℕ) → with_pages present first (j + k)
+    ≡ with_pages (with_pages present first j) (first + j) k
 with_pages_add zero k present first =
     let none : zero + k ≡ k = omega arith in
     let here : first ≡ first + zero = omega arith in
@@ -42,13 +43,15 @@ count_whole first k = elim (cases_eq k 0) [
 ]
 
 pub touched_on : (memory : FlatMemory) (first j k : ℕ)
-    → touched (touched memory (4096 * first) (4096 * j)) (4096 * first + 4096 * j) (4096 * k) ≡ touched memory (4096 * first) (4096 * j + 4096 * k)
+    → touched (touched memory (4096 * first) (4096 * j)) (4096 * first + 4096 * j) (4096 * k)
+    ≡ touched memory (4096 * first) (4096 * j + 4096 * k)
 touched_on memory first j k =
     let at : page_of (4096 * first) ≡ first = omega arith in
     let behind : 4096 * first + 4096 * j ≡ 4096 * (first + j) = omega arith in
     let behind_page : page_of (4096 * (first + j)) ≡ first + j = omega arith in
     let sum : 4096 * j + 4096 * k ≡ 4096 * (j + k) = omega arith in
-    let front : with_pages memory.present (page_of (4096 * first)) (page_count (4096 * first) (4096 * j)) ≡ with_pages memory.present first j =
+    let front : with_pages memory.present (page_of (4096 * first)) (page_count (4096 * first) (4096 * j))
+    ≡ with_pages memory.present first j =
     ap (λ f. with_pages memory.present f (page_count (4096 * first) (4096 * j))) at
     ∙ ap (with_pages memory.present first) (count_whole first j) in
     let whole : (touched memory (4096 * first) (4096 * (j + k))).present ≡ with_pages memory.present first (j + k) =
@@ -90,7 +93,8 @@ own_rises : (memory : FlatMemory) (first j k : ℕ) → own_of (touched memory (
     ≤ own_of (touched memory (4096 * first) (4096 * j + 4096 * k))
 own_rises memory first j k =
     subst (λ m. own_of (touched memory (4096 * first) (4096 * j)) ≤ own_of m) (touched_on memory first j k)
-    (own-touched (touched memory (4096 * first) (4096 * j)) (page_of (4096 * first + 4096 * j)) (page_count (4096 * first + 4096 * j) (4096 * k)))
+    (own-touched (touched memory (4096 * first) (4096 * j)) (page_of (4096 * first + 4096 * j))
+    (page_count (4096 * first + 4096 * j) (4096 * k)))
 
 -- the next piece is not refused by areas or slots
 pub piece_answer : (old mid : MemoryState) (address size done piece : ℕ) (is : IsFreshArea old address size)

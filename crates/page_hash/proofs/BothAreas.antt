@@ -38,7 +38,8 @@ two_joined first second few many =
 map_up : (memory : FlatMemory) (few many : ℕ) → few ≤ 32768 → many ≤ 32768 → memory.areas ≡ one_array array_a few
     → map_of memory 1048576 many ReadWrite ≡ Ok (record memory { areas = two_arrays few many })
 map_up memory few many small large areas =
-    ap (λ a. or_refused Taken (taken a 1048576 many) (at_most_128 (record memory { areas = joined (with_area (store_area array_b many) a) }))) areas
+    ap (λ a. or_refused Taken (taken a 1048576 many)
+    (at_most_128 (record memory { areas = joined (with_area (store_area array_b many) a) }))) areas
     ∙ ap (λ t. or_refused Taken t (at_most_128 (record memory { areas = joined (two_arrays few many) })))
     (taken-apart (one_array array_a few) 1048576 many
     (All-from_recursion (λ (area : Area). AreApart area.first area.pages 1048576 many) (one_array array_a few)
@@ -48,7 +49,8 @@ map_up memory few many small large areas =
 map_down : (memory : FlatMemory) (few many : ℕ) → few ≤ 32768 → many ≤ 32768 → memory.areas ≡ one_array array_b few
     → map_of memory 524288 many ReadWrite ≡ Ok (record memory { areas = two_arrays many few })
 map_down memory few many small large areas =
-    ap (λ a. or_refused Taken (taken a 524288 many) (at_most_128 (record memory { areas = joined (with_area (store_area array_a many) a) }))) areas
+    ap (λ a. or_refused Taken (taken a 524288 many)
+    (at_most_128 (record memory { areas = joined (with_area (store_area array_a many) a) }))) areas
     ∙ ap (λ t. or_refused Taken t (at_most_128 (record memory { areas = joined (two_arrays many few) })))
     (taken-apart (one_array array_b few) 524288 many
     (All-from_recursion (λ (area : Area). AreApart area.first area.pages 524288 many) (one_array array_b few)
@@ -63,12 +65,14 @@ AreRegions old new = ((old ≡ array_a) × (new ≡ array_b)) ⊎ ((old ≡ arra
 pub map_both : (memory : FlatMemory) (old new few many : ℕ) → AreRegions old new → few ≤ 32768 → many ≤ 32768
     → memory.areas ≡ one_array old few → map_of memory (new / 4096) many ReadWrite ≡ Ok (record memory { areas = both_of old new few many })
 map_both memory old new few many (inl up) small large areas =
-    subst (λ o. memory.areas ≡ one_array o few → map_of memory (new / 4096) many ReadWrite ≡ Ok (record memory { areas = both_of o new few many }))
+    subst (λ o. memory.areas ≡ one_array o few → map_of memory (new / 4096) many ReadWrite
+    ≡ Ok (record memory { areas = both_of o new few many }))
     (sym up.0)
     (λ first. subst (λ n. map_of memory (n / 4096) many ReadWrite ≡ Ok (record memory { areas = both_of array_a n few many })) (sym up.1)
     (map_up memory few many small large first)) areas
 map_both memory old new few many (inr down) small large areas =
-    subst (λ o. memory.areas ≡ one_array o few → map_of memory (new / 4096) many ReadWrite ≡ Ok (record memory { areas = both_of o new few many }))
+    subst (λ o. memory.areas ≡ one_array o few → map_of memory (new / 4096) many ReadWrite
+    ≡ Ok (record memory { areas = both_of o new few many }))
     (sym down.0)
     (λ second. subst (λ n. map_of memory (n / 4096) many ReadWrite ≡ Ok (record memory { areas = both_of array_b n few many })) (sym down.1)
     (map_down memory few many small large second)) areas

@@ -183,8 +183,7 @@ blocks_kept memory gone rest entry word full are =
     record {
       held = all_both now gone (entry ∷ rest)
           (both_hold (IsClear entry.at) held now gone (λ other c is. clear_held memory entry.at word other full c is)
-          (all_left (IsClear entry.at) gone rest clear) (all_left held gone (entry ∷ rest) are.held))
-          (
+          (all_left (IsClear entry.at) gone rest clear) (all_left held gone (entry ∷ rest) are.held)) (
             own_held memory word entry full behind.0,
             both_hold (IsClear entry.at) held now rest (λ other c is. clear_held memory entry.at word other full c is)
                 (all_right (IsClear entry.at) gone rest clear) behind.1,
@@ -364,7 +363,8 @@ halfway_step old memory at left next hash side heads buckets bucket chain is som
     place : (entry : Entry) (rest : List Entry) → chain ≡ is.gone ++ entry ∷ rest → AreHeldBlocks memory (is.gone ++ entry ∷ rest)
         → at ≡ entry.at → LinksFrom memory (word_at memory entry.at) (places_of rest) → suc (length rest) ≤ left
         → AllByRecursion (λ (other : Entry). hash_of other.key % buckets ≡ bucket) (entry ∷ rest)
-        → Halfway old (with_word memory entry.at (slice_index heads side)) next (left - 1) (slice_set heads side entry.at) buckets bucket chain
+        → Halfway old (with_word memory entry.at (slice_index heads side)) next (left - 1)
+        (slice_set heads side entry.at) buckets bucket chain
     place entry rest whole are here linked few buckets_all =
         let held = (all_right (IsHeldBlock memory) is.gone (entry ∷ rest) are.held).0 in
         let full = full_present memory entry.at 8 flat (omega arith) held.present in
@@ -374,7 +374,8 @@ halfway_step old memory at left next hash side heads buckets bucket chain is som
         elim (either_half (hash_of entry.key) buckets bucket count buckets_all.0 low) [
           | inl below ↦
               let side_is : side ≡ 0 = zero_side (ap (λ h. h % (2 * buckets)) hash_is ∙ below) in
-              let word_is : slice_index heads side ≡ is.low = ap (λ h. slice_index h side) is.pair ∙ ap (slice_index (is.low ∷ is.high ∷ [])) side_is in
+              let word_is : slice_index heads side ≡ is.low = ap (λ h. slice_index h side) is.pair
+              ∙ ap (slice_index (is.low ∷ is.high ∷ [])) side_is in
               let set_is : slice_set heads side entry.at ≡ entry.at ∷ is.high ∷ [] =
               ap (λ h. slice_set h side entry.at) is.pair ∙ ap (λ s. slice_set (is.low ∷ is.high ∷ []) s entry.at) side_is in
               step_entry old memory is.gone rest entry left next (slice_index heads side) entry.at is.high buckets bucket
@@ -387,7 +388,8 @@ halfway_step old memory at left next hash side heads buckets bucket chain is som
               set_is
           | inr above ↦
               let side_is : side ≡ 1 = one_side (ap (λ h. h % (2 * buckets)) hash_is ∙ above) in
-              let word_is : slice_index heads side ≡ is.high = ap (λ h. slice_index h side) is.pair ∙ ap (slice_index (is.low ∷ is.high ∷ [])) side_is in
+              let word_is : slice_index heads side ≡ is.high = ap (λ h. slice_index h side) is.pair
+              ∙ ap (slice_index (is.low ∷ is.high ∷ [])) side_is in
               let set_is : slice_set heads side entry.at ≡ is.low ∷ entry.at ∷ [] =
               ap (λ h. slice_set h side entry.at) is.pair ∙ ap (λ s. slice_set (is.low ∷ is.high ∷ []) s entry.at) side_is in
               step_entry old memory is.gone rest entry left next (slice_index heads side) is.low entry.at buckets bucket

@@ -40,7 +40,8 @@ pub chain_apart : (chains : List (List Entry)) (bucket : ℕ) → ArePairwiseEnt
     → ArePairwiseEntries (get_or chains bucket [])
 chain_apart [] bucket apart = tt
 chain_apart (chain ∷ chains) zero apart =
-    pairwise_left (map entry_range chain) (map entry_range (flat_map (λ c. c) chains)) (split_entries chain (flat_map (λ c. c) chains) apart)
+    pairwise_left (map entry_range chain) (map entry_range (flat_map (λ c. c) chains))
+    (split_entries chain (flat_map (λ c. c) chains) apart)
 chain_apart (chain ∷ chains) (suc bucket) apart = chain_apart chains bucket
     (pairwise_right (map entry_range chain) (map entry_range (flat_map (λ c. c) chains))
     (split_entries chain (flat_map (λ c. c) chains) apart))
@@ -66,7 +67,8 @@ turned_round xs (y ∷ ys) all = (
       (λ x two. two.1) all),
 )
   where
-    firsts : (zs : List Entry) → AllByRecursion (λ x. AllByRecursion (AreEntriesApart x) (y ∷ ys)) zs → AllByRecursion (AreEntriesApart y) zs
+    firsts : (zs : List Entry) → AllByRecursion (λ x. AllByRecursion (AreEntriesApart x) (y ∷ ys)) zs
+        → AllByRecursion (AreEntriesApart y) zs
     firsts [] each = tt
     firsts (z ∷ zs) each = (flipped z y each.0.0, firsts zs each.1)
 
@@ -91,7 +93,8 @@ two_chains (chain ∷ chains) (suc one) (suc other) apart two =
     (λ same. two (ap suc same))
 
 -- what holds of each element for each number
-pub all_forall : {X : Type 0} (P : ℕ → X → Type 0) (xs : List X) → ((k : ℕ) → AllByRecursion (P k) xs) → AllByRecursion (λ x. (k : ℕ) → P k x) xs
+pub all_forall : {X : Type 0} (P : ℕ → X → Type 0) (xs : List X) → ((k : ℕ) → AllByRecursion (P k) xs)
+    → AllByRecursion (λ x. (k : ℕ) → P k x) xs
 all_forall P [] each = tt
 all_forall P (x ∷ xs) each = ((λ k. (each k).0), all_forall P xs (λ k. (each k).1))
 
@@ -131,9 +134,9 @@ chain_beside table bucket from to apart out =
     all_mono (λ entry. (k : ℕ) → IsBesideOthers table bucket k entry)
     (λ entry. (other size : ℕ) → IsWithinEntry entry other size → IsBesideChains table from to other size) (chain_of table bucket)
     (λ entry beside other size within k low high.
-      all_mono (AreEntriesApart entry) (λ block. AreApart block.at 8 other size) (chain_of table k)
-      (λ block. within_apart entry block other size within)
-      (beside k (λ same. out (subst (λ b. from ≤ b) (sym same) low) (subst (λ b. b < to) (sym same) high))))
+    all_mono (AreEntriesApart entry) (λ block. AreApart block.at 8 other size) (chain_of table k)
+    (λ block. within_apart entry block other size within)
+    (beside k (λ same. out (subst (λ b. from ≤ b) (sym same) low) (subst (λ b. b < to) (sym same) high))))
     (all_forall (IsBesideOthers table bucket) (chain_of table bucket) (λ k. others_beside table bucket k apart))
 
 -- what stands behind the first word of a block is beside the first word of each

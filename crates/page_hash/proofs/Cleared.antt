@@ -114,7 +114,8 @@ opening_is memory areas fields rest only header =
         top = ap (big_number 8) (field 0 8 (omega arith));
         lists = λ class in_classes. ap (big_number 8)
             (zeros_among memory.present (header_at + 8) 136 (list_field class) 8 lists
-            (omega (arith, (class_within class in_classes).0)) (omega (arith, (class_within class in_classes).0, (class_within class in_classes).1)));
+            (omega (arith, (class_within class in_classes).0))
+            (omega (arith, (class_within class in_classes).0, (class_within class in_classes).1)));
         order = [];
         same = IsPermutation-refl [];
         fill = refl;
@@ -266,7 +267,8 @@ pub clears : (old bare touched new : MemoryState) → IsBare old bare → Touche
     → new ≡ after_store touched header_at opening_fields → Clears old new
 clears old bare touched new is touch sound stored =
     let same : touched.mem.present ≡ bare.mem.present = ap (λ (m : FlatMemory). m.present) touch.mem in
-    let present : new.mem.present ≡ with_bytes touched.mem.present header_at opening_fields = ap (λ (s : MemoryState). s.mem.present) stored in
+    let present : new.mem.present
+    ≡ with_bytes touched.mem.present header_at opening_fields = ap (λ (s : MemoryState). s.mem.present) stored in
     let full : AreFullPages touched.mem.present header_at 168 = full_from_ready touched header_at 168 sound touch.ready in
     let pages : (page : ℕ) → is_some (get new.mem.present page) ≡ is_some (get bare.mem.present page) = λ page.
     ap (λ (p : PageMap). is_some (get p page)) present

@@ -74,7 +74,8 @@ shifted f (suc n) a =
     let next : suc a + 1 ≡ suc (a + 1) = omega arith in
     ap (λ l. f (suc a) ++ l) (ap (λ q. flat_map f (range_with_len q n)) next ∙ shifted f n (a + 1))
 
-chains_by_place : (chains : List (List Entry)) → flat_map (λ k. get_or chains k []) (range_with_len 0 (length chains)) ≡ flat_map (λ c. c) chains
+chains_by_place : (chains : List (List Entry)) → flat_map (λ k. get_or chains k []) (range_with_len 0 (length chains))
+    ≡ flat_map (λ c. c) chains
 chains_by_place [] = refl
 chains_by_place (chain ∷ chains) =
     ap (λ l. chain ++ l) (shifted (λ k. get_or (chain ∷ chains) k []) (length chains) 0 ∙ chains_by_place chains)
@@ -83,7 +84,8 @@ swapped : {X : Type 0} (a f b g : List X) → IsPermutation ((a ++ f) ++ (b ++ g
 swapped a f b g =
     let middle : IsPermutation (f ++ (b ++ g)) (b ++ (f ++ g)) =
     subst (λ l. IsPermutation l (b ++ (f ++ g))) (append_assoc f b g)
-    (subst (IsPermutation ((f ++ b) ++ g)) (append_assoc b f g) (IsPermutation-append_left g (f ++ b) (b ++ f) (IsPermutation-append_comm f b))) in
+    (subst (IsPermutation ((f ++ b) ++ g)) (append_assoc b f g)
+    (IsPermutation-append_left g (f ++ b) (b ++ f) (IsPermutation-append_comm f b))) in
     subst (λ l. IsPermutation l ((a ++ b) ++ (f ++ g))) (sym (append_assoc a f (b ++ g)))
     (subst (IsPermutation (a ++ (f ++ (b ++ g)))) (sym (append_assoc a b (f ++ g)))
     (IsPermutation-append_right a (f ++ (b ++ g)) (b ++ (f ++ g)) middle))
@@ -96,7 +98,8 @@ weave f g h (suc m) a b each =
     let at : a + 0 ≡ a = omega arith in
     let other : b + 0 ≡ b = omega arith in
     let here : IsPermutation (f a ++ g b) (h a) =
-    subst (λ k. IsPermutation (f k ++ g b) (h k)) at (subst (λ k. IsPermutation (f (a + 0) ++ g k) (h (a + 0))) other (each 0 (omega arith))) in
+    subst (λ k. IsPermutation (f k ++ g b) (h k)) at
+    (subst (λ k. IsPermutation (f (a + 0) ++ g k) (h (a + 0))) other (each 0 (omega arith))) in
     let rest = weave f g h m (a + 1) (b + 1) (λ k low.
     let one : a + suc k ≡ a + 1 + k = omega arith in
     let two : b + suc k ≡ b + 1 + k = omega arith in
@@ -139,8 +142,8 @@ doubled_entries table some hashed =
     (subst (IsPermutation (flat_map (relinked_chain table) (range_with_len 0 n) ++ flat_map (relinked_chain table) (range_with_len n n)))
     (chains_by_place table.chains)
     (weave (relinked_chain table) (relinked_chain table) (chain_of table) n 0 n (λ k low.
-      let at : 0 + k ≡ k = omega arith in
-      subst (λ q. IsPermutation (relinked_chain table q ++ relinked_chain table (n + k)) (chain_of table q)) (sym at)
-      (subst (λ l. IsPermutation (l ++ relinked_chain table (n + k)) (chain_of table k)) (sym (relinked_low table k low))
-      (subst (λ l. IsPermutation (turned_for (2 * n) k (chain_of table k) ++ l) (chain_of table k)) (sym (relinked_high table k low))
-      (chain_split n k (chain_of table k) some low (hashed k low)))))))
+    let at : 0 + k ≡ k = omega arith in
+    subst (λ q. IsPermutation (relinked_chain table q ++ relinked_chain table (n + k)) (chain_of table q)) (sym at)
+    (subst (λ l. IsPermutation (l ++ relinked_chain table (n + k)) (chain_of table k)) (sym (relinked_low table k low))
+    (subst (λ l. IsPermutation (turned_for (2 * n) k (chain_of table k) ++ l) (chain_of table k)) (sym (relinked_high table k low))
+    (chain_split n k (chain_of table k) some low (hashed k low)))))))

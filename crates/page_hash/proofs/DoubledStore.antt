@@ -102,22 +102,22 @@ free_same s0 s1 s2 s3 arrays store pairs steps class in_classes =
     (store.heap.free class)) entries =
     all_mono _ _ entries
     (λ entry all. all_map (λ (b : Block). IsApartFrom (entry_range entry) (free_range b)) (λ at. record { at = at; class = class })
-      (store.heap.free class)
-      (all_among (λ (b : Block). IsApartFrom (entry_range entry) (free_range b)) (free_of store.heap) 17 5 class within.0
-      (omega (arith, within.1)) (all_map (IsApartFrom (entry_range entry)) free_range (flat_map (free_of store.heap) classes) all)))
+    (store.heap.free class)
+    (all_among (λ (b : Block). IsApartFrom (entry_range entry) (free_range b)) (free_of store.heap) 17 5 class within.0
+    (omega (arith, within.1)) (all_map (IsApartFrom (entry_range entry)) free_range (flat_map (free_of store.heap) classes) all)))
     (all_map (λ r. AllByRecursion (IsApartFrom r) (map free_range (flat_map (free_of store.heap) classes))) entry_range entries across) in
     both_hold (λ at. AllByRecursion (λ (entry : Entry). IsApartFrom (entry_range entry) (record { at = at; size = 8 })) entries)
     (λ at. (heap_at ≤ at) × (at + 2 ^ class ≤ store.heap.top)) (λ at. word_at s3 at ≡ word_at s0 at) (store.heap.free class)
     (λ at clear lies.
-      ap (big_number 8)
-      (last_frame s0 s1 s2 s3 arrays store pairs steps at 8 (inl (omega (arith, lies.0)))
-      (inl (omega (arith, lies.0, (old_low s0 s1 s2 s3 arrays store pairs steps).1)))
-      ∙ steps.part.beside at 8
-      (λ bucket low high. all_mono (λ (entry : Entry). IsApartFrom (entry_range entry) (record { at = at; size = 8 }))
-      (λ (entry : Entry). AreApart entry.at 8 at 8) (chain_of store.table bucket) (λ entry. front_clear entry at)
-      (chain_part (λ (entry : Entry). IsApartFrom (entry_range entry) (record { at = at; size = 8 })) store.table.chains bucket clear))
-      (inl (omega (arith, lies.0, low_arrays.1.3))) (inl (omega (arith, lies.0, low_arrays.1.3)))
-      ∙ steps.same at 8))
+    ap (big_number 8)
+    (last_frame s0 s1 s2 s3 arrays store pairs steps at 8 (inl (omega (arith, lies.0)))
+    (inl (omega (arith, lies.0, (old_low s0 s1 s2 s3 arrays store pairs steps).1)))
+    ∙ steps.part.beside at 8
+    (λ bucket low high. all_mono (λ (entry : Entry). IsApartFrom (entry_range entry) (record { at = at; size = 8 }))
+    (λ (entry : Entry). AreApart entry.at 8 at 8) (chain_of store.table bucket) (λ entry. front_clear entry at)
+    (chain_part (λ (entry : Entry). IsApartFrom (entry_range entry) (record { at = at; size = 8 })) store.table.chains bucket clear))
+    (inl (omega (arith, lies.0, low_arrays.1.3))) (inl (omega (arith, lies.0, low_arrays.1.3)))
+    ∙ steps.same at 8))
     (round entries (store.heap.free class) each) (free_within s0 store.heap class is.heap in_classes)
   where
     front_clear : (entry : Entry) (at : ℕ) → IsApartFrom (entry_range entry) (record { at = at; size = 8 }) → AreApart entry.at 8 at 8
@@ -130,7 +130,8 @@ free_same s0 s1 s2 s3 arrays store pairs steps class in_classes =
     round es [] all = tt
     round es (at ∷ ats) all = (
       all_mono _ (λ (entry : Entry). IsApartFrom (entry_range entry) (record { at = at; size = 8 })) es (λ entry two. two.0) all,
-      round es ats (all_mono _ (λ (entry : Entry). AllByRecursion (λ a. IsApartFrom (entry_range entry) (record { at = a; size = 8 })) ats) es
+      round es ats (all_mono _
+          (λ (entry : Entry). AllByRecursion (λ a. IsApartFrom (entry_range entry) (record { at = a; size = 8 })) ats) es
           (λ entry two. two.1) all),
     )
 
@@ -143,7 +144,8 @@ field_is : (s0 s1 s2 s3 : FlatMemory) (arrays : Arrays) (store : Store) (pairs :
 field_is s0 s1 s2 s3 arrays store pairs steps k word inside bytes small =
     ap (big_number 8)
     (ap (λ p. bytes_at p (array_field + k) 8) steps.present
-    ∙ bytes_at-unmapped (with_bytes s2.present array_field (fields_of arrays)) (arrays.old / 4096) (arrays.buckets / 512) (array_field + k) 8
+    ∙ bytes_at-unmapped (with_bytes s2.present array_field (fields_of arrays)) (arrays.old / 4096) (arrays.buckets / 512)
+    (array_field + k) 8
     (inr (omega (arith, inside, (old_low s0 s1 s2 s3 arrays store pairs steps).0)))
     ∙ part_at (with_bytes s2.present array_field (fields_of arrays)) array_field 24 k 8 (fields_of arrays)
     (bytes_at-with_bytes s2.present array_field (fields_of arrays) steps.full) inside
@@ -160,7 +162,8 @@ linked_now s0 s1 s2 s3 arrays store pairs steps bucket inside =
       | inl low ↦
           subst (λ l. LinksFrom s3 (word_at s3 (arrays.new + 8 * bucket)) (places_of l)) (sym (relinked_low store.table bucket low))
           (kept bucket bucket (2 * n) bucket low inside
-          (subst (λ m. LinksFrom s2 (word_at s2 (arrays.new + 8 * bucket)) (places_of (turned_for (2 * m) bucket (chain_of store.table bucket))))
+          (subst (λ m. LinksFrom s2 (word_at s2 (arrays.new + 8 * bucket))
+          (places_of (turned_for (2 * m) bucket (chain_of store.table bucket))))
           count (steps.part.lower bucket (omega arith) (omega (arith, low, count)))))
       | inr high ↦
           let b : ℕ = bucket - n in
@@ -171,7 +174,8 @@ linked_now s0 s1 s2 s3 arrays store pairs steps bucket inside =
           (subst (λ l. LinksFrom s3 (word_at s3 (arrays.new + 8 * (n + b))) (places_of l)) (sym (relinked_high store.table b low))
           (kept b (n + b) (2 * n) (n + b) low (omega (arith, low))
           (subst (λ q. LinksFrom s2 (word_at s2 (arrays.new + 8 * (n + b))) (places_of (turned_for (2 * n) q (chain_of store.table b)))) sum
-          (subst (λ m. LinksFrom s2 (word_at s2 (arrays.new + 8 * (m + b))) (places_of (turned_for (2 * m) (b + m) (chain_of store.table b))))
+          (subst (λ m. LinksFrom s2 (word_at s2 (arrays.new + 8 * (m + b)))
+          (places_of (turned_for (2 * m) (b + m) (chain_of store.table b))))
           count (steps.part.upper b (omega arith) (omega (arith, low, count)))))))
     ]))
   where
@@ -199,26 +203,30 @@ linked_now s0 s1 s2 s3 arrays store pairs steps bucket inside =
         (inl (omega (arith, low_arrays.1.1))) apart) in
         subst (λ w. LinksFrom s3 w (places_of (turned_for into_count into (chain_of store.table from)))) (sym word)
         (LinksFrom-kept s2 s3 (word_at s2 (arrays.new + 8 * place)) (places_of (turned_for into_count into (chain_of store.table from)))
-        (map_all (λ at. word_at s3 at ≡ word_at s2 at) (λ (entry : Entry). entry.at) (turned_for into_count into (chain_of store.table from))
+        (map_all (λ at. word_at s3 at ≡ word_at s2 at) (λ (entry : Entry). entry.at)
+        (turned_for into_count into (chain_of store.table from))
         (turned_for_all (λ (entry : Entry). word_at s3 entry.at ≡ word_at s2 entry.at) into_count into (chain_of store.table from)
         (all_mono (IsHeldBlock s2) (λ (entry : Entry). word_at s3 entry.at ≡ word_at s2 entry.at) (chain_of store.table from)
         (λ entry held. ap (big_number 8) (last_frame s0 s1 s2 s3 arrays store pairs steps entry.at 8 (inl (omega (arith, held.above)))
-          (inl (omega (arith, held.above, old.1)))))
+        (inl (omega (arith, held.above, old.1)))))
         (chain_part (IsHeldBlock s2) store.table.chains from steps.blocks.held)))) linked)
 
 -- what passes a test has passed it
 filter_passes : (test : Entry → Bool) (entries : List Entry) → AllByRecursion (λ entry. test entry ≡ true) (filter test entries)
 filter_passes test [] = tt
 filter_passes test (entry ∷ entries) = elim (cases_Bool (test entry)) [
-  | inl passes ↦ subst (AllByRecursion (λ e. test e ≡ true)) (sym (cond-true (test entry) (entry ∷ filter test entries) (filter test entries) passes))
+  | inl passes ↦ subst (AllByRecursion (λ e. test e ≡ true))
+      (sym (cond-true (test entry) (entry ∷ filter test entries) (filter test entries) passes))
       (passes, filter_passes test entries)
-  | inr fails ↦ subst (AllByRecursion (λ e. test e ≡ true)) (sym (cond-false (test entry) (entry ∷ filter test entries) (filter test entries) fails))
+  | inr fails ↦ subst (AllByRecursion (λ e. test e ≡ true))
+      (sym (cond-false (test entry) (entry ∷ filter test entries) (filter test entries) fails))
       (filter_passes test entries)
 ]
 
 -- a block holds its pair where its bytes are the same
 holds_now : (old new : FlatMemory) (entry : Entry)
-    → ((other size : ℕ) → entry.at ≤ other → bytes_at new.present other size ≡ bytes_at old.present other size) → Holds old entry → Holds new entry
+    → ((other size : ℕ) → entry.at ≤ other → bytes_at new.present other size ≡ bytes_at old.present other size) → Holds old entry
+    → Holds new entry
 holds_now old new entry same holds = record {
   key_length = ap (big_number 4) (same (entry.at + 8) 4 (omega arith)) ∙ holds.key_length;
   value_length = ap (big_number 4) (same (entry.at + 12) 4 (omega arith)) ∙ holds.value_length;
@@ -241,7 +249,8 @@ doubled_is s0 s1 s2 s3 arrays store pairs steps =
     let size : length (map (relinked_chain store.table) (range_with_len 0 (2 * n))) ≡ 2 * n =
     length-map (range_with_len 0 (2 * n)) (relinked_chain store.table) ∙ length-range_with_len 0 (2 * n) in
     let chain : (bucket : ℕ) → bucket < 2 * n → chain_of (doubled store).table bucket ≡ relinked_chain store.table bucket =
-    λ bucket inside. get_or-map-range_with_len (relinked_chain store.table) 0 (2 * n) bucket bucket [] (omega (arith, inside)) (omega arith) in
+    λ bucket inside. get_or-map-range_with_len (relinked_chain store.table) 0 (2 * n) bucket bucket [] (omega (arith, inside))
+    (omega arith) in
     let same_entries : IsPermutation (entries_of (doubled store).table) (entries_of store.table) =
     doubled_entries store.table some (λ bucket low. recursion_from_All (λ (entry : Entry). hash_of entry.key % n ≡ bucket)
     (chain_of store.table bucket) (is.table.hashed bucket low)) in
@@ -261,8 +270,8 @@ doubled_is s0 s1 s2 s3 arrays store pairs steps =
     let held_behind : AllByRecursion (Holds s3) (entries_of store.table) =
     all_mono (IsHeldBlock s2) (Holds s3) (entries_of store.table)
     (λ entry held. holds_now s2 s3 entry
-      (λ other m low. last_frame s0 s1 s2 s3 arrays store pairs steps other m (inl (omega (arith, held.above, low)))
-      (inl (omega (arith, held.above, low, old.1)))) held.holds) steps.blocks.held in
+    (λ other m low. last_frame s0 s1 s2 s3 arrays store pairs steps other m (inl (omega (arith, held.above, low)))
+    (inl (omega (arith, held.above, low, old.1)))) held.holds) steps.blocks.held in
     record {
       table = record {
         areas = steps.areas
@@ -275,11 +284,14 @@ doubled_is s0 s1 s2 s3 arrays store pairs steps =
         pairs = field_is s0 s1 s2 s3 arrays store pairs steps 16 arrays.pairs (omega arith) refl steps.due.small
             ∙ steps.due.counted ∙ length_permutation (entries_of (doubled store).table) (entries_of store.table) same_entries;
         rest = header_same s0 s1 s2 s3 arrays store pairs steps (header_at + 168) 3928 (omega arith) (inl (omega arith)) ∙ is.table.rest;
-        doubled = (suc is.table.doubled.0, record {
-          buckets = size ∙ ap (λ m. 2 * m) is.table.doubled.1.buckets ∙ omega arith;
-          few = few_more is.table.doubled.0 is.table.doubled.1.buckets is.table.doubled.1.few;
-          region = ap other_array is.table.doubled.1.region;
-        });
+        doubled = (
+          suc is.table.doubled.0,
+          record {
+            buckets = size ∙ ap (λ m. 2 * m) is.table.doubled.1.buckets ∙ omega arith;
+            few = few_more is.table.doubled.0 is.table.doubled.1.buckets is.table.doubled.1.few;
+            region = ap other_array is.table.doubled.1.region;
+          },
+        );
         linked = λ bucket inside.
             let low : bucket < 2 * n = omega (arith, inside, size) in
             subst (λ l. Links s3 (other_array store.table.array + 8 * bucket) (places_of l)) (sym (chain bucket low))
@@ -294,7 +306,8 @@ doubled_is s0 s1 s2 s3 arrays store pairs steps =
             (all_permuted (Holds s3) (entries_of store.table) (entries_of (doubled store).table) back held_behind);
       };
       heap = record {
-        areas = subst (λ a. Contains a header_area × Contains a heap_area) (sym steps.areas) ((0, omega arith, refl), (2, omega arith, refl));
+        areas = subst (λ a. Contains a header_area × Contains a heap_area) (sym steps.areas)
+            ((0, omega arith, refl), (2, omega arith, refl));
         top = top top_field (omega arith) ∙ is.heap.top;
         lists = λ class in_classes. Links-kept s0 s3 (list_field class) (store.heap.free class)
             (top (list_field class) (omega (arith, (class_within class in_classes).0, (class_within class in_classes).1)))
@@ -311,7 +324,8 @@ doubled_is s0 s1 s2 s3 arrays store pairs steps =
         header = λ page low high. pages page (inl (omega (arith, high))) (is.heap.header page low high);
         within = is.heap.within;
       };
-      used = IsPermutation-trans _ _ _ is.used (IsPermutation-map entry_block (entries_of store.table) (entries_of (doubled store).table) back);
+      used = IsPermutation-trans _ _ _ is.used
+          (IsPermutation-map entry_block (entries_of store.table) (entries_of (doubled store).table) back);
       pairs = IsPermutation-trans _ _ _
           (IsPermutation-map entry_pair (entries_of (doubled store).table) (entries_of store.table) same_entries) is.pairs;
     }
@@ -339,5 +353,6 @@ doubled_is s0 s1 s2 s3 arrays store pairs steps =
         all_mono (λ entry. test entry ≡ true) (λ (entry : Entry). hash_of entry.key % (2 * length store.table.chains) ≡ bucket)
         (relinked_chain store.table bucket)
         (λ entry is. eqb-true (hash_of entry.key % (2 * length store.table.chains)) bucket is)
-        (all_permuted (λ entry. test entry ≡ true) (filter test chosen) (reverse (filter test chosen)) (IsPermutation-reverse (filter test chosen))
+        (all_permuted (λ entry. test entry ≡ true) (filter test chosen) (reverse (filter test chosen))
+        (IsPermutation-reverse (filter test chosen))
         (filter_passes test chosen))

@@ -55,7 +55,8 @@ added_may old added arrays store pairs due may kept adds = record {
   sound = kept.after;
   may = may_kept old added kept may;
   heap = subst (λ a. Contains a heap_area) (sym adds.areas)
-      (others_listed arrays.old arrays.new (arrays.buckets / 512) (arrays.buckets / 256) (due_facts old.mem arrays store pairs due).regions).1;
+      (others_listed arrays.old arrays.new (arrays.buckets / 512) (arrays.buckets / 256)
+      (due_facts old.mem arrays store pairs due).regions).1;
 }
 
 pub added_table : (old added : MemoryState) (arrays : Arrays) (store : Store) (pairs : Pairs) → IsDue old.mem arrays store pairs
@@ -88,14 +89,16 @@ relinked_may old added relinked arrays store pairs due adds keeps =
 
 -- ---- made
 
-pub doubling_made : (old added relinked new : MemoryState) (arrays : Arrays) (store : Store) (pairs : Pairs) → IsDue old.mem arrays store pairs
+pub doubling_made : (old added relinked new : MemoryState) (arrays : Arrays) (store : Store) (pairs : Pairs)
+    → IsDue old.mem arrays store pairs
     → AddsArray old added arrays → RelinksPart added.mem relinked.mem arrays store.table 0 arrays.buckets → KeepsPlace added relinked
     → MovesTo relinked new arrays → DoublesArray old new store pairs
 doubling_made old added relinked new arrays store pairs due adds part keeps moves =
     let table = added_table old added arrays store pairs due adds in
     let full : AreFullPages relinked.mem.present array_field 24 =
     full_present relinked.mem array_field 24 keeps.kept.after.flat (omega arith)
-    (λ page low high. relinked_header old added relinked arrays store pairs due adds keeps page (omega (arith, low)) (omega (arith, high))) in
+    (λ page low high. relinked_header old added relinked arrays store pairs due adds keeps page (omega (arith, low))
+    (omega (arith, high))) in
     record {
       is = doubled_is old.mem added.mem relinked.mem new.mem arrays store pairs (record {
         due = due;
@@ -103,7 +106,8 @@ doubling_made old added relinked new arrays store pairs due adds part keeps move
         added = added_pages old added arrays adds;
         part = part;
         held = table.blocks;
-        blocks = blocks_part added.mem relinked.mem arrays store.table 0 arrays.buckets table.regions (omega arith) (omega arith) table.blocks
+        blocks = blocks_part added.mem relinked.mem arrays store.table 0 arrays.buckets table.regions (omega arith)
+            (omega arith) table.blocks
             (λ page there. keeps.pages page ∙ there) part;
         kept = λ page there. keeps.pages page ∙ there;
         full = full;
@@ -159,7 +163,8 @@ doubling_lacks old new arrays store pairs due lacks = record {
 -- ---- the reach
 
 -- there are more pairs than buckets
-more_pairs : (memory : FlatMemory) (arrays : Arrays) (store : Store) (pairs : Pairs) → IsDue memory arrays store pairs → arrays.buckets < len pairs
+more_pairs : (memory : FlatMemory) (arrays : Arrays) (store : Store) (pairs : Pairs) → IsDue memory arrays store pairs
+    → arrays.buckets < len pairs
 more_pairs memory arrays store pairs due =
     let size : len pairs ≡ length (entries_of store.table) =
     len-entries pairs ∙ length_permutation (map entry_pair (entries_of store.table)) (entries pairs) due.is.pairs
@@ -200,8 +205,10 @@ new_below memory arrays store pairs page due inside high =
     ]
 
 -- the store behind a doubling keeps within the reach of one place more
-doubled_within : (old new : MemoryState) (arrays : Arrays) (store : Store) (pairs : Pairs) (gone : List Place) → IsDue old.mem arrays store pairs
-    → DoublesArray old new store pairs → KeepsWithin old store (reach_of gone) → KeepsWithin new (doubled store) (reach_of (gone ++ At pairs ∷ []))
+doubled_within : (old new : MemoryState) (arrays : Arrays) (store : Store) (pairs : Pairs) (gone : List Place)
+    → IsDue old.mem arrays store pairs
+    → DoublesArray old new store pairs → KeepsWithin old store (reach_of gone)
+    → KeepsWithin new (doubled store) (reach_of (gone ++ At pairs ∷ []))
 doubled_within old new arrays store pairs gone due made within =
     let reach = reach_step (reach_of gone) (At pairs) in
     let more = KeepsWithin-more old store (reach_of gone) pairs within in
@@ -219,7 +226,8 @@ doubled_within old new arrays store pairs gone due made within =
     above : (one two : ℕ) → length store.table.chains < one → length store.table.chains < max one two
     above one two less = omega (arith, less)
 
-    was_there : (page : ℕ) → IsSome (get new.mem.present page) → heap_at ≤ 4096 * page → (found : Option (List ℕ)) → get old.mem.present page ≡ found
+    was_there : (page : ℕ) → IsSome (get new.mem.present page) → heap_at ≤ 4096 * page → (found : Option (List ℕ))
+        → get old.mem.present page ≡ found
         → IsSome (get old.mem.present page)
     was_there page there high None is =
         absurd (new_below old.mem arrays store pairs page due (made.pages page there (ap is_some is)) high)

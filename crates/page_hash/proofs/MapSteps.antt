@@ -38,7 +38,8 @@ put_new key value [] none = IsPermutation-refl _
 put_new key value (e ∷ es) none = elim (key_cmp key e.0) as (λ o. key_cmp key e.0 ≡ o
     → IsPermutation ((key, value) ∷ e ∷ es) (by_order o ((key, value) ∷ e ∷ es) ((e.0, value) ∷ es) (e ∷ put key_cmp key value es))) [
       | Less ↦ λ is. IsPermutation-refl _
-      | Equal ↦ λ is. absurd (false≢true (ap is_some (sym none ∙ cond-true (eq_by_cmp key_cmp key e.0) (Some e.1) (find key_cmp key es) (ap is_eq is))))
+      | Equal ↦ λ is. absurd (false≢true
+          (ap is_some (sym none ∙ cond-true (eq_by_cmp key_cmp key e.0) (Some e.1) (find key_cmp key es) (ap is_eq is))))
       | Greater ↦ λ is. IsPermutation-trans _ _ _
           (IsPermutation-sym _ _ (IsPermutation-middle (e ∷ []) (key, value) es))
           (IsPermutation-cons e _ _ (put_new key value es

@@ -114,7 +114,8 @@ moved_makes m0 m1 m2 m3 m4 m5 store of key value entry spot field first is at fi
     let above = next_above m0 store of class is in_next in
     let up = link_up m0 store of spot entry is at.chains in
     let link_entry : AreApart entry.at 8 link 8 =
-    apart_part entry.at (2 ^ gone) entry.at 8 link 8 (swapped link 8 entry.at (2 ^ gone) (link_off_middle m0 store of spot entry is at.chains))
+    apart_part entry.at (2 ^ gone) entry.at 8 link 8
+    (swapped link 8 entry.at (2 ^ gone) (link_off_middle m0 store of spot entry is at.chains))
     (omega arith) (omega (arith, some_gone)) in
     let link_next = link_off_next m0 store of spot (entry ∷ []) class is at.chains in_next in
     let entry_next : AreApart next (2 ^ class) entry.at (2 ^ gone) =

@@ -29,7 +29,8 @@ fields_touch old new result arrays may due touches fails =
     (λ page inside. due.header page (omega (arith, inside.0)) (omega (arith, inside.1))) touches fails
 
 -- they are stored, and the old array goes
-pub moves_to : (old touched stored new : MemoryState) (arrays : Arrays) → MayMoveTo old.mem arrays → TouchesPresent old touched array_field 24
+pub moves_to : (old touched stored new : MemoryState) (arrays : Arrays) → MayMoveTo old.mem arrays
+    → TouchesPresent old touched array_field 24
     → stored ≡ after_store touched array_field (big_bytes 8 arrays.new ++ big_bytes 8 (2 * arrays.buckets) ++ big_bytes 8 arrays.pairs)
     → IsUnmapping stored new (arrays.old / 4096) (arrays.buckets / 512) → MovesTo old new arrays
 moves_to old touched stored new arrays due touch is undone =
@@ -40,11 +41,13 @@ moves_to old touched stored new arrays due touch is undone =
     (unmap_one stored.mem (arrays.old / 4096) (arrays.buckets / 512) arrays.new (arrays.buckets / 256)
     (ap (areas_without (arrays.old / 4096) (arrays.buckets / 512)) areas
     ∙ out_old arrays.old arrays.new (arrays.buckets / 512) (arrays.buckets / 256) due.regions.regions
-    (omega (arith, due.regions.few)) (omega (arith, due.regions.few)) (omega (arith, due.regions.some, due.whole)))) undone.1.0 undone.1.1 in
+    (omega (arith, due.regions.few)) (omega (arith, due.regions.few))
+    (omega (arith, due.regions.some, due.whole)))) undone.1.0 undone.1.1 in
     record {
       areas = ap (λ (m : FlatMemory). m.areas) made.0;
       present = ap (λ (m : FlatMemory). m.present) made.0
           ∙ ap (λ (s : MemoryState). unmapped s.mem.present (arrays.old / 4096) (arrays.buckets / 512)) is
-          ∙ ap (λ (m : FlatMemory). unmapped (with_bytes m.present array_field fields) (arrays.old / 4096) (arrays.buckets / 512)) touch.mem;
+          ∙ ap (λ (m : FlatMemory). unmapped (with_bytes m.present array_field fields) (arrays.old / 4096)
+          (arrays.buckets / 512)) touch.mem;
       most = made.1 ∙ ap (λ (s : MemoryState). s.most) is ∙ touch.most;
     }

@@ -29,7 +29,8 @@ use Rattle.page_hash.proofs.StoreParts.{StoresIn, putting, stores_in, full_then,
 
 -- ---- the plan
 
-plan_at : (free : List ℕ) (top class : ℕ) → ((plan_by free top class).addr ≡ first_or_top free top) × ((plan_by free top class).class ≡ class)
+plan_at : (free : List ℕ) (top class : ℕ) → ((plan_by free top class).addr ≡ first_or_top free top)
+    × ((plan_by free top class).class ≡ class)
 plan_at [] top class = (refl, refl)
 plan_at (at ∷ free) top class = (refl, refl)
 
@@ -72,7 +73,8 @@ commits_in state plan sound in_classes ready = by plan.fresh
     by false = one (list_field plan.class) (word_at state.mem plan.addr) (omega (arith, within.0)) (omega (arith, within.0, within.1))
 
 -- it changes neither what is ready nor a count
-pub commit_ready : (state : MemoryState) (plan : Plan) → ((commit_store state plan).ready ≡ state.ready) × ((commit_store state plan).most ≡ state.most)
+pub commit_ready : (state : MemoryState) (plan : Plan) → ((commit_store state plan).ready ≡ state.ready)
+    × ((commit_store state plan).most ≡ state.most)
 commit_ready state plan = by plan.fresh
   where
     by : (fresh : Bool)
@@ -155,7 +157,8 @@ holds_pair memory at next key value full short_key short_value small =
     let m5 = putting m4 (at + 16 + length key) value in
     let part : (m : FlatMemory) → AreFullPages m.present at size → (other n : ℕ) → at ≤ other → other + n ≤ at + size
     → AreFullPages m.present other n = λ m all other n low high. full_part m at size other n low high all in
-    let wider : (one two : FlatMemory) (other n : ℕ) → AreFullPages one.present at size → StoresIn one two other n → AreFullPages two.present at size =
+    let wider : (one two : FlatMemory) (other n : ℕ) → AreFullPages one.present at size → StoresIn one two other n
+    → AreFullPages two.present at size =
     λ one two other n all stores. full_then one two other n at size stores all in
     let s1 = stores_in memory at (big_bytes 8 next) (part memory full at 8 (omega arith) (omega arith)) in
     let f1 = wider memory m1 at 8 full s1 in

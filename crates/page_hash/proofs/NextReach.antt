@@ -43,7 +43,8 @@ weigh_within f (c ∷ cs) (p ∷ ps) all =
     let whole = sum_by-cons (λ x. x) (2 ^ c * p) (map (λ both. 2 ^ both.0 * both.1) (zip cs ps)) in
     omega (arith, here, rest, whole)
 
-weigh_same : (f g : ℕ → ℕ) (n first : ℕ) → ((q : ℕ) → first ≤ q → f q ≡ g q) → weigh f (range_with_len first n) ≡ weigh g (range_with_len first n)
+weigh_same : (f g : ℕ → ℕ) (n first : ℕ) → ((q : ℕ) → first ≤ q → f q ≡ g q) → weigh f (range_with_len first n)
+    ≡ weigh g (range_with_len first n)
 weigh_same f g zero first same = refl
 weigh_same f g (suc n) first same =
     ap₂ (λ a b. 2 ^ first * a + b) (same first (omega arith)) (weigh_same f g n (first + 1) (λ q low. same q (omega (arith, low))))
@@ -58,7 +59,8 @@ weigh_more f g (suc n) first k low high more same = elim (cases_eq first k) [
       let front : g first ≡ suc (f first) = subst (λ q. g q ≡ suc (f q)) (sym here) more in
       let size : 2 ^ first ≡ 2 ^ k = ap (λ q. 2 ^ q) here in
       let times : 2 ^ first * suc (f first) ≡ 2 ^ first + 2 ^ first * f first = mul-suc (2 ^ first) (f first) ∙ omega arith in
-      let here_now : 2 ^ first * g first ≡ 2 ^ k + 2 ^ first * f first = ap (λ x. 2 ^ first * x) front ∙ times ∙ ap (λ x. x + 2 ^ first * f first) size in
+      let here_now : 2 ^ first * g first ≡ 2 ^ k + 2 ^ first * f first = ap (λ x. 2 ^ first * x) front ∙ times
+      ∙ ap (λ x. x + 2 ^ first * f first) size in
       omega (arith, rest, here_now)
   | inr apart ↦
       let rest = weigh_more f g n (first + 1) k (omega (arith, low, apart)) (omega (arith, high)) more same in
@@ -169,7 +171,8 @@ taken_same heap class at free other in_classes front =
     let block : Block = record { at = at; class = class } in
     let then = flat_map (free_of (with_next heap class (at ∷ free))) classes in
     in_class-permuted other (blocks_of heap) (block ∷ (heap.used ++ then))
-    (IsPermutation-trans _ _ _ (IsPermutation-append_right heap.used _ _ (IsPermutation-sym _ _ (free_front heap class at free in_classes front)))
+    (IsPermutation-trans _ _ _
+    (IsPermutation-append_right heap.used _ _ (IsPermutation-sym _ _ (free_front heap class at free in_classes front)))
     (IsPermutation-middle heap.used block then))
 
 -- giving a block back does too
@@ -294,9 +297,13 @@ next_within memory store of to class ps is in_classes more counted all =
         (all_both (λ (b : Block). Contains classes b.class) is.heap.order (block ∷ [])
         (recursion_from_All (λ (b : Block). Contains classes b.class) is.heap.order is.heap.classed) (in_classes, tt))
         (zip_mono (blocks_in (with_next heap class [])) (λ c. in_class c (is.heap.order ++ block ∷ [])) classes ps
-        (λ c p less. omega (arith, less, in_class-permuted c (is.heap.order ++ block ∷ []) (block ∷ blocks_of heap)
-        (IsPermutation-trans _ _ _ (IsPermutation-to_front is.heap.order block)
-        (IsPermutation-cons block is.heap.order (blocks_of heap) is.heap.same)))) within)
+        (λ c p less. omega (
+          arith,
+          less,
+          in_class-permuted c (is.heap.order ++ block ∷ []) (block ∷ blocks_of heap)
+              (IsPermutation-trans _ _ _ (IsPermutation-to_front is.heap.order block)
+              (IsPermutation-cons block is.heap.order (blocks_of heap) is.heap.same)),
+        )) within)
     by (at ∷ free) front within =
         let lies = (subst (AllByRecursion (λ a. (heap_at ≤ a) × (a + 2 ^ class ≤ store.heap.top))) front
         (free_within memory store.heap class is.heap in_classes)).0 in
@@ -340,7 +347,8 @@ pub count_moved : (of : Pairs) (key value other : List ℕ) (pairs : List (List 
 count_moved of key value other pairs same apart =
     let class = pair_class key other in
     let Test : List ℕ × List ℕ → ℕ = λ (p : List ℕ × List ℕ). point (eqb (pair_class p.0 p.1) class) in
-    let then = sum_by-IsPermutation Test ((key, other) ∷ pairs) (entries (insert of key other)) (replaced_one of key value other pairs same) in
+    let then = sum_by-IsPermutation Test ((key, other) ∷ pairs) (entries (insert of key other))
+    (replaced_one of key value other pairs same) in
     let now = sum_by-IsPermutation Test ((key, value) ∷ pairs) (entries of) same in
     let one = one_if (eqb class class) (eq-eqb class class refl) in
     let none =

@@ -22,12 +22,14 @@ use Rattle.page_hash.proofs.ChainsApart.{pairwise_left, pairwise_right}
 use Rattle.page_hash.proofs.AddingArray.{DueFacts, due_facts, due_arrays}
 
 -- a chain of a place is one from the word there
-pub links_from : (memory : FlatMemory) (place : ℕ) (blocks : List ℕ) → Links memory place blocks → LinksFrom memory (word_at memory place) blocks
+pub links_from : (memory : FlatMemory) (place : ℕ) (blocks : List ℕ) → Links memory place blocks
+    → LinksFrom memory (word_at memory place) blocks
 links_from memory place [] linked = linked
 links_from memory place (at ∷ blocks) linked = (linked.0, linked.1, links_from memory at blocks linked.2)
 
 -- and the other way round
-pub links_to : (memory : FlatMemory) (place : ℕ) (blocks : List ℕ) → LinksFrom memory (word_at memory place) blocks → Links memory place blocks
+pub links_to : (memory : FlatMemory) (place : ℕ) (blocks : List ℕ) → LinksFrom memory (word_at memory place) blocks
+    → Links memory place blocks
 links_to memory place [] linked = linked
 links_to memory place (at ∷ blocks) linked = (linked.0, linked.1, links_to memory at blocks linked.2)
 
@@ -39,7 +41,8 @@ of_entries memory store of P is all =
     (all_permuted P store.heap.used (map entry_block (entries_of store.table)) is.used
     (all_left P store.heap.used _ (all_permuted P is.heap.order (blocks_of store.heap) is.heap.same all)))
 
-three_hold : {X : Type 0} (P Q R S : X → Type 0) (xs : List X) → ((x : X) → P x → Q x → R x → S x) → AllByRecursion P xs → AllByRecursion Q xs
+three_hold : {X : Type 0} (P Q R S : X → Type 0) (xs : List X) → ((x : X) → P x → Q x → R x → S x) → AllByRecursion P xs
+    → AllByRecursion Q xs
     → AllByRecursion R xs → AllByRecursion S xs
 three_hold P Q R S [] more ps qs rs = tt
 three_hold P Q R S (x ∷ xs) more ps qs rs = (more x ps.0 qs.0 rs.0, three_hold P Q R S xs more ps.1 qs.1 rs.1)
@@ -61,13 +64,13 @@ store_blocks memory store of is =
       held = three_hold (λ (entry : Entry). LiesIn heap_at store.heap.top (entry_block entry)) (λ (entry : Entry). half (entry_block entry))
           (Holds memory) (IsHeldBlock memory) entries
           (λ entry lie halved holds.
-            let fits = class_of-holds (pair_size entry.key entry.value) (omega (arith, holds.short_key, holds.short_value)) in
-            record {
-              holds = holds;
-              above = lie.0;
-              below = omega (arith, lie.1, fits, is.heap.within);
-              present = λ page low high. halved.0 page low (omega (arith, high, half_class (entry_block entry).class halved.1));
-            })
+          let fits = class_of-holds (pair_size entry.key entry.value) (omega (arith, holds.short_key, holds.short_value)) in
+          record {
+            holds = holds;
+            above = lie.0;
+            below = omega (arith, lie.1, fits, is.heap.within);
+            present = λ page low high. halved.0 page low (omega (arith, high, half_class (entry_block entry).class halved.1));
+          })
           lies halves (recursion_from_All (Holds memory) entries is.table.held);
       apart = pairwise_left (map entry_range entries) (map free_range (flat_map (free_of store.heap) classes))
           (pairwise_right (bucket_ranges store.table) (block_ranges store)
@@ -100,7 +103,8 @@ old_table old new arrays store pairs due area keeps same =
           (due.is.table.hashed bucket inside));
       blocks = record {
         held = all_mono (IsHeldBlock old) (IsHeldBlock new) (entries_of store.table)
-            (λ entry held. held_kept old new entry (same (entry.at + 8) (8 + length entry.key + length entry.value)) keeps held) blocks.held;
+            (λ entry held. held_kept old new entry
+            (same (entry.at + 8) (8 + length entry.key + length entry.value)) keeps held) blocks.held;
         apart = blocks.apart;
       };
       pairs = omega (arith, due.counted);

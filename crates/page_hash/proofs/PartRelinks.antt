@@ -76,7 +76,7 @@ words_same old new arrays table bucket from to regions rise high are part out =
     both_hold (IsHeldBlock old) (λ entry. (other size : ℕ) → IsWithinEntry entry other size → IsBesideChains table from to other size)
     (AreWordsSame old new) (chain_of table bucket)
     (λ entry held beside. ap (big_number 8) (part.beside entry.at 8 (beside entry.at 8 (omega arith, omega arith))
-      (inl (omega (arith, held.above, low.1.3, rise, high))) (inl (omega (arith, held.above, low.1.3, rise, high)))))
+    (inl (omega (arith, held.above, low.1.3, rise, high))) (inl (omega (arith, held.above, low.1.3, rise, high)))))
     (chain_part (IsHeldBlock old) table.chains bucket are.held)
     (chain_beside table bucket from to are.apart out)
 
@@ -89,17 +89,18 @@ turned_kept old new first count into chain same linked =
     (turned_for_all (AreWordsSame old new) count into chain same)) linked
 
 -- the blocks behind their first words are as before
-pub blocks_part : (old new : FlatMemory) (arrays : Arrays) (table : Table) (from to : ℕ) → AreArrays arrays → from ≤ to → to ≤ arrays.buckets
+pub blocks_part : (old new : FlatMemory) (arrays : Arrays) (table : Table) (from to : ℕ) → AreArrays arrays → from ≤ to
+    → to ≤ arrays.buckets
     → AreHeldBlocks old (entries_of table) → KeepsPages old new → RelinksPart old new arrays table from to
     → AreHeldBlocks new (entries_of table)
 blocks_part old new arrays table from to regions rise high are keeps part = record {
   held = both_hold (IsHeldBlock old) (λ entry. AllByRecursion (IsBesideFirst entry) (entries_of table)) (IsHeldBlock new)
       (entries_of table)
       (λ entry held behind. held_kept old new entry
-        (part.beside (entry.at + 8) (8 + length entry.key + length entry.value)
-        (λ bucket above below. chain_part (IsBesideFirst entry) table.chains bucket behind)
-        (inl (omega (arith, held.above, (arrays_low arrays regions).1.3, rise, high)))
-        (inl (omega (arith, held.above, (arrays_low arrays regions).1.3, rise, high)))) keeps held)
+      (part.beside (entry.at + 8) (8 + length entry.key + length entry.value)
+      (λ bucket above below. chain_part (IsBesideFirst entry) table.chains bucket behind)
+      (inl (omega (arith, held.above, (arrays_low arrays regions).1.3, rise, high)))
+      (inl (omega (arith, held.above, (arrays_low arrays regions).1.3, rise, high)))) keeps held)
       are.held (all_behind (entries_of table) are.apart);
   apart = are.apart;
 }
@@ -128,7 +129,8 @@ old_table_on old new arrays table from is high areas keeps part =
           subst (λ w. LinksFrom new w (places_of (chain_of table bucket))) (sym word)
           (LinksFrom-kept old new (word_at old (arrays.old + 8 * bucket)) (places_of (chain_of table bucket))
           (map_all (λ at. word_at new at ≡ word_at old at) (λ (entry : Entry). entry.at) (chain_of table bucket)
-          (words_same old new arrays table bucket 0 from is.regions (omega arith) high is.blocks part (λ start end. omega (arith, above, end))))
+          (words_same old new arrays table bucket 0 from is.regions (omega arith) high is.blocks part
+          (λ start end. omega (arith, above, end))))
           (is.linked bucket (omega arith) below));
       hashed = is.hashed;
       blocks = blocks_part old new arrays table 0 from is.regions (omega arith) high is.blocks keeps part;
@@ -137,7 +139,8 @@ old_table_on old new arrays table from is high areas keeps part =
 
 -- one part behind another
 pub parts_join : (old mid new : FlatMemory) (arrays : Arrays) (table : Table) (from to : ℕ) → IsOldTable old arrays table 0
-    → from ≤ to → to ≤ arrays.buckets → KeepsPages old mid → RelinksPart old mid arrays table 0 from → RelinksPart mid new arrays table from to
+    → from ≤ to → to ≤ arrays.buckets → KeepsPages old mid → RelinksPart old mid arrays table 0 from
+    → RelinksPart mid new arrays table from to
     → RelinksPart old new arrays table 0 to
 parts_join old mid new arrays table from to is rise high keeps one two =
     let low = arrays_low arrays is.regions in
@@ -220,7 +223,7 @@ bucket_relinks old mid arrays table bucket heads is inside splits full_low full_
     let same : AllByRecursion (AreWordsSame mid m3) chain =
     all_mono (IsHeldBlock old) (AreWordsSame mid m3) chain
     (λ entry held. word_at-apart m2 b h1 entry.at (inl (omega (arith, held.above, low.1.3, inside)))
-      ∙ word_at-apart mid a h0 entry.at (inl (omega (arith, held.above, low.1.3, inside)))) held in
+    ∙ word_at-apart mid a h0 entry.at (inl (omega (arith, held.above, low.1.3, inside)))) held in
     let small : (into : ℕ) → AllByRecursion (λ at. at < 2 ^ 64) (places_of (turned_for (2 * arrays.buckets) into chain)) =
     λ into. map_all (λ at. at < 2 ^ 64) (λ (entry : Entry). entry.at) (turned_for (2 * arrays.buckets) into chain)
     (turned_for_all (λ (entry : Entry). entry.at < 2 ^ 64) (2 * arrays.buckets) into chain

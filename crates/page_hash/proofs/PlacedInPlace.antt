@@ -148,10 +148,10 @@ placed_in_place old ready key value located sound fits makes found =
     (allowed_in_place old key value located of before gone fits stands (found stands.store of stands.stands))
     (keeps_more old of (insert of key value) before gone stands))
     (λ of before gone stands.
-      subst (λ (s : Store). AllZip (λ class peak. blocks_in s.heap class ≤ peak) classes
-      (reach_of (gone ++ At (insert of key value) ∷ [])).peaks)
-      (sym (put_in_place stands.store key value located (found stands.store of stands.stands)))
-      (keeps_more old of (insert of key value) before gone stands).within.blocks)
+    subst (λ (s : Store). AllZip (λ class peak. blocks_in s.heap class ≤ peak) classes
+    (reach_of (gone ++ At (insert of key value) ∷ [])).peaks)
+    (sym (put_in_place stands.store key value located (found stands.store of stands.stands)))
+    (keeps_more old of (insert of key value) before gone stands).within.blocks)
     (value_pages ready located.at located.length (length key) value sound makes.ready)
     (length_most ready located.at located.length (length value))
     (λ store of is page there absent. elim (touched_page old.mem located.at (16 + length key + length value) page
@@ -174,10 +174,10 @@ failed_in_place old new key value located at sound fits lacks found =
     (allowed_in_place old key value located of before gone fits stands (found stands.store of stands.stands))
     (keeps_more old of (insert of key value) before gone stands))
     (λ store of is there.
-      let meets = meets_range located.at size lacks.page lacks.range in
-      absent_not (get old.mem.present lacks.page) lacks.absent
-      (subst (λ m. IsSome (get m.present lacks.page)) lacks.mem
-      (subst (λ a. ArePresent new.mem a (pair_size key value)) (at_in_place store key value located (found store of is)) there.block
-      lacks.page meets.0 meets.1)))
+    let meets = meets_range located.at size lacks.page lacks.range in
+    absent_not (get old.mem.present lacks.page) lacks.absent
+    (subst (λ m. IsSome (get m.present lacks.page)) lacks.mem
+    (subst (λ a. ArePresent new.mem a (pair_size key value)) (at_in_place store key value located (found store of is)) there.block
+    lacks.page meets.0 meets.1)))
     (λ store of is page there absent. absurd (absent_not (get old.mem.present page) absent
     (subst (λ m. IsSome (get m.present page)) lacks.mem there)))

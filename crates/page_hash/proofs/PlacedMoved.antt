@@ -290,8 +290,10 @@ puts_moved old ready m1 m2 m3 m4 m5 key value plan located class store of fits p
     (subst (λ c. IsHeap m5 (freed (committed store.heap (pair_class entry.key value)) located.at c)) class_here
     (stores.gave (committed store.heap (pair_class entry.key value)) linked.0 linked.1)) in
     subst (λ s. IsStore m5 s (insert of key value)) (sym (put_elsewhere store key value located facts found))
-    (moved_makes ready.mem m1 m2 m3 m4 m5 store of key value entry facts.spot stores.commit.field (word_at ready.mem entry.at) then facts.place
-    known.fits stores.commit.stores stores.commit.below known.pair known.link known.block known.head known.taken gave known.holds known.linked
+    (moved_makes ready.mem m1 m2 m3 m4 m5 store of key value entry facts.spot stores.commit.field
+    (word_at ready.mem entry.at) then facts.place
+    known.fits stores.commit.stores stores.commit.below known.pair known.link known.block known.head known.taken gave known.holds
+    known.linked
     refl)
 
 -- the blocks keep within the peaks
@@ -339,34 +341,35 @@ placed_moved old one ready new m1 m2 m3 m4 key value plan located class sound fi
     (λ store of is. puts_moved old ready m1 m2 m3 m4 new.mem key value plan located class store of fits planned alike stores class_is heap
     (searched store of is) is)
     (λ of before gone stands.
-      let kept = keeps_first old one key value plan sound fits planned touches.first
-      (λ of store is. more_elsewhere old.mem store of key value located is (searched store of is)) of before gone stands in
-      record {
-        stands = subst (λ m. IsStore m stands.store of) (sym touches.words.mem) kept.stands;
-        within = record {
-          blocks = kept.within.blocks;
-          pages = λ page there. kept.within.pages page (subst (λ m. IsSome (get m.present page)) touches.words.mem there);
-          buckets = kept.within.buckets;
-        };
-        most = omega (arith, touches.words.most, kept.most);
-      })
+    let kept = keeps_first old one key value plan sound fits planned touches.first
+    (λ of store is. more_elsewhere old.mem store of key value located is (searched store of is)) of before gone stands in
+    record {
+      stands = subst (λ m. IsStore m stands.store of) (sym touches.words.mem) kept.stands;
+      within = record {
+        blocks = kept.within.blocks;
+        pages = λ page there. kept.within.pages page (subst (λ m. IsSome (get m.present page)) touches.words.mem there);
+        buckets = kept.within.buckets;
+      };
+      most = omega (arith, touches.words.most, kept.most);
+    })
     (λ of before gone stands.
-      let at = plan_is old.mem stands.store of plan (pair_size key value) stands.stands planned in
-      let then = store_alike old.mem ready.mem stands.store of alike stands.stands in
-      let given : plan ≡ plan_for stands.store.heap plan.class =
-      planned.given stands.store.heap stands.stands.heap ∙ ap (plan_for stands.store.heap) (sym at.1) in
-      blocks_moved old key value located of before gone fits stands (searched stands.store of stands.stands) m1
-      (subst (λ c. IsHeap m1 (committed stands.store.heap c)) at.1 (heap stands.store.heap then.heap given)))
+    let at = plan_is old.mem stands.store of plan (pair_size key value) stands.stands planned in
+    let then = store_alike old.mem ready.mem stands.store of alike stands.stands in
+    let given : plan ≡ plan_for stands.store.heap plan.class =
+    planned.given stands.store.heap stands.stands.heap ∙ ap (plan_for stands.store.heap) (sym at.1) in
+    blocks_moved old key value located of before gone fits stands (searched stands.store of stands.stands) m1
+    (subst (λ c. IsHeap m1 (committed stands.store.heap c)) at.1 (heap stands.store.heap then.heap given)))
     (λ page. stores.head.pages page ∙ stores.block.pages page ∙ stores.link.pages page ∙ stores.pair.pages page
     ∙ stores.commit.stores.pages page)
     most
     (λ store of is page there absent.
-      inl (adds_first old one key value plan planned touches.first
-      (λ s o i. place_elsewhere old.mem s o key value located i (searched s o i)) store of is page
-      (subst (λ m. IsSome (get m.present page)) touches.words.mem there) absent))
+    inl (adds_first old one key value plan planned touches.first
+    (λ s o i. place_elsewhere old.mem s o key value located i (searched s o i)) store of is page
+    (subst (λ m. IsSome (get m.present page)) touches.words.mem there) absent))
 
 -- the put, all in all
-pub made_moved : (old one ready : MemoryState) (store : Store) (of : Pairs) (key value : List ℕ) (plan : Plan) (located : Located) (class : ℕ)
+pub made_moved : (old one ready : MemoryState) (store : Store) (of : Pairs) (key value : List ℕ) (plan : Plan) (located : Located)
+    (class : ℕ)
     → IsMemory one → IsMemory ready → MayHoldStore ready → FitsPair key value → IsStore old.mem store of
     → IsPlanOf old.mem plan (pair_size key value) → MovedTouches old one ready plan located (16 + length key + length value)
     → class ≡ class_of (16 + length key + located.length)
@@ -383,7 +386,8 @@ made_moved old one ready store of key value plan located class sound_one sound m
     let is_ready = ready_moved old one ready store of key value plan located touches fits is planned found in
     let low : word_at ready.mem located.at < 2 ^ 64 = subst (λ a. word_at ready.mem a < 2 ^ 64) (sym facts.at)
     (next_low ready.mem store of key facts.entry facts.spot then facts.place) in
-    placed_moved old one ready (moved_stored ready plan located class key value) _ _ _ _ key value plan located class sound_one fits planned touches
+    placed_moved old one ready
+    (moved_stored ready plan located class key value) _ _ _ _ key value plan located class sound_one fits planned touches
     (moved_stores ready plan located class key value sound fits in_classes
     (subst (Contains classes) (sym class_is) (class_is_listed (16 + length key + located.length))) is_ready
     (omega (arith, planned.within.1)) low)

@@ -51,11 +51,13 @@ pub record IsPlanOf (memory : FlatMemory) (plan : Plan) (size : ℕ) : Type 0 wh
 pub size_few : (key value : List ℕ) → FitsPair key value → (16 ≤ pair_size key value) × (pair_size key value ≤ 2097152)
 size_few key value fits = (omega arith, omega (arith, fits.0, fits.1))
 
-pub plan_is : (memory : FlatMemory) (store : Store) (of : Pairs) (plan : Plan) (size : ℕ) → IsStore memory store of → IsPlanOf memory plan size
+pub plan_is : (memory : FlatMemory) (store : Store) (of : Pairs) (plan : Plan) (size : ℕ) → IsStore memory store of
+    → IsPlanOf memory plan size
     → (plan.addr ≡ next_at store.heap (class_of size)) × (plan.class ≡ class_of size)
 plan_is memory store of plan size is planned = planned_at store.heap (class_of size) plan (planned.given store.heap is.heap)
 
-pub plan_room : (memory : FlatMemory) (store : Store) (of : Pairs) (plan : Plan) (size : ℕ) → IsStore memory store of → IsPlanOf memory plan size
+pub plan_room : (memory : FlatMemory) (store : Store) (of : Pairs) (plan : Plan) (size : ℕ) → IsStore memory store of
+    → IsPlanOf memory plan size
     → size ≤ 2097152 → size ≤ 2 ^ plan.class
 plan_room memory store of plan size is planned few =
     subst (λ c. size ≤ 2 ^ c) (sym (plan_is memory store of plan size is planned).1) (class_of-holds size few)
@@ -84,7 +86,8 @@ may_kept old new may keeps = record {
 }
 
 -- the key has one more pair of the class behind the put
-pub more_new : (memory : FlatMemory) (store : Store) (of : Pairs) (key value : List ℕ) → IsStore memory store of → entry_for store key ≡ None
+pub more_new : (memory : FlatMemory) (store : Store) (of : Pairs) (key value : List ℕ) → IsStore memory store of → entry_for store key
+    ≡ None
     → count_of (insert of key value) (pair_class key value) ≡ suc (count_of of (pair_class key value))
 more_new memory store of key value is none =
     count_new of key value (entries of) (get_entry memory store of key is ∙ ap (option_map (λ (e : Entry). e.value)) none)
@@ -135,12 +138,12 @@ failed_first old new key value plan at sound fits planned lacks more place =
     (allowed_new old key value plan of before gone fits stands planned (more of stands.store stands.stands))
     (keeps_more old of (insert of key value) before gone stands))
     (λ store of is there.
-      let meets = meets_range plan.addr size lacks.page lacks.range in
-      let here : put_at store key value (entry_for store key) ≡ plan.addr =
-      place store of is ∙ sym (plan_is old.mem store of plan (pair_size key value) is planned).0 in
-      absent_not (get old.mem.present lacks.page) lacks.absent
-      (subst (λ m. IsSome (get m.present lacks.page)) lacks.mem
-      (subst (λ a. ArePresent new.mem a (pair_size key value)) here there.block lacks.page meets.0 meets.1)))
+    let meets = meets_range plan.addr size lacks.page lacks.range in
+    let here : put_at store key value (entry_for store key) ≡ plan.addr =
+    place store of is ∙ sym (plan_is old.mem store of plan (pair_size key value) is planned).0 in
+    absent_not (get old.mem.present lacks.page) lacks.absent
+    (subst (λ m. IsSome (get m.present lacks.page)) lacks.mem
+    (subst (λ a. ArePresent new.mem a (pair_size key value)) here there.block lacks.page meets.0 meets.1)))
     (λ store of is page there absent. absurd (absent_not (get old.mem.present page) absent
     (subst (λ m. IsSome (get m.present page)) lacks.mem there)))
 
@@ -176,22 +179,22 @@ failed_bucket old one new key value plan search at sound fits planned makes lack
     let second = alike_same one.mem new.mem lacks.mem in
     fails_by old new key value at (omega (arith, lacks.rose, counted)) lacks.told (alike_on old.mem one.mem new.mem first second)
     (λ of before gone stands.
-      let lack = searched stands.store of stands.stands in
-      let then = store_alike old.mem one.mem stands.store of first stands.stands in
-      let low = bucket_between one.mem stands.store of key then in
-      keeps_lacking one new search.bucket 8 at stands.store of before _ sound lacks
-      (range_bucket one.mem old.mem stands.store of key search then lack.is)
-      (allowed_below search.bucket 8 (gone ++ At (insert of key value) ∷ []) (omega (arith, lack.is.bucket, low.1)))
-      (keeps_first old one key value plan sound fits planned makes
-      (λ of store is. more_new old.mem store of key value is (searched store of is).none) of before gone stands))
+    let lack = searched stands.store of stands.stands in
+    let then = store_alike old.mem one.mem stands.store of first stands.stands in
+    let low = bucket_between one.mem stands.store of key then in
+    keeps_lacking one new search.bucket 8 at stands.store of before _ sound lacks
+    (range_bucket one.mem old.mem stands.store of key search then lack.is)
+    (allowed_below search.bucket 8 (gone ++ At (insert of key value) ∷ []) (omega (arith, lack.is.bucket, low.1)))
+    (keeps_first old one key value plan sound fits planned makes
+    (λ of store is. more_new old.mem store of key value is (searched store of is).none) of before gone stands))
     (λ store of is there.
-      let meets = meets_range search.bucket 8 lacks.page lacks.range in
-      absent_not (get one.mem.present lacks.page) lacks.absent
-      (subst (λ m. IsSome (get m.present lacks.page)) lacks.mem
-      (subst (λ a. ArePresent new.mem a 8) (sym (searched store of is).is.bucket) there.bucket lacks.page meets.0 meets.1)))
+    let meets = meets_range search.bucket 8 lacks.page lacks.range in
+    absent_not (get one.mem.present lacks.page) lacks.absent
+    (subst (λ m. IsSome (get m.present lacks.page)) lacks.mem
+    (subst (λ a. ArePresent new.mem a 8) (sym (searched store of is).is.bucket) there.bucket lacks.page meets.0 meets.1)))
     (λ store of is page there absent.
-      adds_first old one key value plan planned makes (λ s o i. place_new s key value (searched s o i).none) store of is page
-      (subst (λ m. IsSome (get m.present page)) lacks.mem there) absent)
+    adds_first old one key value plan planned makes (λ s o i. place_new s key value (searched s o i).none) store of is page
+    (subst (λ m. IsSome (get m.present page)) lacks.mem there) absent)
 
 -- all touches of a pair of a new key were made
 pub record NewTouches (old one two ready : MemoryState) (plan : Plan) (bucket size : ℕ) : Type 0 where
@@ -255,7 +258,8 @@ pub record NewStores (m0 m1 m2 m3 m4 : FlatMemory) (plan : Plan) (search : Searc
 pub new_stores : (ready : MemoryState) (plan : Plan) (search : Search) (key value : List ℕ) → IsMemory ready → FitsPair key value
     → Contains classes plan.class → IsReadyForNew ready plan search.bucket (pair_size key value) → plan.addr ≤ heap_end
     → search.first < 2 ^ 64 → search.head.pairs < 2 ^ 48
-    → NewStores ready.mem (commit_store ready plan).mem (putting (commit_store ready plan).mem plan.addr (pair_bytes search.first key value))
+    → NewStores ready.mem (commit_store ready plan).mem
+    (putting (commit_store ready plan).mem plan.addr (pair_bytes search.first key value))
     (putting (putting (commit_store ready plan).mem plan.addr (pair_bytes search.first key value)) search.bucket (big_bytes 8 plan.addr))
     (new_stored ready plan search key value).mem plan search key value
 new_stores ready plan search key value sound fits in_classes may low small few =
@@ -327,34 +331,35 @@ placed_new old one two ready new m1 m2 m3 key value plan search sound_one sound_
     let size = 16 + length key + length value in
     let alike = alike_new old one two ready plan search.bucket size touches in
     places_by old ready new key value
-    (λ store of is. puts_pair old ready m1 m2 m3 new.mem key value plan search store of fits planned alike stores heap (searched store of is) is)
+    (λ store of is. puts_pair old ready m1 m2 m3 new.mem key value plan search store of fits planned alike stores heap
+    (searched store of is) is)
     (λ of before gone stands.
-      let places = gone ++ At (insert of key value) ∷ [] in
-      let lack = searched stands.store of stands.stands in
-      let low = bucket_between old.mem stands.store of key stands.stands in
-      keeps_ready two ready header_at 4096 stands.store of before places touches.third
-      (keeps_touched one two search.bucket 8 stands.store of before places sound_two touches.second
-      (allowed_below search.bucket 8 places (omega (arith, lack.is.bucket, low.1)))
-      (keeps_first old one key value plan sound_one fits planned touches.first
-      (λ of store is. more_new old.mem store of key value is (searched store of is).none) of before gone stands)))
+    let places = gone ++ At (insert of key value) ∷ [] in
+    let lack = searched stands.store of stands.stands in
+    let low = bucket_between old.mem stands.store of key stands.stands in
+    keeps_ready two ready header_at 4096 stands.store of before places touches.third
+    (keeps_touched one two search.bucket 8 stands.store of before places sound_two touches.second
+    (allowed_below search.bucket 8 places (omega (arith, lack.is.bucket, low.1)))
+    (keeps_first old one key value plan sound_one fits planned touches.first
+    (λ of store is. more_new old.mem store of key value is (searched store of is).none) of before gone stands)))
     (λ of before gone stands.
-      let places = gone ++ At (insert of key value) ∷ [] in
-      let lack = searched stands.store of stands.stands in
-      subst (λ (s : Store). AllZip (λ class peak. blocks_in s.heap class ≤ peak) classes (reach_of places).peaks)
-      (sym (ap (put_by stands.store key value) lack.none))
-      (committed_within old.mem stands.store of (insert of key value) (pair_class key value) (reach_of places).peaks stands.stands
-      (class_is_listed (pair_size key value)) (more_new old.mem stands.store of key value stands.stands lack.none)
-      (counted_behind old of (insert of key value) before gone stands)
-      (keeps_more old of (insert of key value) before gone stands).within.blocks))
+    let places = gone ++ At (insert of key value) ∷ [] in
+    let lack = searched stands.store of stands.stands in
+    subst (λ (s : Store). AllZip (λ class peak. blocks_in s.heap class ≤ peak) classes (reach_of places).peaks)
+    (sym (ap (put_by stands.store key value) lack.none))
+    (committed_within old.mem stands.store of (insert of key value) (pair_class key value) (reach_of places).peaks stands.stands
+    (class_is_listed (pair_size key value)) (more_new old.mem stands.store of key value stands.stands lack.none)
+    (counted_behind old of (insert of key value) before gone stands)
+    (keeps_more old of (insert of key value) before gone stands).within.blocks))
     (λ page. stores.count.pages page ∙ stores.link.pages page ∙ stores.pair.pages page ∙ stores.commit.stores.pages page)
     most
     (λ store of is page there absent.
-      let before : IsSome (get two.mem.present page) = subst (λ m. IsSome (get m.present page)) touches.third.mem there in
-      elim (touched_page one.mem search.bucket 8 page (subst (λ m. IsSome (get m.present page)) touches.second.mem before)) [
-        | inl first ↦ inl (adds_first old one key value plan planned touches.first
-            (λ s o i. place_new s key value (searched s o i).none) store of is page first absent)
-        | inr inside ↦ inr (subst (λ b. IsInRange page b 8) (searched store of is).is.bucket inside)
-      ])
+    let before : IsSome (get two.mem.present page) = subst (λ m. IsSome (get m.present page)) touches.third.mem there in
+    elim (touched_page one.mem search.bucket 8 page (subst (λ m. IsSome (get m.present page)) touches.second.mem before)) [
+      | inl first ↦ inl (adds_first old one key value plan planned touches.first
+          (λ s o i. place_new s key value (searched s o i).none) store of is page first absent)
+      | inr inside ↦ inr (subst (λ b. IsInRange page b 8) (searched store of is).is.bucket inside)
+    ])
 
 -- the first word of a chain is small
 pub first_low : (memory : FlatMemory) (store : Store) (of : Pairs) (key : List ℕ) → IsStore memory store of
@@ -393,7 +398,8 @@ made_new old one two ready store of key value plan search sound_one sound_two so
     (omega (arith, lack.is.bucket, low.1)) in
     let first = first_low old.mem store of key is in
     let same : search.first ≡ word_at old.mem (bucket_at store.table key) = lack.is.first ∙ ap (word_at old.mem) lack.is.bucket in
-    placed_new old one two ready (new_stored ready plan search key value) _ _ _ key value plan search sound_one sound_two fits planned touches
+    placed_new old one two ready
+    (new_stored ready plan search key value) _ _ _ key value plan search sound_one sound_two fits planned touches
     (new_stores ready plan search key value sound fits in_classes is_ready (omega (arith, planned.within.1)) (omega (arith, first, same))
     (pairs_few old.mem store of key search is lack))
     (λ heap is_heap given. commits ready heap plan sound may.room is_heap in_classes given is_ready.header is_ready.half)

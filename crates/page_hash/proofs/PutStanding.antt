@@ -175,7 +175,7 @@ within_pages : (old new : MemoryState) (store : Store) (places : List Place)
     → KeepsWithin old store (reach_of places) → KeepsWithin new store (reach_of places)
 within_pages old new store places from within = record {
   blocks = within.blocks;
-  pages = λ page there up. elim (from page there) [ | inl before ↦ within.pages page before up | inr allowed ↦ allowed up ];
+  pages = λ page there up. elim (from page there) [ inl before ↦ within.pages page before up | inr allowed ↦ allowed up ];
   buckets = within.buckets;
 }
 
@@ -208,7 +208,8 @@ keeps_lacking old new address n at store of before places sound lacks is_of allo
     let own = own_of-bound then store of places (flat_touched old.mem address n sound.flat is_of) is within in
     record {
       stands = subst (λ m. IsStore m store of) (sym lacks.mem) keeps.stands;
-      within = within_pages old new store places (λ page there. inl (subst (λ m. IsSome (get m.present page)) lacks.mem there)) keeps.within;
+      within = within_pages old new store places
+          (λ page there. inl (subst (λ m. IsSome (get m.present page)) lacks.mem there)) keeps.within;
       most = omega (arith, lacks.most, keeps.most, own);
     }
 

@@ -275,7 +275,8 @@ moves old middle new store of key value entry spot top is at areas below in_next
     let other = next_entry store entry.key value in
     let in_classes = class_of-entry old store of spot entry is at.chains in
     let pairs = pairs_beside old store of spot (entry ∷ []) is at.chains in
-    let up = (next_off old store of (entries_of store.table) class_then (store.heap.free class_then) is (IsPermutation-refl _) in_next refl).0 in
+    let up = (next_off old store of (entries_of store.table) class_then (store.heap.free class_then) is
+    (IsPermutation-refl _) in_next refl).0 in
     let front = subst (λ k. Lack k spot.front) (sym at.named) at.front in
     let back = subst (λ k. Lack k spot.back) (sym at.named) at.back in
     let at_key : IsSpot store entry.key entry spot = record {
@@ -289,7 +290,8 @@ moves old middle new store of key value entry spot top is at areas below in_next
     let result : (with_chain store.table entry.key (with_entry other)).chains ≡ chains_with spot (other ∷ []) =
     with_chain-at store entry.key entry spot (with_entry other) at_key
     ∙ ap (λ c. spot.before ++ c ∷ spot.behind) (with_entry-at entry other spot.front spot.back refl front back) in
-    let blocks : IsPermutation (committed store.heap class_then).used (entry_block entry ∷ entry_block other ∷ map entry_block (others spot)) =
+    let blocks : IsPermutation (committed store.heap class_then).used
+    (entry_block entry ∷ entry_block other ∷ map entry_block (others spot)) =
     subst (λ l. IsPermutation l (entry_block entry ∷ entry_block other ∷ map entry_block (others spot)))
     (sym (committed_used store.heap class_then))
     (IsPermutation-trans _ _ _ (IsPermutation-cons (entry_block other) store.heap.used (entry_block entry ∷ map entry_block (others spot))
@@ -314,7 +316,8 @@ moves old middle new store of key value entry spot top is at areas below in_next
     )
     (link, omega (arith, up), next) (count ∙ count_beside old store of spot (entry ∷ []) is at.chains) (holds, tt)
     (hashed_at store entry.key entry spot at_key, tt) heap
-    (freed_used middle (committed store.heap class_then) (entry_block entry) (entry_block other ∷ map entry_block (others spot)) taken blocks)
+    (freed_used middle (committed store.heap class_then) (entry_block entry)
+    (entry_block other ∷ map entry_block (others spot)) taken blocks)
     (subst (λ k. IsPermutation ((entry.key, value) ∷ map entry_pair (others spot)) (entries (insert of k value))) at.named
     (replaced_one of entry.key entry.value value (map entry_pair (others spot)) pairs)))
 
@@ -361,7 +364,8 @@ puts_in_place old new store of key value entry spot is at areas keeps same class
     let link : word_at new (link_at store.table.array spot) ≡ entry.at =
     ap (big_number 8) (same (link_at store.table.array spot) 8 (shrunk entry.at _ _ _ 8 away room, tt)) ∙ linked in
     let used : Contains store.heap.used (entry_block entry) = Contains-permutation (entry_block entry ∷ map entry_block (others spot))
-    store.heap.used (entry_block entry) (IsPermutation-sym _ _ (used_in_store old store of spot entry is at.chains)) (0, omega arith, refl) in
+    store.heap.used (entry_block entry) (IsPermutation-sym _ _ (used_in_store old store of spot entry is at.chains))
+    (0, omega arith, refl) in
     let count : word_at new pairs_field ≡ word_at old pairs_field =
     ap (big_number 8) (same pairs_field 8 (inr (omega (arith, up)), tt)) in
     subst (λ (c : List (List Entry)). IsStore new (record {

@@ -109,7 +109,8 @@ length_in state at old_length value_length full = elim (cases_eq value_length ol
 ]
 
 length_read : (state : MemoryState) (at old_length value_length : ℕ) → AreFullPages state.mem.present (at + 12) 4 → value_length < 2 ^ 32
-    → number_at state.mem (at + 12) 4 ≡ old_length → number_at (length_stored state at old_length value_length).mem (at + 12) 4 ≡ value_length
+    → number_at state.mem (at + 12) 4 ≡ old_length → number_at (length_stored state at old_length value_length).mem (at + 12) 4
+    ≡ value_length
 length_read state at old_length value_length full small was = elim (cases_eq value_length old_length) [
   | inl same ↦
       subst (λ (s : MemoryState). number_at s.mem (at + 12) 4 ≡ value_length)
@@ -122,7 +123,8 @@ length_read state at old_length value_length full small was = elim (cases_eq val
 ]
 
 -- the length changes no count
-pub length_most : (state : MemoryState) (at old_length value_length : ℕ) → (length_stored state at old_length value_length).most ≡ state.most
+pub length_most : (state : MemoryState) (at old_length value_length : ℕ) → (length_stored state at old_length value_length).most
+    ≡ state.most
 length_most state at old_length value_length = elim (cases_eq value_length old_length) [
   | inl same ↦ ap (λ (s : MemoryState). s.most) (cond-true (eqb value_length old_length) state _ (eq-eqb value_length old_length same))
   | inr apart ↦ ap (λ (s : MemoryState). s.most) (cond-false (eqb value_length old_length) state _ (ne_eqb value_length old_length apart))

@@ -18,7 +18,8 @@ pub range_cells : (address n : ℕ)
 range_cells address n regions cell listed = elim (cases_eq n 0) [
   | inl none ↦ absurd (false≢true (subst (IsListed cell) (cond-true (eqb n 0) [] _ (eq-eqb n 0 none)) listed))
   | inr some ↦
-      let inside = range-listed _ (cell_of (page_of address)) cell (subst (IsListed cell) (cond-false (eqb n 0) [] _ (ne_eqb n 0 some)) listed) in
+      let inside = range-listed _ (cell_of (page_of address)) cell
+      (subst (IsListed cell) (cond-false (eqb n 0) [] _ (ne_eqb n 0 some)) listed) in
       region_listed cell (regions cell (omega (arith, inside.0)) (omega (arith, inside.0, inside.1, some)))
 ]
 

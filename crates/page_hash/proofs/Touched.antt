@@ -148,7 +148,8 @@ kept_cells one two three first second =
     IsKept-on one two three store_cells [] store_cells first second (λ cell is. is) (λ cell is. absurd (false≢true is))
 
 pub kept_both : (one two three : MemoryState) → IsKept one two store_cells → IsKept two three store_cells → IsKept one three store_cells
-kept_both one two three first second = IsKept-on one two three store_cells store_cells store_cells first second (λ cell is. is) (λ cell is. is)
+kept_both one two three first second = IsKept-on one two three store_cells store_cells store_cells first second (λ cell is. is)
+    (λ cell is. is)
 
 pub kept_none : (one two three : MemoryState) → IsKept one two [] → IsKept two three [] → IsKept one three []
 kept_none one two three first second = IsKept-on one two three [] [] [] first second (λ cell is. is) (λ cell is. is)

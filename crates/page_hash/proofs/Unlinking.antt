@@ -158,7 +158,8 @@ link_beside memory store of spot entry is chains =
     let ends = array_between store.table is.table.doubled.0 is.table.doubled.1 in
     link_among (λ a. IsBesideHeap store.heap (word_range a)) (store.table.array + 8 * length spot.before) spot.front
     (inl (omega (arith, ends.0), place_low memory store of spot (entry ∷ []) is chains))
-    (all_mono (λ (e : Entry). Contains store.heap.used (entry_block e)) (λ (e : Entry). IsBesideHeap store.heap (word_range e.at)) spot.front
+    (all_mono (λ (e : Entry). Contains store.heap.used (entry_block e))
+    (λ (e : Entry). IsBesideHeap store.heap (word_range e.at)) spot.front
     (λ e used. in_use_beside memory store.heap (entry_block e) (word_range e.at) is.heap used (omega arith)
     (omega (arith, block_some memory store.heap (entry_block e) is.heap used)))
     (all_left (λ (e : Entry). Contains store.heap.used (entry_block e)) spot.front _

@@ -49,4 +49,5 @@ pub record RelinksPart (old new : FlatMemory) (arrays : Arrays) (table : Table)
       (places_of (turned_for (2 * arrays.buckets) bucket (chain_of table bucket)))
   pub upper : (bucket : ℕ) → from ≤ bucket → bucket < to
       → LinksFrom new (word_at new (arrays.new + 8 * (arrays.buckets + bucket)))
-      (places_of (turned_for (2 * arrays.buckets) (bucket + arrays.buckets) (chain_of table bucket)))
+      (places_of (turned_for (2 * arrays.buckets) (bucket + arrays.buckets)
+      (chain_of table bucket)))

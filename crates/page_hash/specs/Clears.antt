@@ -19,4 +19,5 @@ pub record Clears (old new : MemoryState) : Type 0 where
 -- in the first region, 512 buckets and no pair
 abbrev pub opening_fields : List ℕ
 opening_fields =
-    big_bytes 8 heap_at ++ replicate 136 0 ++ big_bytes 8 array_a ++ big_bytes 8 512 ++ replicate 8 0
+    big_bytes 8 heap_at ++ replicate 136 0 ++ big_bytes 8 array_a ++ big_bytes 8 512
+    ++ replicate 8 0

@@ -25,7 +25,8 @@ use Rattle.page_hash.specs.declared.search.Search.{Search}
 abbrev pub FitsPair : List ℕ → List ℕ → Type 0
 FitsPair key value = (length key ≤ 65536) × (length value ≤ 1048576)
 
--- where the block of a pair will stand: where it is, if its class stays, and else in the next block of its class
+-- where the block of a pair will stand: where it is, if its class stays, and else in the next block
+-- of its class
 abbrev pub put_at : Store → List ℕ → List ℕ → Option Entry → ℕ
 put_at store key value None = next_at store.heap (pair_class key value)
 put_at store key value (Some entry) =
@@ -89,9 +90,9 @@ IsFoundInPlace store key value located = (entry : Entry) × ((entry_for store ke
 
 -- the search has found no block of the key
 pub record LacksKey (memory : FlatMemory) (store : Store) (key : List ℕ) (search : Search) : Type 0
-    where
-  pub none : entry_for store key ≡ None
-  pub is : IsSearch memory store key search
+  where
+    pub none : entry_for store key ≡ None
+    pub is : IsSearch memory store key search
 
 -- what a pair of a new key stores: the word of its heap, its block, its bucket, and the count
 abbrev pub new_stored : MemoryState → Plan → Search → List ℕ → List ℕ → MemoryState
@@ -112,7 +113,8 @@ pub record IsReadyForNew (state : MemoryState) (plan : Plan) (place size : ℕ) 
 -- the search has found the key's block, and its class is not the one that the new pair has
 pub record IsFoundElsewhere (store : Store) (key value : List ℕ) (located : Located) : Type 0 where
   pub named : Some located
-      ≡ located_in (bucket_at store.table key) (chain_of store.table (bucket_of store.table key)) key
+      ≡ located_in (bucket_at store.table key)
+      (chain_of store.table (bucket_of store.table key)) key
   pub apart : class_of (16 + length key + located.length) ≡ pair_class key value → ⊥
 
 -- the word that names a block, the block's first word and the header belong to a store, and are

@@ -29,7 +29,8 @@ IsNamed store key located = Some located
 -- so it is in each store that the memory has, for some key, with which its block is of this class
 pub record IsNamedBlock (memory : FlatMemory) (located : Located) (class : ℕ) : Type 0 where
   pub key : List ℕ
-  pub named : (store : Store) (pairs : Pairs) → IsStore memory store pairs → IsNamed store key located
+  pub named : (store : Store) (pairs : Pairs) → IsStore memory store pairs
+      → IsNamed store key located
   pub class_is : class ≡ class_of (16 + length key + located.length)
 
 -- the words that taking a block out stores to may be stored to

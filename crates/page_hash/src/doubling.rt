@@ -29,12 +29,16 @@ const MOST_TOUCHED: u64 = 4_194_304;
 /// Doubles the array, and answers whether it did.
 pub fn double<M: Memory>(m: &mut M) -> bool
     requires stands { IsStanding (M.state m.old) }
-    requires due { (store : Store) (pairs : Pairs) → IsStore (M.state m.old).mem store pairs → IsCrowded store }
-    ensures doubled { (store : Store) (pairs : Pairs) → IsStore (M.state m.old).mem store pairs → IsTrue result
+    requires due { (store : Store) (pairs : Pairs) → IsStore (M.state m.old).mem store pairs
+        → IsCrowded store }
+    ensures doubled { (store : Store) (pairs : Pairs) → IsStore (M.state m.old).mem store pairs
+        → IsTrue result
         → DoublesArray (M.state m.old) (M.state m.new) store pairs }
-    ensures left { (store : Store) (pairs : Pairs) → IsStore (M.state m.old).mem store pairs → IsFalse result
+    ensures left { (store : Store) (pairs : Pairs) → IsStore (M.state m.old).mem store pairs
+        → IsFalse result
         → LeavesSingle (M.state m.old) (M.state m.new) store }
-    ensures follows { Follows (M.state m.old) (M.state m.new) (λ pairs. pairs) (λ pairs. At pairs ∷ []) }
+    ensures follows { Follows (M.state m.old) (M.state m.new) (λ pairs. pairs)
+        (λ pairs. At pairs ∷ []) }
     ensures keeps { StaysStanding (M.state m.old) (M.state m.new) }
     ensures aside { M.aside m.new ≡ M.aside m.old }
     ensures went { M.went m.old m.new }
@@ -51,7 +55,8 @@ pub fn double<M: Memory>(m: &mut M) -> bool
 // Where the array lies and where the next one will, how many buckets it has, and how many pairs.
 fn arrays_of<M: Memory>(m: &mut M) -> Arrays
     requires stands { IsStanding (M.state m.old) }
-    requires due { (store : Store) (pairs : Pairs) → IsStore (M.state m.old).mem store pairs → IsCrowded store }
+    requires due { (store : Store) (pairs : Pairs) → IsStore (M.state m.old).mem store pairs
+        → IsCrowded store }
     ensures due { (store : Store) (pairs : Pairs) → IsStore (M.state m.old).mem store pairs
         → IsDue (M.state m.old).mem result store pairs }
     ensures same { M.state m.new ≡ M.state m.old }
@@ -79,7 +84,8 @@ fn region_beside(array: u64) -> u64
 // Maps the new array and touches its pages. Where a frame is refused, it takes them out again.
 fn add_array<M: Memory>(m: &mut M, arrays: &Arrays) -> bool
     requires stands { IsStanding (M.state m.old) }
-    requires due { (store : Store) × (pairs : Pairs) × IsDue (M.state m.old).mem arrays.now store pairs }
+    requires due { (store : Store) × (pairs : Pairs)
+        × IsDue (M.state m.old).mem arrays.now store pairs }
     ensures added { IsTrue result → AddsArray (M.state m.old) (M.state m.new) arrays.now }
     ensures lacks { IsFalse result → LacksArray (M.state m.old) (M.state m.new) arrays.now }
     ensures keeps { IsKept (M.state m.old) (M.state m.new) store_cells }

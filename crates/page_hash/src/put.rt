@@ -49,12 +49,7 @@ fn put_in_place<M: Memory>(
 }
 
 // Puts a pair of a new key in front of its chain.
-fn put_new<M: Memory>(
-    m: &mut M,
-    search: &Search,
-    key: &[u8],
-    value: &[u8],
-) -> Result<(), Refused>
+fn put_new<M: Memory>(m: &mut M, search: &Search, key: &[u8], value: &[u8]) -> Result<(), Refused>
     requires stands { IsStanding (M.state m.old) }
     requires fits { FitsPair key.now value.now }
     requires lacks { (store : Store) (pairs : Pairs) → IsStore (M.state m.old).mem store pairs

@@ -19,9 +19,11 @@ pub fn relink_chain<M: Memory>(
     buckets: u64,
 ) -> [u64; 2]
     requires may { MayRelink (M.state m.old) }
-    requires chain { (chain : List Entry) × IsChainOf (M.state m.old).mem first pairs buckets bucket chain }
+    requires chain { (chain : List Entry)
+        × IsChainOf (M.state m.old).mem first pairs buckets bucket chain }
     requires few { (0 < buckets) × (buckets ≤ 2 ^ 24) }
-    ensures splits { (chain : List Entry) → IsChainOf (M.state m.old).mem first pairs buckets bucket chain
+    ensures splits { (chain : List Entry)
+        → IsChainOf (M.state m.old).mem first pairs buckets bucket chain
         → Splits (M.state m.old).mem (M.state m.new).mem result buckets bucket chain }
     ensures keeps { KeepsPlace (M.state m.old) (M.state m.new) }
     ensures aside { M.aside m.new ≡ M.aside m.old }

@@ -16,7 +16,8 @@ pub fn relink_all<M: Memory>(m: &mut M, arrays: &Arrays)
     requires table { (table : Table) × IsOldTable (M.state m.old).mem arrays.now table 0 }
     requires ready { IsReady (M.state m.old) arrays.now.new (16 * arrays.now.buckets) }
     ensures relinks { (table : Table) → IsOldTable (M.state m.old).mem arrays.now table 0
-        → RelinksPart (M.state m.old).mem (M.state m.new).mem arrays.now table 0 arrays.now.buckets }
+        → RelinksPart (M.state m.old).mem
+        (M.state m.new).mem arrays.now table 0 arrays.now.buckets }
     ensures keeps { KeepsPlace (M.state m.old) (M.state m.new) }
     ensures aside { M.aside m.new ≡ M.aside m.old }
     ensures went { M.went m.old m.new }

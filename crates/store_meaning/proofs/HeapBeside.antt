@@ -60,7 +60,8 @@ heap_beside old new heap stored is areas keeps same beside =
     (all_right (LiesIn heap_at heap.top) heap.used free (blocks_within old heap is)) in
     let Off : Block → Type 0 =
     λ block. AllByRecursion (λ (r : Range). AreApart r.at r.size block.at (block_bytes block)) stored in
-    let offs : AllByRecursion Off free = turned (λ (r : Range) (block : Block). AreApart r.at r.size block.at (block_bytes block)) stored free
+    let offs : AllByRecursion Off free = turned
+    (λ (r : Range) (block : Block). AreApart r.at r.size block.at (block_bytes block)) stored free
     (all_mono (IsBesideHeap heap)
     (λ (r : Range). AllByRecursion (λ (block : Block). AreApart r.at r.size block.at (block_bytes block)) free) stored
     (λ r one. free_off heap r above one) beside) in
@@ -209,7 +210,8 @@ pub aside_of_next : (memory : FlatMemory) (store : Store) (of : Pairs) (spot : S
     → range.at + range.size ≤ next_at store.heap class + 2 ^ class → IsAside (others spot) range
 aside_of_next memory store of spot middle class range is chains in_classes from to =
     let rest = others spot in
-    let off = next_off memory store of (middle ++ rest) class (store.heap.free class) is (in_order store spot middle chains) in_classes refl in
+    let off = next_off memory store of (middle ++ rest) class (store.heap.free class) is
+    (in_order store spot middle chains) in_classes refl in
     block_aside memory (next_at store.heap class) (2 ^ class) rest range off.0 from to
     (all_right (Holds memory) middle rest (held_in_order memory store of spot middle is chains))
     (all_right (λ (entry : Entry). AreApart (next_at store.heap class) (2 ^ class) entry.at (block_bytes (entry_block entry))) middle rest
@@ -258,7 +260,8 @@ pub link_off_next : (memory : FlatMemory) (store : Store) (of : Pairs) (spot : S
 link_off_next memory store of spot middle class is chains in_classes =
     link_aside (store.table.array + 8 * length spot.before) (next_at store.heap class) (2 ^ class) spot.front _
     (place_low memory store of spot middle is chains)
-    (next_off memory store of (middle ++ others spot) class (store.heap.free class) is (in_order store spot middle chains) in_classes refl).0
+    (next_off memory store of (middle ++ others spot) class (store.heap.free class) is
+    (in_order store spot middle chains) in_classes refl).0
     (aside_of_next memory store of spot middle class (record { at = next_at store.heap class; size = 2 ^ class }) is chains in_classes
     (omega arith) (omega arith))
 

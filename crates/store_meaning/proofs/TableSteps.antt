@@ -145,7 +145,8 @@ links_changed : (old new : FlatMemory) (place : ℕ) (front middle other back : 
     → Links old place (addresses (front ++ (middle ++ back))) → Links new place (addresses (front ++ (other ++ back)))
 links_changed old new place (entry ∷ front) middle other back kept leads same linked =
     (kept.0 ∙ linked.0, linked.1, links_changed old new entry.at front middle other back kept.1 leads same linked.2)
-links_changed old new place [] middle other back kept leads same linked = led (link_of place middle) place other leads (passed place middle linked)
+links_changed old new place [] middle other back kept leads same linked = led (link_of place middle) place other leads
+    (passed place middle linked)
   where
     passed : (from : ℕ) (gone : List Entry) → Links old from (addresses (gone ++ back)) → Links old (link_of from gone) (addresses back)
     passed from [] linked = linked
@@ -350,7 +351,8 @@ changed : (old new : FlatMemory) (array : ℕ) (spot : Spot) (middle other : Lis
     → IsHeap new heap → IsPermutation heap.used (map entry_block (other ++ others spot))
     → IsPermutation (map entry_pair (other ++ others spot)) (entries to)
     → IsStore new (store_with array spot other heap) to
-changed old new array spot middle other gone heap of to aside is areas same asides leads pairs held_other hashed_other heap_is used ends_pairs =
+changed old new array spot middle other gone heap of to aside is areas same asides leads pairs held_other hashed_other heap_is used
+    ends_pairs =
     let before = spot.before in
     let front = spot.front in
     let behind = spot.behind in

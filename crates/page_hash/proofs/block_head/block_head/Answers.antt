@@ -15,11 +15,13 @@ hash_range-hash-requires-clause-within g c =
     let front = c.read_area.new.buf ++ drop size (replicate 272 0) in
     let read = front_read mem.present c.args.at size (replicate 272 0) c.read_area.new.buf c.front_of-size.ensures.few
     c.read_area.ensures.bytes in
-    let kept : length front ≡ length (replicate {A = ℕ} 272 0) = front_kept size (replicate 272 0) c.read_area.new.buf c.front_of-size.ensures.few
+    let kept : length front ≡ length (replicate {A = ℕ} 272 0) = front_kept size
+    (replicate 272 0) c.read_area.new.buf c.front_of-size.ensures.few
     (ap length c.read_area.ensures.bytes ∙ length-bytes_at mem.present c.args.at (length (take size (replicate {A = ℕ} 272 0)))) in
     let long : size ≤ length front = omega (arith, kept, c.front_of-size.ensures.few) in
     let key : c.read_u32-length.result ≡ length entry.key =
-    c.read_u32-length.ensures ∙ length_said mem entry c.args.at size 264 front c.requires.block.1.0 is c.front_of-size.ensures.head long read
+    c.read_u32-length.ensures
+    ∙ length_said mem entry c.args.at size 264 front c.requires.block.1.0 is c.front_of-size.ensures.head long read
     (omega arith) in
     (omega (arith, is.above, c.requires.block.1.0), omega (arith, is.below, c.requires.block.1.0, key, c.min-first.ensures))
 
@@ -30,7 +32,8 @@ returns-clause-next g c =
     let front = c.read_area.new.buf ++ drop size (replicate 272 0) in
     let read = front_read mem.present c.args.at size (replicate 272 0) c.read_area.new.buf c.front_of-size.ensures.few
     c.read_area.ensures.bytes in
-    let kept : length front ≡ length (replicate {A = ℕ} 272 0) = front_kept size (replicate 272 0) c.read_area.new.buf c.front_of-size.ensures.few
+    let kept : length front ≡ length (replicate {A = ℕ} 272 0) = front_kept size
+    (replicate 272 0) c.read_area.new.buf c.front_of-size.ensures.few
     (ap length c.read_area.ensures.bytes ∙ length-bytes_at mem.present c.args.at (length (take size (replicate {A = ℕ} 272 0)))) in
     c.read_u64-next.ensures
     ∙ next_said mem c.args.at size front c.front_of-size.ensures.head (omega (arith, kept, c.front_of-size.ensures.few)) read
@@ -43,11 +46,13 @@ returns-clause-hash g c entry here is =
     let front = c.read_area.new.buf ++ drop size (replicate 272 0) in
     let read = front_read mem.present c.args.at size (replicate 272 0) c.read_area.new.buf c.front_of-size.ensures.few
     c.read_area.ensures.bytes in
-    let kept : length front ≡ length (replicate {A = ℕ} 272 0) = front_kept size (replicate 272 0) c.read_area.new.buf c.front_of-size.ensures.few
+    let kept : length front ≡ length (replicate {A = ℕ} 272 0) = front_kept size
+    (replicate 272 0) c.read_area.new.buf c.front_of-size.ensures.few
     (ap length c.read_area.ensures.bytes ∙ length-bytes_at mem.present c.args.at (length (take size (replicate {A = ℕ} 272 0)))) in
     let long : size ≤ length front = omega (arith, kept, c.front_of-size.ensures.few) in
     let key : c.read_u32-length.result ≡ length entry.key =
-    c.read_u32-length.ensures ∙ length_said mem entry c.args.at size 264 front here is c.front_of-size.ensures.head long read (omega arith) in
+    c.read_u32-length.ensures
+    ∙ length_said mem entry c.args.at size 264 front here is c.front_of-size.ensures.head long read (omega arith) in
     let few : first ≤ length entry.key = omega (arith, c.min-first.ensures, key) in
     let fits : 16 + first ≤ size =
     omega (arith, c.front_of-size.ensures.whole (16 + first) (omega (arith, is.below, here, few)), c.min-first.ensures) in

@@ -33,7 +33,8 @@ store-requires-clause-ready g c =
     let touch : TouchesPresent (g.M.Memory.state c.map-new_array.new.self) (g.M.Memory.state c.touch-header.new.self) header_at 168 =
     bare_touch read _ _ c.touch-header.result left mapped.after
     (may_kept read _ mapped (subst MayHoldStore (sym same) stands.may)) c.touch-header.ensures.touched c.touch-header.ensures.fault in
-    subst (λ fields. IsReady (g.M.Memory.state c.touch-header.new.self) header_at (length fields)) (sym c.opening_header.ensures) touch.ready
+    subst (λ fields. IsReady (g.M.Memory.state c.touch-header.new.self) header_at (length fields))
+    (sym c.opening_header.ensures) touch.ready
 
 pub returns-clause-cleared : goal.returns-clause-cleared
 returns-clause-cleared g c =

@@ -17,8 +17,7 @@ add_array-requires-clause-stands g c = subst IsStanding (sym c.arrays_of-arrays.
 pub add_array-requires-clause-due : goal.add_array-requires-clause-due
 add_array-requires-clause-due g c =
     let store = c.requires.stands.stands.0 in
-    let pairs = c.requires.stands.pairs in
-    (
+    let pairs = c.requires.stands.pairs in (
       store,
       pairs,
       subst (λ (s : MemoryState). IsDue s.mem c.arrays_of-arrays.result store pairs) (sym c.arrays_of-arrays.ensures.same)
@@ -34,8 +33,10 @@ relink_all-requires-clause-may g c =
     let pairs = c.requires.stands.pairs in
     let adds : AddsArray old added arrays =
     subst (λ s. AddsArray s added arrays) c.arrays_of-arrays.ensures.same (c.add_array.ensures.added c.if-add_array.true) in
-    let kept : IsKept old added store_cells = subst (λ s. IsKept s added store_cells) c.arrays_of-arrays.ensures.same c.add_array.ensures.keeps in
-    added_may old added arrays store pairs (c.arrays_of-arrays.ensures.due store pairs c.requires.stands.stands.1) c.requires.stands.may kept adds
+    let kept : IsKept old added store_cells = subst
+    (λ s. IsKept s added store_cells) c.arrays_of-arrays.ensures.same c.add_array.ensures.keeps in
+    added_may old added arrays store pairs
+    (c.arrays_of-arrays.ensures.due store pairs c.requires.stands.stands.1) c.requires.stands.may kept adds
 
 pub relink_all-requires-clause-table : goal.relink_all-requires-clause-table
 relink_all-requires-clause-table g c =
@@ -60,9 +61,11 @@ move_to_array-requires-clause-may g c =
     let pairs = c.requires.stands.pairs in
     let adds : AddsArray old added arrays =
     subst (λ s. AddsArray s added arrays) c.arrays_of-arrays.ensures.same (c.add_array.ensures.added c.if-add_array.true) in
-    let kept : IsKept old added store_cells = subst (λ s. IsKept s added store_cells) c.arrays_of-arrays.ensures.same c.add_array.ensures.keeps in
+    let kept : IsKept old added store_cells = subst
+    (λ s. IsKept s added store_cells) c.arrays_of-arrays.ensures.same c.add_array.ensures.keeps in
     may_on added _
-    (added_may old added arrays store pairs (c.arrays_of-arrays.ensures.due store pairs c.requires.stands.stands.1) c.requires.stands.may kept adds)
+    (added_may old added arrays store pairs
+    (c.arrays_of-arrays.ensures.due store pairs c.requires.stands.stands.1) c.requires.stands.may kept adds)
     c.relink_all.ensures.keeps
 
 pub move_to_array-requires-clause-due : goal.move_to_array-requires-clause-due
@@ -101,7 +104,8 @@ returns-then-add_array-clause-follows g c =
     let adds : AddsArray old added arrays =
     subst (λ s. AddsArray s added arrays) c.arrays_of-arrays.ensures.same (c.add_array.ensures.added c.if-add_array.true) in
     let same_most : new.most ≡ added.most = c.move_to_array.ensures.moves.most ∙ c.relink_all.ensures.keeps.most in
-    made_follows old new arrays (subst IsMemory c.arrays_of-arrays.ensures.same c.add_array.ensures.keeps.before) c.arrays_of-arrays.ensures.due
+    made_follows old new arrays
+    (subst IsMemory c.arrays_of-arrays.ensures.same c.add_array.ensures.keeps.before) c.arrays_of-arrays.ensures.due
     (λ store pairs is. returns-then-add_array-clause-doubled g c store pairs is refl)
     (subst (λ m. m ≤ max old.most (own_of (touched old.mem arrays.new (16 * arrays.buckets)))) (sym same_most) adds.most)
 
@@ -141,7 +145,8 @@ returns-clause-follows g c =
     let old = g.M.Memory.state c.args.m.now in
     let new = g.M.Memory.state c.add_array.new.m in
     let arrays = c.arrays_of-arrays.result in
-    lacks_follows old new arrays (subst IsMemory c.arrays_of-arrays.ensures.same c.add_array.ensures.keeps.before) c.arrays_of-arrays.ensures.due
+    lacks_follows old new arrays
+    (subst IsMemory c.arrays_of-arrays.ensures.same c.add_array.ensures.keeps.before) c.arrays_of-arrays.ensures.due
     (subst (λ s. LacksArray s new arrays) c.arrays_of-arrays.ensures.same (c.add_array.ensures.lacks c.if-add_array.false))
 
 pub returns-clause-keeps : goal.returns-clause-keeps

@@ -18,5 +18,6 @@ pub returns-else-key-gt-KEY_FRONT-clause-stored : goal.returns-else-key-gt-KEY_F
 returns-else-key-gt-KEY_FRONT-clause-stored g c =
     c.store-else-key-gt-KEY_FRONT.ensures.stored
     ∙ ap (after_store (g.M.Memory.state c.args.m.now) c.args.at)
-    (front_taken c.head_of-head.result c.args.key.now _ _ (ap length c.head_of-head.ensures.head ∙ head_size _ _ _) c.fill_front.ensures.filled
+    (front_taken c.head_of-head.result c.args.key.now _ _
+    (ap length c.head_of-head.ensures.head ∙ head_size _ _ _) c.fill_front.ensures.filled
     ∙ ap (λ h. h ++ c.args.key.now) c.head_of-head.ensures.head)

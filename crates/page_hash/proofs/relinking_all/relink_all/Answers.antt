@@ -11,8 +11,7 @@ relink_bucket-requires-clause-may g c = may_on _ _ c.requires.may c.loop-bucket.
 
 pub relink_bucket-requires-clause-table : goal.relink_bucket-requires-clause-table
 relink_bucket-requires-clause-table g c =
-    let table = c.requires.table.0 in
-    (
+    let table = c.requires.table.0 in (
       table,
       old_table_on (g.M.Memory.state c.args.m.now).mem (g.M.Memory.state c.loop-bucket.m).mem c.args.arrays.now table c.loop-bucket.bucket
           c.requires.table.1 (omega (arith, c.loop-bucket-test.true)) c.loop-bucket.invariant.keeps.areas

@@ -15,11 +15,10 @@ pub relink_chain-heads-requires-clause-chain : goal.relink_chain-heads-requires-
 relink_chain-heads-requires-clause-chain g c =
     let arrays = c.args.arrays.now in
     let old = g.M.Memory.state c.args.m.now in
-    let table = c.requires.table.0 in
-    (
+    let table = c.requires.table.0 in (
       chain_of table c.args.bucket,
       subst (λ (s : MemoryState). IsChainOf s.mem c.read_word-first.result arrays.pairs arrays.buckets c.args.bucket
-      (chain_of table c.args.bucket)) (sym c.read_word-first.ensures.same)
+          (chain_of table c.args.bucket)) (sym c.read_word-first.ensures.same)
           (subst (λ w. IsChainOf old.mem w arrays.pairs arrays.buckets c.args.bucket (chain_of table c.args.bucket))
           (sym c.read_word-first.ensures.word)
           (bucket_chain_of old.mem arrays table c.args.bucket c.args.bucket c.requires.table.1 (omega arith) c.requires.bucket)),
@@ -48,7 +47,8 @@ store_word-requires-2-clause-ready g c =
     (omega (arith, c.requires.bucket)) ready in
     let keeps = store_keeps relinked stored (arrays.new + 8 * c.args.bucket) (slice_index c.relink_chain-heads.result 0) at
     c.store_word.ensures.keeps c.store_word.ensures.stored in
-    ready_word stored arrays.new (16 * arrays.buckets) (arrays.new + 8 * (arrays.buckets + c.args.bucket)) (omega (arith, c.requires.bucket))
+    ready_word stored arrays.new (16 * arrays.buckets) (arrays.new + 8 * (arrays.buckets + c.args.bucket))
+    (omega (arith, c.requires.bucket))
     (omega arith) (omega (arith, c.requires.bucket)) (ready_on relinked stored arrays.new (16 * arrays.buckets) keeps ready)
 
 pub returns-clause-keeps : goal.returns-clause-keeps
@@ -69,9 +69,11 @@ returns-clause-keeps g c =
     let keeps = store_keeps relinked stored (arrays.new + 8 * c.args.bucket) (slice_index c.relink_chain-heads.result 0) at
     c.store_word.ensures.keeps c.store_word.ensures.stored in
     let at2 : IsReady stored (arrays.new + 8 * (arrays.buckets + c.args.bucket)) 8 =
-    ready_word stored arrays.new (16 * arrays.buckets) (arrays.new + 8 * (arrays.buckets + c.args.bucket)) (omega (arith, c.requires.bucket))
+    ready_word stored arrays.new (16 * arrays.buckets) (arrays.new + 8 * (arrays.buckets + c.args.bucket))
+    (omega (arith, c.requires.bucket))
     (omega arith) (omega (arith, c.requires.bucket)) (ready_on relinked stored arrays.new (16 * arrays.buckets) keeps ready) in
-    let keeps2 = store_keeps stored again (arrays.new + 8 * (arrays.buckets + c.args.bucket)) (slice_index c.relink_chain-heads.result 1) at2
+    let keeps2 = store_keeps stored again (arrays.new + 8 * (arrays.buckets + c.args.bucket))
+    (slice_index c.relink_chain-heads.result 1) at2
     c.store_word-2.ensures.keeps c.store_word-2.ensures.stored in
     keeps_on old relinked again first (keeps_on relinked stored again keeps keeps2)
 
@@ -98,7 +100,8 @@ returns-clause-relinks g c table is =
     let sound = c.store_word.ensures.keeps.before in
     subst (λ m. RelinksPart old.mem m arrays table c.args.bucket (c.args.bucket + 1))
     (sym (ap (λ (s : MemoryState). s.mem) c.store_word-2.ensures.stored
-    ∙ ap (λ (s : MemoryState). with_word s.mem (arrays.new + 8 * (arrays.buckets + c.args.bucket)) (slice_index c.relink_chain-heads.result 1))
+    ∙ ap (λ (s : MemoryState). with_word s.mem (arrays.new + 8 * (arrays.buckets + c.args.bucket))
+    (slice_index c.relink_chain-heads.result 1))
     c.store_word.ensures.stored))
     (bucket_relinks old.mem relinked.mem arrays table c.args.bucket c.relink_chain-heads.result is c.requires.bucket splits
     (full_from_ready relinked (arrays.new + 8 * c.args.bucket) 8 sound
