@@ -57,7 +57,8 @@ found_split key (first ∷ chain) entry found = elim (cases_Bool (bytes_eq first
       ap (λ o. unwrap_or o first) (sym (cond-true (bytes_eq first.key key) (Some first) (entry_in chain key) here) ∙ found) in
       ([], (chain, (ap (λ e. e ∷ chain) same, (subst (λ (e : Entry). e.key ≡ key) same ((bytes_eq-Decides first.key key).0 here), tt))))
   | inr past ↦
-      let later = found_split key chain entry (sym (cond-false (bytes_eq first.key key) (Some first) (entry_in chain key) past) ∙ found) in (
+      let later = found_split key chain entry
+      (sym (cond-false (bytes_eq first.key key) (Some first) (entry_in chain key) past) ∙ found) in (
         first ∷ later.0,
         (
           later.1.0,

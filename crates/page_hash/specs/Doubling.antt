@@ -46,6 +46,7 @@ pub record IsDue (memory : FlatMemory) (arrays : Arrays) (store : Store)
 abbrev pub old_area : Arrays → Area
 old_area arrays = store_area arrays.old (arrays.buckets / 512)
 
+-- the area of the array that it moves to
 abbrev pub new_area : Arrays → Area
 new_area arrays = store_area arrays.new (arrays.buckets / 256)
 

@@ -21,7 +21,7 @@ const FRONT: usize = 272;
 // The hash of no bytes.
 const NO_BYTES: u64 = 14_695_981_039_346_656_037;
 
-// The address of the block behind it, or 0, and the hash of its key.
+/// The address of the block behind it, or 0, and the hash of its key.
 #[derive(Clone, Copy, Debug)]
 pub struct BlockHead {
     pub next: u64,

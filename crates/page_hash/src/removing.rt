@@ -65,8 +65,8 @@ fn unlink<M: Memory>(m: &mut M, block: &Located, class: u8, pairs: u64)
     requires named { IsNamedBlock (M.state m.old).mem block.now class }
     requires ready { MayUnlink (M.state m.old) block.now }
     requires pairs { pairs ≡ word_at (M.state m.old).mem pairs_field }
-    ensures stored { M.state m.new ≡ unlinked (M.state m.old) block.now class pairs }
-    ensures counted { pairs < 2 ^ 64 }
+    ensures stored { (M.state m.new ≡ unlinked (M.state m.old) block.now class pairs)
+        × (pairs < 2 ^ 64) }
     ensures keeps { IsKept (M.state m.old) (M.state m.new) [] }
     ensures aside { M.aside m.new ≡ M.aside m.old }
     ensures went { M.went m.old m.new }

@@ -108,7 +108,7 @@ returns-in-Some-clause-removed g c =
     c.class_for-class.ensures.least c.touch_named.ensures.ready
     (searched_pairs _ c.args.key.now c.locate-search.result stands.stands.0 stands.pairs stands.stands.1
     (c.locate-search.ensures.search stands.stands.0 stands.pairs stands.stands.1))
-    c.unlink.ensures.counted c.unlink.ensures.stored
+    c.unlink.ensures.stored.1 c.unlink.ensures.stored.0
 
 pub returns-in-Some-clause-keeps : goal.returns-in-Some-clause-keeps
 returns-in-Some-clause-keeps g c =

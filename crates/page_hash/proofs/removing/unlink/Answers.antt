@@ -1,4 +1,4 @@
-use Rattle.std.proofs.Common.{◌≡◌, ℕ, ◌-◌, [], sym, ◌∙◌, ap, subst, arith}
+use Rattle.std.proofs.Common.{rules, ◌≡◌, ℕ, ◌-◌, [], sym, ◌∙◌, ap, subst, arith}
 use Rattle.byteorder.specs.Endian.{big_bytes}
 use Rattle.vm_base.specs.MemoryState.{MemoryState, IsKept}
 use Rattle.vm_base.specs.MemoryCalls.{IsReady, after_store}
@@ -74,11 +74,13 @@ store_word-requires-2-clause-ready g c =
     (ready_field (g.M.Memory.state c.args.m.now) pairs_field (omega arith) (omega arith) c.requires.ready.header)
 
 pub returns-clause-stored : goal.returns-clause-stored
-returns-clause-stored g c =
-    c.store_word-2.ensures.stored
-    ∙ ap (λ s. after_store s pairs_field (big_bytes 8 (c.args.pairs - 1)))
-    (c.free.ensures.stored ∙ ap (λ s. free_store s c.args.block.now.at c.args.class)
-    (linked _ _ _ _ _ _ c.read_word-next.ensures.same c.read_word-next.ensures.word c.store_word.ensures.stored))
+returns-clause-stored g c = (
+  c.store_word-2.ensures.stored
+      ∙ ap (λ s. after_store s pairs_field (big_bytes 8 (c.args.pairs - 1)))
+      (c.free.ensures.stored ∙ ap (λ s. free_store s c.args.block.now.at c.args.class)
+      (linked _ _ _ _ _ _ c.read_word-next.ensures.same c.read_word-next.ensures.word c.store_word.ensures.stored)),
+  search rules,
+)
 
 pub returns-clause-keeps : goal.returns-clause-keeps
 returns-clause-keeps g c =
