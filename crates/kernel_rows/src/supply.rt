@@ -1,21 +1,27 @@
-//! An allot that counts, and denies nothing while it has a frame.
-ghost use Rattle.std.specs.Prelude.{⊤, ℕ};
+//! An allot that counts. While it has a frame and memory, it grants one: its tests show that alone.
+ghost use Rattle.std.specs.Prelude.{◌≡◌, ⊤, ℕ, []};
 
 use std::alloc::Global;
 use vm_base::{Allot, Frame, Refused, Want};
 
-/// So many frames, and what was asked of them.
+/// So many frames, and what was asked of them. It tells the frames that are out and the refused
+/// requests as its contracts have them.
 #[derive(Drop)]
-pub(crate) struct Supply {
-    pub(crate) alloc: Global,
-    pub(crate) left: u32,
-    pub(crate) out: u64,
-    pub(crate) refused: u64,
-    pub(crate) asked: Vec<Want>,
+pub struct Supply {
+    pub alloc: Global,
+    pub left: u32,
+    pub out: u64,
+    pub refused: u64,
+    pub asked: Vec<Want>,
 }
 
 impl Supply {
-    pub(crate) fn new(alloc: Global, left: u32) -> Supply {
+    /// A supply of so many frames, of which none is out.
+    pub fn new(alloc: Global, left: u32) -> Supply
+        ensures left { result.left ≡ left }
+        ensures none { (result.out ≡ 0) × (result.refused ≡ 0) }
+        ensures asked { result.asked.items ≡ [] }
+    {
         Supply {
             alloc,
             left,
