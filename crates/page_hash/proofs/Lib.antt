@@ -47,3 +47,5 @@ pub mod DoublingDone
 pub mod Removals
 pub mod MovedSteps
 pub mod PlacedMoved
+pub mod PlacedPairs
+pub mod PutDoubled

@@ -10,4 +10,5 @@ pub mod Doubling
 pub mod Touching
 pub mod PairStores
 pub mod Puts
+pub mod Putting
 pub mod Removing

@@ -1,5 +1,5 @@
 -- What a put needs, answers and leaves.
-use Rattle.std.specs.Prelude.{◌≡◌, ◌⊎◌, ℕ, ◌+◌, ◌-◌, ◌*◌, ◌^◌, ◌≤◌, IsSome, IsNone, ◌==◌, if◌then◌else◌, IsTrue, IsFalse, Bool, List, [], ◌∷◌, length, Option, Some, None}
+use Rattle.std.specs.Prelude.{◌≡◌, ◌⊎◌, ℕ, ◌+◌, ◌-◌, ◌*◌, ◌^◌, ◌≤◌, IsSome, IsNone, ◌==◌, if◌then◌else◌, List, [], ◌∷◌, length, Option, Some, None}
 use Rattle.std.specs.FinMap.{get, insert}
 use Rattle.byteorder.specs.Endian.{big_bytes}
 use Rattle.vm_base.specs.Counts.{Rose}
@@ -9,7 +9,7 @@ use Rattle.vm_base.specs.MemoryCalls.{IsInRange, IsReady, after_store}
 use Rattle.store_meaning.specs.Layout.{class_of, header_at, pairs_field, word_at}
 use Rattle.store_meaning.specs.HeapLayout.{ArePresent, next_at}
 use Rattle.store_meaning.specs.HashLayout.{Pairs, Store, Entry, IsStore, pair_size, pair_class, chain_of}
-use Rattle.store_meaning.specs.StoreSteps.{bucket_of, entry_for, put_in, IsCrowded}
+use Rattle.store_meaning.specs.StoreSteps.{bucket_of, entry_for, put_in}
 use Rattle.store_meaning.specs.Reach.{At}
 use Rattle.store_meaning.specs.Standing.{Follows}
 use Rattle.page_heap.specs.declared.planned.Plan.{Plan}
@@ -155,12 +155,3 @@ pub record IsReadyForMove (state : MemoryState) (plan : Plan) (located : Located
   pub block : IsReady state located.at 8
   pub part : IsOfArea state.mem located.at 8
   pub low : located.at + 8 ≤ 2 ^ 48
-
--- a doubling is due in the store exactly where the answer says so
-abbrev pub SaysDue : Store → Bool → Type 0
-SaysDue store due = (IsTrue due → IsCrowded store) × (IsFalse due → IsCrowded store → ⊥)
-
--- the block is the one that a search names for the key
-abbrev pub IsNamedFor : Store → List ℕ → Located → Type 0
-IsNamedFor store key located = Some located
-    ≡ located_in (bucket_at store.table key) (chain_of store.table (bucket_of store.table key)) key

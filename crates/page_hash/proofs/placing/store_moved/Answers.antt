@@ -10,7 +10,7 @@ use Rattle.page_hash.specs.Puts.{linked_stored}
 use Rattle.vm_base.specs.MemoryCalls.{IsReady}
 use Rattle.page_hash.proofs.NewParts.{commit_ready, ready_same}
 use Rattle.page_hash.proofs.Touched.{kept_none}
-use Rattle.page_hash.proofs.put.store_moved.Goals as goal
+use Rattle.page_hash.proofs.placing.store_moved.Goals as goal
 
 pub read_word-next-requires-clause-area : goal.read_word-next-requires-clause-area
 read_word-next-requires-clause-area g c = c.requires.ready.part

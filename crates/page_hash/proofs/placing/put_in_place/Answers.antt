@@ -6,7 +6,7 @@ use Rattle.page_hash.proofs.NewParts.{holds_pair}
 use Rattle.page_hash.proofs.NewSteps.{new_makes}
 use Rattle.page_hash.proofs.PlacedNew.{alike_new}
 use Rattle.page_hash.proofs.MovedSteps.{moved_makes}
-use Rattle.page_hash.proofs.put.put_in_place.Goals as goal
+use Rattle.page_hash.proofs.placing.put_in_place.Goals as goal
 
 pub touch_range-requires-clause-range : goal.touch_range-requires-clause-range
 touch_range-requires-clause-range g c =

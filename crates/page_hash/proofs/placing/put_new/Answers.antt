@@ -10,7 +10,7 @@ use Rattle.page_hash.proofs.PutStanding.{alike_present, store_alike, alike_on}
 use Rattle.page_hash.proofs.Touched.{kept_cells, kept_both}
 use Rattle.page_hash.proofs.PlacedNew.{IsPlanOf, range_new, range_bucket, may_kept, more_new, failed_first, failed_bucket, place_new, NewTouches, ready_new, planned_new, alike_new, pairs_few, made_new}
 use Rattle.page_hash.proofs.NewSteps.{bucket_between}
-use Rattle.page_hash.proofs.put.put_new.Goals as goal
+use Rattle.page_hash.proofs.placing.put_new.Goals as goal
 
 pub touch_range-requires-clause-range : goal.touch_range-requires-clause-range
 touch_range-requires-clause-range g c =

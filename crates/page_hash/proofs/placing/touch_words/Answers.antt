@@ -4,7 +4,7 @@ use Rattle.store_meaning.specs.HeapLayout.{ArePresent}
 use Rattle.page_hash.specs.Touching.{IsOfStore}
 use Rattle.page_hash.proofs.PlacedNew.{may_kept}
 use Rattle.page_hash.proofs.Touched.{kept_both}
-use Rattle.page_hash.proofs.put.touch_words.Goals as goal
+use Rattle.page_hash.proofs.placing.touch_words.Goals as goal
 
 pub touch_present-requires-clause-range : goal.touch_present-requires-clause-range
 touch_present-requires-clause-range g c = c.requires.words.link

@@ -8,7 +8,7 @@ use Rattle.page_hash.proofs.PutStanding.{alike_present, store_alike}
 use Rattle.page_hash.proofs.Touched.{kept_cells, kept_both}
 use Rattle.page_hash.proofs.PlacedNew.{IsPlanOf, range_new, may_kept, failed_first, planned_new}
 use Rattle.page_hash.proofs.PlacedMoved.{place_elsewhere, more_elsewhere, words_elsewhere, length_found, MovedTouches, alike_moved, ready_moved, in_use_moved, made_moved}
-use Rattle.page_hash.proofs.put.put_moved.Goals as goal
+use Rattle.page_hash.proofs.placing.put_moved.Goals as goal
 
 pub touch_range-requires-clause-range : goal.touch_range-requires-clause-range
 touch_range-requires-clause-range g c =

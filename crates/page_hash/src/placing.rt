@@ -1,17 +1,16 @@
-//! Setting a pair: its three ways, which wait for the call that chooses among them.
-ghost use Rattle.std.specs.Prelude.{◌≡◌, ◌⊎◌, ◌^◌, ◌≤◌, ◌<◌, [], OnOk, IfOk, IfErr, IsTrue, IsFalse};
+//! The three ways of a put: in place, of a new key, and into another block.
+ghost use Rattle.std.specs.Prelude.{◌≡◌, ◌^◌, ◌<◌, [], OnOk, IfErr};
 ghost use Rattle.vm_base.specs.MemoryState.{IsKept};
 ghost use Rattle.store_meaning.specs.Layout.{store_cells};
 ghost use Rattle.store_meaning.specs.HashLayout.{Pairs, Store, IsStore, pair_size};
-ghost use Rattle.store_meaning.specs.StoreSteps.{put_in};
 ghost use Rattle.store_meaning.specs.Standing.{IsStanding, MayHoldStore};
 ghost use Rattle.page_heap.specs.HeapCalls.{IsPlanned, IsInUse};
-ghost use Rattle.page_hash.specs.Puts.{FitsPair, Places, PlaceFails, SaysDue, IsNamedFor, IsFoundInPlace, IsFoundElsewhere, LacksKey, HasWords, MakesWordsReady, IsReadyForNew, IsReadyForMove, new_stored, linked_stored, moved_stored};
+ghost use Rattle.page_hash.specs.Puts.{FitsPair, Places, PlaceFails, IsFoundInPlace, IsFoundElsewhere, LacksKey, HasWords, MakesWordsReady, IsReadyForNew, IsReadyForMove, new_stored, linked_stored, moved_stored};
 
 use crate::chain::Located;
 use crate::layout::{HEAD, PAIRS_FIELD};
 use crate::pair_stores::{store_pair, store_value};
-use crate::search::{Search, locate};
+use crate::search::Search;
 use crate::touching::{touch_present, touch_range};
 use crate::words::{read_word, store_word};
 use page_heap::{Plan, class_for, commit, free, plan};
@@ -22,8 +21,8 @@ const HEADER: u64 = 2_097_152;
 
 const HEADER_SIZE: u64 = 4096;
 
-// Sets the value of a pair whose block has the class already.
-fn put_in_place<M: Memory>(
+/// Sets the value of a pair whose block has the class already.
+pub fn put_in_place<M: Memory>(
     m: &mut M,
     located: &Located,
     key: &[u8],
@@ -48,8 +47,13 @@ fn put_in_place<M: Memory>(
     Ok(())
 }
 
-// Puts a pair of a new key in front of its chain.
-fn put_new<M: Memory>(m: &mut M, search: &Search, key: &[u8], value: &[u8]) -> Result<(), Refused>
+/// Puts a pair of a new key in front of its chain.
+pub fn put_new<M: Memory>(
+    m: &mut M,
+    search: &Search,
+    key: &[u8],
+    value: &[u8],
+) -> Result<(), Refused>
     requires stands { IsStanding (M.state m.old) }
     requires fits { FitsPair key.now value.now }
     requires lacks { (store : Store) (pairs : Pairs) → IsStore (M.state m.old).mem store pairs
@@ -93,8 +97,8 @@ fn store_new<M: Memory>(m: &mut M, plan: &Plan, search: &Search, key: &[u8], val
     store_word(m, PAIRS_FIELD, search.head.pairs + 1);
 }
 
-// Puts a pair of a key that has a block of another class into a new one, in the old one's place.
-fn put_moved<M: Memory>(
+/// Puts a pair of a key that has a block of another class into a new one, in the old one's place.
+pub fn put_moved<M: Memory>(
     m: &mut M,
     located: &Located,
     key: &[u8],

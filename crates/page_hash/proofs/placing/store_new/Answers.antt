@@ -7,7 +7,7 @@ use Rattle.page_hash.specs.PairStores.{pair_bytes}
 use Rattle.page_hash.proofs.NewParts.{commit_ready, ready_same}
 use Rattle.page_hash.proofs.PutRanges.{ready_part}
 use Rattle.page_hash.proofs.Touched.{kept_none}
-use Rattle.page_hash.proofs.put.store_new.Goals as goal
+use Rattle.page_hash.proofs.placing.store_new.Goals as goal
 
 pub store_pair-requires-clause-ready : goal.store_pair-requires-clause-ready
 store_pair-requires-clause-ready g c =
