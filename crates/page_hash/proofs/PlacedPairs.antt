@@ -1,25 +1,25 @@
 -- Which of the puts a search calls for, and whether a doubling is due then.
-use Rattle.std.proofs.Common.{◌≡◌, ℕ, suc, ◌+◌, ◌^◌, ◌<◌, ◌≤◌, ◌⊎◌, Bool, true, false, List, [], ◌∷◌, ◌++◌, length, map, Some, is_some, IsTrue, IsFalse, refl, sym, ◌∙◌, ap, subst, arith, inl, inr, IsPermutation}
-use Rattle.std.specs.Prelude.{None, Option}
+use Rattle.std.proofs.Common.{◌≡◌, ℕ, suc, ◌+◌, ◌^◌, ◌<◌, ◌≤◌, ◌⊎◌, Bool, List, [], ◌∷◌, length, map, Option, Some, None, IsTrue, IsFalse, sym, ◌∙◌, ap, subst, arith, inl, inr, refl}
 use Rattle.std.specs.Option.{option_map}
 use Rattle.std.specs.FinMap.{get, insert, entries}
-use Rattle.std.proofs.lemmas.Bool.{false≢true}
+use Rattle.std.proofs.lemmas.List.{length-map}
 use Rattle.std.proofs.lemmas.List.Sorted.{IsPermutation-refl, length_permutation}
 use Rattle.vm_base.specs.FlatMemory.{FlatMemory}
 use Rattle.store_meaning.specs.Layout.{class_of}
-use Rattle.store_meaning.specs.HashLayout.{Entry, Store, Pairs, IsStore, pair_class, entry_pair, entries_of, chain_of}
-use Rattle.store_meaning.specs.StoreSteps.{bucket_of, entry_for, put_in, IsCrowded}
+use Rattle.store_meaning.specs.HashLayout.{Entry, Store, Pairs, IsStore, pair_class, entry_pair, entries_of}
+use Rattle.store_meaning.specs.StoreSteps.{entry_for, put_in, IsCrowded}
 use Rattle.store_meaning.proofs.TableSteps.{others}
 use Rattle.page_hash.specs.declared.chain.Located.{Located}
 use Rattle.page_hash.specs.declared.search.Search.{Search}
-use Rattle.page_hash.specs.Walks.{bucket_at, located_in, IsSearch}
-use Rattle.page_hash.specs.Puts.{IsFoundInPlace, IsFoundElsewhere, LacksKey}
+use Rattle.page_hash.specs.Walks.{IsSearch}
+use Rattle.page_hash.specs.Puts.{IsFoundInPlace, LacksKey}
 use Rattle.page_hash.specs.Putting.{SaysDue}
 use Rattle.page_hash.specs.Removing.{IsNamed}
 use Rattle.page_hash.proofs.MapEntries.{get_entry}
 use Rattle.page_hash.proofs.MapSteps.{insert_new, replaced_one}
-use Rattle.page_hash.proofs.StoreChanges.{find_spot, pairs_beside}
-use Rattle.page_hash.proofs.Unlinking.{entry_named, class_named, chain_at, located_behind}
+use Rattle.page_hash.proofs.StoreChanges.{pairs_beside}
+use Rattle.page_hash.proofs.Unlinking.{entry_named, class_named}
+use Rattle.page_hash.proofs.Removals.{none_named, searched_none}
 use Rattle.page_hash.proofs.PutAnswers.{by_chains}
 use Rattle.page_hash.proofs.PlacedInPlace.{entry_lies}
 
@@ -39,41 +39,28 @@ found_in_place memory store of key value located is named same =
       ),
     )
 
--- no block is named where the key has none
-pub none_found : (memory : FlatMemory) (store : Store) (of : Pairs) (key : List ℕ) → IsStore memory store of
-    → located_in (bucket_at store.table key) (chain_of store.table (bucket_of store.table key)) key ≡ None → entry_for store key ≡ None
-none_found memory store of key is none = by (entry_for store key) refl
-  where
-    by : (found : Option Entry) → entry_for store key ≡ found → entry_for store key ≡ None
-    by None found = found
-    by (Some entry) found =
-        let spot = find_spot memory store of key entry is found in
-        absurd (false≢true (ap is_some (sym none
-        ∙ ap (λ (c : List Entry). located_in (bucket_at store.table key) c key) (chain_at store key entry spot.0 spot.1)
-        ∙ located_behind (bucket_at store.table key) key spot.0.front entry spot.0.back spot.1.front spot.1.named)))
+-- the old value's length is within its limit
+pub length_named : (memory : FlatMemory) (store : Store) (of : Pairs) (key : List ℕ) (located : Located) → IsStore memory store of
+    → IsNamed store key located → located.length ≤ 1048576
+length_named memory store of key located is named =
+    let facts = entry_named memory store of key located is named in
+    let holds = (entry_lies memory store of key facts.entry is facts.found).1 in
+    omega (arith, facts.size, holds.short_value)
 
+-- where a search answers no block, the key has none
 pub lacks_key : (memory : FlatMemory) (store : Store) (of : Pairs) (key : List ℕ) (search : Search) → IsStore memory store of
-    → IsSearch memory store key search → search.located ≡ None → LacksKey memory store key search
-lacks_key memory store of key search is searched none = record {
-  none = none_found memory store of key is
-      (ap (λ b. located_in b (chain_of store.table (bucket_of store.table key)) key) (sym searched.bucket) ∙ sym searched.located ∙ none);
-  is = searched;
+    → ((store : Store) (of : Pairs) → IsStore memory store of → IsSearch memory store key search) → None ≡ search.located
+    → LacksKey memory store key search
+lacks_key memory store of key search is says none = record {
+  none = none_named memory store of key is (searched_none memory key search none says store of is);
+  is = says store of is;
 }
-
-pub named_for : (memory : FlatMemory) (store : Store) (key : List ℕ) (search : Search) (located : Located)
-    → IsSearch memory store key search → search.located ≡ Some located → IsNamed store key located
-named_for memory store key search located searched some =
-    sym some ∙ searched.located ∙ ap (λ b. located_in b (chain_of store.table (bucket_of store.table key)) key) searched.bucket
-
-length_mapped : {X Y : Type 0} (f : X → Y) (xs : List X) → length (map f xs) ≡ length xs
-length_mapped f [] = refl
-length_mapped f (x ∷ xs) = let rest = length_mapped f xs in omega (arith, rest)
 
 -- a store has as many entries as its map
 entries_counted : (memory : FlatMemory) (store : Store) (of : Pairs) → IsStore memory store of
     → length (entries of) ≡ length (entries_of store.table)
 entries_counted memory store of is =
-    length_permutation (map entry_pair (entries_of store.table)) (entries of) is.pairs ∙ length_mapped entry_pair (entries_of store.table)
+    length_permutation (map entry_pair (entries_of store.table)) (entries of) is.pairs ∙ length-map (entries_of store.table) entry_pair
 
 -- a new key makes one more
 pub counted_new : (old new : FlatMemory) (store then : Store) (of : Pairs) (key value : List ℕ) → IsStore old store of
@@ -101,10 +88,10 @@ counted_found old new store then of key value located is made named =
     subst (λ k. length (entries (insert of k value)) ≡ suc (length rest)) facts.place.named (two ∙ omega arith) in
     omega (arith, one, two_key, entries_counted old store of is, entries_counted new then (insert of key value) made)
 
--- what the test of pairs and buckets says of a store
+-- what the test of pairs and buckets says of the store behind a put
 pub says_due : (store : Store) (key value : List ℕ) (due : Bool) (pairs buckets : ℕ)
     → (IsTrue due → (buckets < pairs) × (buckets < 2 ^ 24)) → (IsFalse due → (pairs ≤ buckets) ⊎ (2 ^ 24 ≤ buckets))
-    → buckets ≡ length store.table.chains → pairs ≡ length (entries_of (put_in store key value).table)
+    → buckets ≡ length store.table.chains → length (entries_of (put_in store key value).table) ≡ pairs
     → SaysDue (put_in store key value) due
 says_due store key value due pairs buckets is_so is_not buckets_are pairs_are =
     let chains = by_chains store key value (entry_for store key) in (
@@ -117,11 +104,3 @@ says_due store key value due pairs buckets is_so is_not buckets_are pairs_are =
         | inr many ↦ absurd (omega (arith, many, crowded.few, buckets_are, chains))
       ],
     )
-
--- the old value's length is within its limit
-pub length_named : (memory : FlatMemory) (store : Store) (of : Pairs) (key : List ℕ) (located : Located) → IsStore memory store of
-    → IsNamed store key located → located.length ≤ 1048576
-length_named memory store of key located is named =
-    let facts = entry_named memory store of key located is named in
-    let holds = (entry_lies memory store of key facts.entry is facts.found).1 in
-    omega (arith, facts.size, holds.short_value)

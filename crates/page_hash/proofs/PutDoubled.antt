@@ -4,16 +4,18 @@ use Rattle.std.specs.Prelude.{IsNone}
 use Rattle.std.specs.FinMap.{get, insert}
 use Rattle.vm_base.specs.Counts.{Rose}
 use Rattle.vm_base.specs.FlatMemory.{FlatMemory}
-use Rattle.vm_base.specs.MemoryState.{MemoryState, own_of}
+use Rattle.vm_base.specs.MemoryState.{MemoryState, IsKept, own_of}
 use Rattle.vm_base.specs.MemoryCalls.{IsInRange, touched}
+use Rattle.store_meaning.specs.Layout.{store_cells}
 use Rattle.store_meaning.specs.HashLayout.{Entry, Store, Pairs, IsStore, other_array, pair_class}
 use Rattle.store_meaning.specs.StoreSteps.{entry_for, put_by, put_in, with_value, with_moved, IsCrowded}
 use Rattle.store_meaning.specs.Reach.{Place, At}
-use Rattle.store_meaning.specs.Standing.{Follows}
+use Rattle.store_meaning.specs.Standing.{Follows, IsStanding, StaysStanding}
 use Rattle.store_meaning.proofs.Reaching.{Stands-once}
 use Rattle.page_hash.specs.Puts.{AddsOnly, Places}
 use Rattle.page_hash.specs.Putting.{Puts, MeetsPut, WantsArray}
 use Rattle.page_hash.specs.Doubling.{DoublesArray, LeavesSingle}
+use Rattle.page_hash.proofs.Cleared.{may_kept}
 use Rattle.page_hash.proofs.PutAnswers.{by_chains}
 
 -- a memory has one count of buckets and one of pairs, so a doubling is due in each of its stores or in none
@@ -97,4 +99,16 @@ puts_due old middle new key value false places kept crowded doubles leaves follo
   pages = λ store of is page there absent.
       let left = leaves (put_in store key value) (insert of key value) (places.store store of is) refl in
       inl (places.pages store of is page (subst (λ (m : FlatMemory). IsSome (get m.present page)) left.mem there) absent);
+}
+
+-- calls of a store may be made on behind what a map follows
+pub follows_stays : (old new : MemoryState) (step : Pairs → Pairs) (places : Pairs → List Place) → IsStanding old
+    → Follows old new step places → IsKept old new store_cells → StaysStanding old new
+follows_stays old new step places stands follows kept = record {
+  standing = record {
+    may = may_kept old new kept stands.may;
+    pairs = step stands.pairs;
+    stands = follows.map stands.pairs stands.stands;
+  };
+  keeps = kept;
 }
