@@ -1,5 +1,5 @@
 -- What a put leaves behind its doubling: made, refused, or not due.
-use Rattle.std.proofs.Common.{◌≡◌, ℕ, ◌*◌, ◌≤◌, Bool, true, false, List, [], ◌∷◌, ◌++◌, length, eqb, cond, Option, Some, None, IsSome, IsTrue, IsFalse, refl, sym, ap, subst, arith, inl, inr, min}
+use Rattle.std.proofs.Common.{◌≡◌, ℕ, ◌*◌, ◌≤◌, Bool, true, false, List, [], ◌∷◌, ◌++◌, length, eqb, cond, Option, Some, None, IsSome, IsTrue, IsFalse, refl, sym, ◌∙◌, ap, subst, arith, inl, inr, min}
 use Rattle.std.specs.Prelude.{IsNone}
 use Rattle.std.specs.FinMap.{get, insert}
 use Rattle.vm_base.specs.Counts.{Rose}
