@@ -72,6 +72,8 @@ due_arrays arrays facts = record {
   regions = facts.regions;
   some = omega (arith, facts.whole, facts.some);
   few = omega (arith, facts.whole, facts.few);
+  pages = facts.part;
+  whole = facts.whole;
 }
 
 -- ---- the new array's area

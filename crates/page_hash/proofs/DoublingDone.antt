@@ -108,7 +108,7 @@ doubling_made old added relinked new arrays store pairs due adds part keeps move
         held = table.blocks;
         blocks = blocks_part added.mem relinked.mem arrays store.table 0 arrays.buckets table.regions (omega arith)
             (omega arith) table.blocks
-            (λ page there. keeps.pages page ∙ there) part;
+            (λ page there. keeps.pages page ∙ there) part.beside;
         kept = λ page there. keeps.pages page ∙ there;
         full = full;
         areas = moves.areas;

@@ -49,3 +49,4 @@ pub mod MovedSteps
 pub mod PlacedMoved
 pub mod PlacedPairs
 pub mod PutDoubled
+pub mod PageRelinks

@@ -13,6 +13,7 @@ mod key_hash;
 mod layout;
 mod lookups;
 mod opening;
+mod page_words;
 mod pair_stores;
 mod placing;
 mod putting;
