@@ -4,24 +4,25 @@ use Rattle.std.specs.Prelude.{slice_index}
 use Rattle.std.specs.List.{AllByRecursion}
 use Rattle.std.proofs.Math.Seq.{drop-append_seam}
 use Rattle.std.proofs.lemmas.Bool.{cases_lt}
-use Rattle.std.proofs.lemmas.List.{length-take-le, length-drop, take-append-drop, take-append-le, drop-append-le}
+use Rattle.std.proofs.lemmas.List.{length-take-le, length-drop, take-append-drop, take-append-le, drop-append-le, length-append}
 use Rattle.byteorder.specs.Endian.{big_bytes, big_number}
 use Rattle.vm_base.specs.FlatMemory.{FlatMemory, bytes_at}
 use Rattle.vm_base.specs.FlatLaws.{AreApart, AreFullPages}
 use Rattle.vm_base.proofs.FlatLaws.{bytes_at-with_bytes, bytes_at-with_bytes_apart}
 use Rattle.store_meaning.specs.Layout.{word_at}
 use Rattle.store_meaning.specs.HashLayout.{Entry, Table, chain_of, entries_of}
-use Rattle.store_meaning.proofs.Lists.{all_mono}
+use Rattle.store_meaning.proofs.Lists.{all_mono, map_all}
 use Rattle.store_meaning.proofs.Words.{number-of_bytes}
 use Rattle.store_meaning.proofs.HeapSteps.{KeepsPages}
 use Rattle.page_hash.specs.declared.arrays.Arrays.{Arrays}
 use Rattle.page_hash.specs.Relinking.{IsHeldBlock, AreHeldBlocks, LinksFrom, IsChainOf, Splits, turned_for, places_of}
 use Rattle.page_hash.specs.ArrayRelinking.{IsOldTable, IsBesideChains, RelinksPart, SplitsPart, word_of}
 use Rattle.page_hash.proofs.MapEntries.{chain_part}
+use Rattle.page_hash.proofs.ChainTurns.{first_low}
 use Rattle.page_hash.proofs.Cleared.{part_at}
 use Rattle.page_hash.proofs.Pieces.{word_in}
 use Rattle.page_hash.proofs.StoreParts.{putting, stores_in, full_then}
-use Rattle.page_hash.proofs.PartRelinks.{arrays_low, bucket_chain_of, low_beside, KeepsPart, AreWordsSame, words_same, turned_kept, blocks_part, old_table_on}
+use Rattle.page_hash.proofs.PartRelinks.{arrays_low, turned_for_all, bucket_chain_of, low_beside, KeepsPart, AreWordsSame, words_same, turned_kept, blocks_part, old_table_on}
 
 -- ---- words in a buffer
 
@@ -57,7 +58,16 @@ word_there bytes place other word room before =
 
 -- the length stays
 pub word_length : (bytes : List ℕ) (place word : ℕ) → 8 * place + 8 ≤ length bytes → length (word_set bytes place word) ≡ length bytes
-word_length bytes place word room = grind (arith, length-take-le, length-drop, Rattle.std.proofs.Common.length-append)
+word_length bytes place word room =
+    omega (
+      arith,
+      room,
+      length-append (take (8 * place) bytes) (big_bytes 8 word ++ drop 8 (drop (8 * place) bytes)),
+      length-append (big_bytes 8 word) (drop 8 (drop (8 * place) bytes)),
+      length-take-le (8 * place) bytes (omega (arith, room)),
+      length-drop 8 (drop (8 * place) bytes),
+      length-drop (8 * place) bytes,
+    )
 
 -- ---- the chains, one after another
 
@@ -97,16 +107,25 @@ splits_begin memory arrays table from lows highs = record {
 -- one more
 pub splits_more : (old mid new : FlatMemory) (arrays : Arrays) (table : Table) (from place : ℕ) (heads lows highs : List ℕ)
     → IsOldTable old arrays table from → from + place < arrays.buckets → KeepsPages old mid
-    → 8 * place + 8 ≤ length lows → 8 * place + 8 ≤ length highs → slice_index heads 0 < 2 ^ 64 → slice_index heads 1 < 2 ^ 64
+    → 8 * place + 8 ≤ length lows → 8 * place + 8 ≤ length highs
     → SplitsPart old mid arrays table from (from + place) lows highs
     → Splits mid new heads arrays.buckets (from + place) (chain_of table (from + place))
     → SplitsPart old new arrays table from (from + (place + 1)) (word_set lows place (slice_index heads 0))
     (word_set highs place (slice_index heads 1))
-splits_more old mid new arrays table from place heads lows highs is inside keeps room_low room_high small_low small_high part splits =
+splits_more old mid new arrays table from place heads lows highs is inside keeps room_low room_high part splits =
     let at : ℕ = from + place in
     let are : AreHeldBlocks mid (entries_of table) =
     blocks_part old mid arrays table from at is.regions (omega arith) (omega (arith, inside)) is.blocks keeps
     (beside_all old mid arrays table from at lows highs part) in
+    let small : (into : ℕ) → AllByRecursion (λ at. at < 2 ^ 64) (places_of (turned_for (2 * arrays.buckets) into (chain_of table at))) =
+    λ into. map_all (λ at. at < 2 ^ 64) (λ (entry : Entry). entry.at) (turned_for (2 * arrays.buckets) into (chain_of table at))
+    (turned_for_all (λ (entry : Entry). entry.at < 2 ^ 64) (2 * arrays.buckets) into (chain_of table at)
+    (all_mono (IsHeldBlock old) (λ (entry : Entry). entry.at < 2 ^ 64) (chain_of table at) (λ entry held. omega (arith, held.below))
+    (chain_part (IsHeldBlock old) table.chains at is.blocks.held))) in
+    let small_low : slice_index heads 0 < 2 ^ 64 =
+    first_low new (slice_index heads 0) (2 ^ 64) _ (omega arith) splits.lower (small at) in
+    let small_high : slice_index heads 1 < 2 ^ 64 =
+    first_low new (slice_index heads 1) (2 ^ 64) _ (omega arith) splits.upper (small (at + arrays.buckets)) in
     let step : KeepsPart mid new arrays table at (at + 1) =
     λ other size clear first second. splits.beside other size (clear at (omega arith) (omega arith)) in
     let same : (bucket : ℕ) → bucket < at → AllByRecursion (AreWordsSame mid new) (chain_of table bucket) =
