@@ -30,7 +30,8 @@ use Rattle.page_hash.proofs.PartRelinks.{arrays_low, turned_for_all, bucket_chai
 abbrev pub word_set : List ℕ → ℕ → ℕ → List ℕ
 word_set bytes place word = take (8 * place) bytes ++ (big_bytes 8 word ++ drop 8 (drop (8 * place) bytes))
 
-pub word_here : (bytes : List ℕ) (place word : ℕ) → 8 * place + 8 ≤ length bytes → word < 2 ^ 64 → word_of (word_set bytes place word) place ≡ word
+pub word_here : (bytes : List ℕ) (place word : ℕ) → 8 * place + 8 ≤ length bytes → word < 2 ^ 64
+    → word_of (word_set bytes place word) place ≡ word
 word_here bytes place word room small =
     let front = take (8 * place) bytes in
     let behind = big_bytes 8 word ++ drop 8 (drop (8 * place) bytes) in

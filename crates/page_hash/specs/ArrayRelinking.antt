@@ -1,4 +1,4 @@
--- An array whose chains are linked anew from another one, bucket by bucket.
+-- An array whose chains are linked anew from another one, page by page of buckets.
 use Rattle.std.specs.Prelude.{◌≡◌, ◌⊎◌, ℕ, ◌+◌, ◌-◌, ◌*◌, ◌%◌, ◌^◌, ◌≤◌, ◌<◌, List, length, take, drop, Contains}
 use Rattle.std.specs.List.{AllByRecursion}
 use Rattle.byteorder.specs.Endian.{big_number}
@@ -43,8 +43,8 @@ IsBesideChains table from to other size =
 abbrev pub word_of : List ℕ → ℕ → ℕ
 word_of bytes place = big_number 8 (take 8 (drop (8 * place) bytes))
 
--- the chains of these buckets are linked anew, each as those of two buckets whose first blocks stand
--- in two buffers, and nothing else was changed
+-- the chains of these buckets are linked anew, each as those of two buckets whose first blocks
+-- stand in two buffers, and nothing else was changed
 pub record SplitsPart (old new : FlatMemory) (arrays : Arrays) (table : Table) (from to : ℕ)
     (lows highs : List ℕ) : Type 0 where
   pub beside : (other size : ℕ) → IsBesideChains table from to other size

@@ -20,10 +20,13 @@ use vm_base::{Memory, Refused};
 // There are no more buckets than these.
 const MOST_BUCKETS: u64 = 16_777_216;
 
-/// Sets the value of a key: at most 65,536 bytes of a key, and at most 1,048,576 of a value. It is
-/// refused where a page of the pair's block or of its bucket is absent and has no frame; the map is
-/// then as it was. Where there are more pairs than buckets behind it, their number is doubled. A
-/// frame refused for that is no refusal of the put.
+/// Sets the value of a key. A key has at most 65,536 bytes, and a value at most 1,048,576.
+///
+/// It is refused where a page of the pair's block or of the key's bucket is absent and no frame is
+/// to be had, and tells the memory's count of refused frames; the map is then as it was.
+///
+/// Where there are more pairs than buckets afterwards, the array is doubled. A frame that is refused
+/// for that is no refusal of the put.
 pub fn put<M: Memory>(m: &mut M, key: &[u8], value: &[u8]) -> Result<(), Refused>
     requires stands { IsStanding (M.state m.old) }
     requires fits { FitsPair key.now value.now }

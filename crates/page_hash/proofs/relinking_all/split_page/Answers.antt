@@ -54,8 +54,8 @@ loop-place-preserved g c =
           subst (λ w. IsChainOf mid.mem w arrays.pairs arrays.buckets bucket (chain_of table bucket)) (sym c.word_at_place-first.ensures)
           (split_chain old.mem mid.mem arrays table c.args.bucket place c.args.firsts.now c.loop-place.lower c.loop-place.upper is inside
           (omega (arith, c.loop-place-test.true)) c.loop-place.invariant.keeps.areas pages part c.requires.words) in
-          subst (λ l. SplitsPart old.mem new.mem arrays table c.args.bucket (c.args.bucket + (place + 1)) l c.set_word-in-loop-place.new.words)
-          (sym c.set_word.ensures)
+          subst (λ l. SplitsPart old.mem new.mem arrays table c.args.bucket (c.args.bucket + (place + 1)) l
+          c.set_word-in-loop-place.new.words) (sym c.set_word.ensures)
           (subst (SplitsPart old.mem new.mem arrays table c.args.bucket (c.args.bucket + (place + 1))
           (word_set c.loop-place.lower place (slice_index heads 0))) (sym c.set_word-in-loop-place.ensures)
           (splits_more old.mem mid.mem new.mem arrays table c.args.bucket place heads c.loop-place.lower c.loop-place.upper is inside pages
