@@ -1,15 +1,14 @@
 -- A block that is linked anew: its touch is not refused, and its first word alone changes.
-use Rattle.std.proofs.Common.{◌≡◌, ℕ, ◌+◌, ◌-◌, ◌*◌, ◌<◌, ◌≤◌, ◌⊎◌, List, [], length, Result, OnOk, IfErr, IsSome, is_some, refl, sym, ◌∙◌, ap, subst, arith, inl, inr, Contains, eqb}
+use Rattle.std.proofs.Common.{◌≡◌, ℕ, ◌+◌, ◌-◌, ◌<◌, ◌≤◌, List, [], length, Result, OnOk, IfErr, is_some, refl, sym, ◌∙◌, ap, subst, arith, inl, inr, Contains, eqb}
 use Rattle.std.specs.FinMap.{get}
 use Rattle.std.proofs.lemmas.Bool.{false≢true, cases_eq, cond-true, cond-false, eq-eqb, ne_eqb}
 use Rattle.byteorder.specs.Endian.{big_bytes}
 use Rattle.vm_base.specs.declared.faults.Fault.{Fault}
 use Rattle.vm_base.specs.Places.{page_of, page_count, cell_of, cells_of_range}
 use Rattle.vm_base.specs.FlatMemory.{FlatMemory, IsFlat}
-use Rattle.vm_base.specs.FlatStep.{with_bytes}
 use Rattle.vm_base.specs.FlatLaws.{AreFullPages, HasNumbersOf}
-use Rattle.vm_base.specs.MemoryState.{MemoryState, IsMemory, IsKept, IsIn, IsListed}
-use Rattle.vm_base.specs.MemoryCalls.{IsInRange, IsReady, Touches, TouchFails, after_store}
+use Rattle.vm_base.specs.MemoryState.{MemoryState, IsMemory, IsKept, IsIn}
+use Rattle.vm_base.specs.MemoryCalls.{IsReady, Touches, TouchFails, after_store}
 use Rattle.vm_base.proofs.FlatAreas.{cells-of_pages}
 use Rattle.vm_base.proofs.FlatLaws.{is_some-with_bytes, full_from_flat}
 use Rattle.vm_base.proofs.IsKeptOn.{IsKept-on}

@@ -16,7 +16,7 @@ use Rattle.store_meaning.proofs.Words.{number-of_bytes}
 use Rattle.store_meaning.proofs.HeapSteps.{KeepsPages}
 use Rattle.page_hash.specs.declared.arrays.Arrays.{Arrays}
 use Rattle.page_hash.specs.Relinking.{IsHeldBlock, AreHeldBlocks, LinksFrom, IsChainOf, Splits, turned_for, places_of}
-use Rattle.page_hash.specs.ArrayRelinking.{IsOldTable, IsBesideChains, RelinksPart, SplitsPart, word_of}
+use Rattle.page_hash.specs.ArrayRelinking.{IsOldTable, RelinksPart, SplitsPart, word_of}
 use Rattle.page_hash.proofs.MapEntries.{chain_part}
 use Rattle.page_hash.proofs.ChainTurns.{first_low}
 use Rattle.page_hash.proofs.Cleared.{part_at}

@@ -1,22 +1,19 @@
 -- Parts of an array that are linked anew, one behind another.
-use Rattle.std.proofs.Common.{◌≡◌, ℕ, zero, suc, ◌+◌, ◌-◌, ◌*◌, ◌/◌, ◌%◌, ◌^◌, ◌<◌, ◌≤◌, ◌⊎◌, List, [], ◌∷◌, ◌++◌, length, map, refl, sym, ◌∙◌, ap, subst, arith, inl, inr, Contains, append-nil}
-use Rattle.std.specs.Prelude.{slice_index, is_some, IsSome}
+use Rattle.std.proofs.Common.{◌≡◌, ℕ, ◌+◌, ◌-◌, ◌*◌, ◌<◌, ◌≤◌, ◌⊎◌, List, [], length, refl, sym, ◌∙◌, ap, subst, arith, inl, inr, Contains, append-nil}
 use Rattle.std.specs.List.{AllByRecursion}
 use Rattle.std.proofs.lemmas.Bool.{cases_lt}
-use Rattle.byteorder.specs.Endian.{big_bytes, big_number}
+use Rattle.byteorder.specs.Endian.{big_number}
 use Rattle.vm_base.specs.FlatMemory.{FlatMemory, bytes_at}
-use Rattle.vm_base.specs.FlatLaws.{AreApart, AreFullPages}
-use Rattle.vm_base.proofs.FlatLaws.{bytes_at-with_bytes_apart}
-use Rattle.store_meaning.specs.Layout.{array_a, array_b, array_pages, store_area, heap_at, word_at}
+use Rattle.vm_base.specs.FlatLaws.{AreApart}
+use Rattle.store_meaning.specs.Layout.{array_a, array_pages, store_area, heap_at, word_at}
 use Rattle.store_meaning.specs.HashLayout.{Entry, Table, chain_of, entries_of}
 use Rattle.store_meaning.proofs.Lists.{all_mono, map_all}
-use Rattle.store_meaning.proofs.Words.{word_at-stored, word_at-apart}
-use Rattle.store_meaning.proofs.HeapSteps.{KeepsPages, storing_full}
+use Rattle.store_meaning.proofs.HeapSteps.{KeepsPages}
 use Rattle.page_hash.specs.declared.arrays.Arrays.{Arrays}
-use Rattle.page_hash.specs.Relinking.{with_word, IsHeldBlock, AreHeldBlocks, LinksFrom, IsChainOf, KeepsBeside, Splits, is_of_bucket, turned_for, places_of}
+use Rattle.page_hash.specs.Relinking.{IsHeldBlock, AreHeldBlocks, LinksFrom, IsChainOf, is_of_bucket, turned_for, places_of}
 use Rattle.page_hash.specs.ArrayRelinking.{AreArrays, IsOldTable, IsBesideChains, RelinksPart}
 use Rattle.page_hash.proofs.MapEntries.{chain_part, chain_few}
-use Rattle.page_hash.proofs.ChainTurns.{turned, turned_is, turned_all, LinksFrom-kept, held_kept, both_hold, first_low}
+use Rattle.page_hash.proofs.ChainTurns.{turned_is, turned_all, LinksFrom-kept, held_kept, both_hold}
 use Rattle.page_hash.proofs.ChainsApart.{chain_apart, chain_beside, all_behind, IsBesideFirst, IsWithinEntry}
 
 -- where the arrays lie

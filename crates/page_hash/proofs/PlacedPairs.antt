@@ -1,13 +1,13 @@
 -- Which of the puts a search calls for, and whether a doubling is due then.
-use Rattle.std.proofs.Common.{◌≡◌, ℕ, suc, ◌+◌, ◌^◌, ◌<◌, ◌≤◌, ◌⊎◌, Bool, List, [], ◌∷◌, length, map, Option, Some, None, IsTrue, IsFalse, sym, ◌∙◌, ap, subst, arith, inl, inr, refl}
+use Rattle.std.proofs.Common.{◌≡◌, ℕ, suc, ◌+◌, ◌^◌, ◌<◌, ◌≤◌, ◌⊎◌, Bool, List, [], ◌∷◌, length, map, None, IsTrue, IsFalse, sym, ◌∙◌, ap, subst, arith, inl, inr, refl}
 use Rattle.std.specs.Option.{option_map}
-use Rattle.std.specs.FinMap.{get, insert, entries}
+use Rattle.std.specs.FinMap.{insert, entries}
 use Rattle.std.proofs.lemmas.List.{length-map}
 use Rattle.std.proofs.lemmas.List.Sorted.{IsPermutation-refl, length_permutation}
 use Rattle.vm_base.specs.FlatMemory.{FlatMemory}
 use Rattle.store_meaning.specs.Layout.{class_of}
-use Rattle.store_meaning.specs.HashLayout.{Entry, Store, Pairs, IsStore, pair_class, entry_pair, entries_of}
-use Rattle.store_meaning.specs.StoreSteps.{entry_for, put_in, IsCrowded}
+use Rattle.store_meaning.specs.HashLayout.{Entry, Store, Pairs, IsStore, entry_pair, entries_of}
+use Rattle.store_meaning.specs.StoreSteps.{entry_for, put_in}
 use Rattle.store_meaning.proofs.TableSteps.{others}
 use Rattle.page_hash.specs.declared.chain.Located.{Located}
 use Rattle.page_hash.specs.declared.search.Search.{Search}

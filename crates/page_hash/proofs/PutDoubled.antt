@@ -1,5 +1,5 @@
 -- What a put leaves behind its doubling: made, refused, or not due.
-use Rattle.std.proofs.Common.{◌≡◌, ℕ, ◌*◌, ◌≤◌, Bool, true, false, List, [], ◌∷◌, ◌++◌, length, eqb, cond, Option, Some, None, IsSome, IsTrue, IsFalse, refl, sym, ◌∙◌, ap, subst, arith, inl, inr, min}
+use Rattle.std.proofs.Common.{◌≡◌, ℕ, ◌*◌, ◌≤◌, Bool, true, false, List, [], ◌∷◌, ◌++◌, length, eqb, cond, Option, Some, None, IsSome, IsTrue, IsFalse, refl, sym, ◌∙◌, subst, arith, inl, inr, min}
 use Rattle.std.specs.Prelude.{IsNone}
 use Rattle.std.specs.FinMap.{get, insert}
 use Rattle.vm_base.specs.Counts.{Rose}
@@ -12,8 +12,8 @@ use Rattle.store_meaning.specs.StoreSteps.{entry_for, put_by, put_in, with_value
 use Rattle.store_meaning.specs.Reach.{Place, At}
 use Rattle.store_meaning.specs.Standing.{Follows, IsStanding, StaysStanding}
 use Rattle.store_meaning.proofs.Reaching.{Stands-once}
-use Rattle.page_hash.specs.Puts.{AddsOnly, Places}
-use Rattle.page_hash.specs.Putting.{Puts, MeetsPut, WantsArray}
+use Rattle.page_hash.specs.Puts.{Places}
+use Rattle.page_hash.specs.Putting.{Puts, MeetsPut}
 use Rattle.page_hash.specs.Doubling.{DoublesArray, LeavesSingle}
 use Rattle.page_hash.proofs.Cleared.{may_kept}
 use Rattle.page_hash.proofs.PutAnswers.{by_chains}

@@ -1,33 +1,33 @@
 -- What taking a block out of its chain stores, and that the memory has the store without it then.
 use Rattle.std.proofs.Common.{◌≡◌, ℕ, ◌+◌, ◌-◌, ◌*◌, ◌^◌, ◌<◌, ◌≤◌, List, [], ◌∷◌, ◌++◌, length, map, get_or, Option, Some, None, is_some, IsSome, refl, sym, ◌∙◌, ap, subst, arith, inl, inr, IsPermutation, Contains, replicate}
-use Rattle.std.specs.Prelude.{IsNone, unwrap_or}
+use Rattle.std.specs.Prelude.{unwrap_or}
 use Rattle.std.specs.Str.{bytes_eq}
 use Rattle.std.specs.List.{AllByRecursion, flat_map}
 use Rattle.std.specs.FinMap.{get, remove}
 use Rattle.std.proofs.lemmas.Bool.{cases_Bool, cond-true, cond-false, false≢true}
 use Rattle.std.proofs.lemmas.List.Elements.{recursion_from_All, All-contains_itself}
-use Rattle.std.proofs.lemmas.List.Sorted.{IsPermutation-sym, IsPermutation-trans, IsPermutation-map, Contains-permutation}
+use Rattle.std.proofs.lemmas.List.Sorted.{IsPermutation-trans, IsPermutation-map}
 use Rattle.std.proofs.lemmas.Slice.Eq.{bytes_eq-Decides}
 use Rattle.byteorder.specs.Endian.{big_number, big_bytes}
-use Rattle.vm_base.specs.FlatMemory.{PageMap, FlatMemory, bytes_at}
+use Rattle.vm_base.specs.FlatMemory.{FlatMemory, bytes_at}
 use Rattle.vm_base.specs.FlatLaws.{AreApart, AreFullPages}
 use Rattle.vm_base.specs.MemoryState.{MemoryState, IsMemory}
-use Rattle.vm_base.specs.MemoryCalls.{IsReady, IsInRange}
-use Rattle.vm_base.proofs.FlatLaws.{bytes_at-with_bytes_apart, bytes_at-none, is_some-with_bytes, full_from_ready}
+use Rattle.vm_base.specs.MemoryCalls.{IsReady}
+use Rattle.vm_base.proofs.FlatLaws.{bytes_at-with_bytes_apart, bytes_at-none, full_from_ready}
 use Rattle.store_meaning.specs.Layout.{header_at, pairs_field, list_field, heap_at, heap_end, array_a, classes, class_of, word_at}
 use Rattle.store_meaning.specs.HeapLayout.{Block, Heap, IsHeap, blocks_of, Links, ArePresent, HalfIsPresent, block_bytes, free_of, freed}
-use Rattle.store_meaning.specs.HashLayout.{Entry, Store, Pairs, Holds, IsStore, pair_size, pair_class, entry_block, chain_of, entries_of}
+use Rattle.store_meaning.specs.HashLayout.{Entry, Store, Pairs, Holds, IsStore, pair_class, entry_block, chain_of, entries_of}
 use Rattle.store_meaning.specs.StoreSteps.{bucket_of, entry_in, entry_for, removed_by, removed_from}
-use Rattle.store_meaning.specs.Owned.{Range, word_range}
+use Rattle.store_meaning.specs.Owned.{word_range}
 use Rattle.store_meaning.proofs.Lists.{all_mono, all_left, all_right, all_map, map_all, all_permuted, class_within}
 use Rattle.store_meaning.proofs.Words.{storing, word_at-stored, word_at-apart}
 use Rattle.store_meaning.proofs.Blocks.{LiesIn}
-use Rattle.store_meaning.proofs.HeapSteps.{KeepsPages, blocks_within, class_bytes, first_small, storing_keeps, storing_full}
+use Rattle.store_meaning.proofs.HeapSteps.{blocks_within, class_bytes, first_small, storing_keeps, storing_full}
 use Rattle.store_meaning.proofs.GivingBack.{giving, gives_back}
 use Rattle.store_meaning.proofs.OwnedApart.{array_between}
 use Rattle.store_meaning.proofs.StoreKept.{both_hold}
 use Rattle.store_meaning.proofs.TableSteps.{Spot, chains_with, others, entries_at, entries_above, link_at, link_of, link_among, AreSameBeside, addresses}
-use Rattle.store_meaning.proofs.HeapBeside.{IsBesideHeap, heap_beside, in_use_beside, link_off_middle, place_low, used_in_store}
+use Rattle.store_meaning.proofs.HeapBeside.{IsBesideHeap, heap_beside, in_use_beside, link_off_middle, place_low}
 use Rattle.page_heap.specs.HeapCalls.{IsInUse}
 use Rattle.page_heap.proofs.Flat.{ready_field}
 use Rattle.page_heap.proofs.Plans.{use_within, half_class}
@@ -37,7 +37,7 @@ use Rattle.page_hash.specs.declared.chain.Located.{Located}
 use Rattle.page_hash.specs.Touching.{IsOfStore}
 use Rattle.page_hash.proofs.StoreReads.{array_region}
 use Rattle.page_hash.proofs.StoreRanges.{header_range, heap_range, bucket_range}
-use Rattle.page_hash.proofs.StoreChanges.{Lack, IsSpot, find_spot, class_of-entry, named_by, count_beside, read_here, removes}
+use Rattle.page_hash.proofs.StoreChanges.{Lack, IsSpot, find_spot, class_of-entry, count_beside, read_here, removes}
 
 -- ---- the block of a key
 

@@ -25,7 +25,7 @@ const MOST_BUCKETS: u64 = 16_777_216;
 /// It is refused where a page of the pair's block or of the key's bucket is absent and no frame is
 /// to be had, and tells the memory's count of refused frames; the map is then as it was.
 ///
-/// Where there are more pairs than buckets afterwards, the array is doubled. A frame that is refused
+/// Where there are more pairs than buckets afterwards, the array is doubled. A frame refused
 /// for that is no refusal of the put.
 pub fn put<M: Memory>(m: &mut M, key: &[u8], value: &[u8]) -> Result<(), Refused>
     requires stands { IsStanding (M.state m.old) }

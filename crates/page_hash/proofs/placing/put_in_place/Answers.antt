@@ -1,11 +1,7 @@
-use Rattle.std.proofs.Common.{arith, [], sym, subst}
+use Rattle.std.proofs.Common.{sym, subst}
 use Rattle.page_hash.proofs.Touched.{kept_cells}
 use Rattle.page_hash.specs.Puts.{Places}
 use Rattle.page_hash.proofs.PlacedInPlace.{range_in_place, placed_in_place, failed_in_place}
-use Rattle.page_hash.proofs.NewParts.{holds_pair}
-use Rattle.page_hash.proofs.NewSteps.{new_makes}
-use Rattle.page_hash.proofs.PlacedNew.{alike_new}
-use Rattle.page_hash.proofs.MovedSteps.{moved_makes}
 use Rattle.page_hash.proofs.placing.put_in_place.Goals as goal
 
 pub touch_range-requires-clause-range : goal.touch_range-requires-clause-range

@@ -1,6 +1,6 @@
-use Rattle.std.proofs.Common.{◌≡◌, ◌+◌, ◌<◌, ◌≤◌, length, sym, ◌∙◌, subst, arith}
-use Rattle.vm_base.specs.MemoryState.{MemoryState, IsMemory, IsKept}
-use Rattle.store_meaning.specs.Layout.{class_of, store_cells}
+use Rattle.std.proofs.Common.{◌+◌, length, sym, subst, arith}
+use Rattle.vm_base.specs.MemoryState.{IsMemory, IsKept}
+use Rattle.store_meaning.specs.Layout.{store_cells}
 use Rattle.store_meaning.specs.HashLayout.{pair_size}
 use Rattle.page_hash.specs.Touching.{IsOfStore, MakesPresent, LacksStorePage}
 use Rattle.page_hash.specs.Puts.{Places}

@@ -1,8 +1,7 @@
-use Rattle.std.proofs.Common.{◌≡◌, ◌+◌, ◌<◌, ◌≤◌, length, sym, ◌∙◌, subst, arith}
-use Rattle.vm_base.specs.MemoryState.{MemoryState, IsMemory, IsKept}
+use Rattle.std.proofs.Common.{◌+◌, length, sym, subst, arith}
+use Rattle.vm_base.specs.MemoryState.{IsMemory, IsKept}
 use Rattle.store_meaning.specs.Layout.{header_at, store_cells}
 use Rattle.store_meaning.specs.HashLayout.{pair_size}
-use Rattle.store_meaning.specs.Standing.{MayHoldStore}
 use Rattle.page_hash.specs.Touching.{IsOfStore, MakesPresent, LacksStorePage}
 use Rattle.page_hash.specs.Puts.{Places}
 use Rattle.page_hash.proofs.PutRanges.{header_range}

@@ -1,13 +1,11 @@
-use Rattle.std.proofs.Common.{◌≡◌, ◌+◌, ◌-◌, ◌^◌, [], sym, ◌∙◌, ap, subst, arith}
+use Rattle.std.proofs.Common.{◌≡◌, sym, ◌∙◌, ap, subst}
 use Rattle.byteorder.specs.Endian.{big_bytes}
-use Rattle.vm_base.specs.MemoryState.{IsKept}
 use Rattle.vm_base.specs.MemoryCalls.{after_store}
 use Rattle.store_meaning.specs.Layout.{header_at, word_at}
 use Rattle.store_meaning.specs.HashLayout.{pair_size}
-use Rattle.page_heap.specs.HeapCalls.{IsPlanned, IsInUse, commit_store, free_store}
+use Rattle.page_heap.specs.HeapCalls.{IsInUse, free_store}
 use Rattle.page_hash.specs.PairStores.{pair_bytes}
 use Rattle.page_hash.specs.Puts.{linked_stored}
-use Rattle.vm_base.specs.MemoryCalls.{IsReady}
 use Rattle.page_hash.proofs.NewParts.{commit_ready, ready_same}
 use Rattle.page_hash.proofs.Touched.{kept_none}
 use Rattle.page_hash.proofs.placing.store_moved.Goals as goal

@@ -1,4 +1,4 @@
-use Rattle.std.proofs.Common.{◌≡◌, sym, ◌∙◌, subst, arith}
+use Rattle.std.proofs.Common.{sym, ◌∙◌, subst, arith}
 use Rattle.store_meaning.specs.Layout.{header_at}
 use Rattle.store_meaning.specs.HeapLayout.{ArePresent}
 use Rattle.page_hash.specs.Touching.{IsOfStore}

@@ -1,5 +1,5 @@
-use Rattle.std.proofs.Common.{◌≡◌, ℕ, ◌+◌, ◌≤◌, length, sym, ◌∙◌, subst, arith}
-use Rattle.store_meaning.specs.HashLayout.{Store, Pairs, IsStore}
+use Rattle.std.proofs.Common.{◌+◌, sym, ◌∙◌, subst, arith}
+use Rattle.store_meaning.specs.HashLayout.{IsStore}
 use Rattle.store_meaning.specs.StoreSteps.{put_in}
 use Rattle.page_hash.specs.Puts.{LacksKey}
 use Rattle.page_hash.proofs.Removals.{searched_some}

@@ -1,6 +1,5 @@
-use Rattle.std.proofs.Common.{[], ◌∷◌, subst}
+use Rattle.std.proofs.Common.{[], ◌∷◌}
 use Rattle.std.specs.FinMap.{insert}
-use Rattle.store_meaning.specs.HashLayout.{Store, Pairs, IsStore}
 use Rattle.store_meaning.specs.StoreSteps.{put_in}
 use Rattle.store_meaning.specs.Reach.{At}
 use Rattle.page_hash.proofs.Touched.{kept_both}

@@ -1,4 +1,4 @@
-use Rattle.std.proofs.Common.{◌≡◌, ◌+◌, ◌≤◌, length, sym, ◌∙◌, arith}
+use Rattle.std.proofs.Common.{sym, ◌∙◌, arith}
 use Rattle.page_hash.proofs.PlacedPairs.{found_in_place, length_named}
 use Rattle.page_hash.proofs.putting.put_found.Goals as goal
 

@@ -1,4 +1,4 @@
-use Rattle.std.proofs.Common.{◌≡◌, ◌+◌, ◌*◌, ◌/◌, ◌<◌, ◌≤◌, ◌∙◌, ap, sym, subst, arith}
+use Rattle.std.proofs.Common.{◌≡◌, ◌+◌, ◌*◌, ◌∙◌, subst, arith}
 use Rattle.store_meaning.proofs.HeapSteps.{KeepsPages}
 use Rattle.page_hash.specs.ArrayRelinking.{RelinksPart}
 use Rattle.page_hash.proofs.BlockLinks.{keeps_on, may_on, ready_on}

@@ -1,4 +1,4 @@
-use Rattle.std.proofs.Common.{◌≡◌, ℕ, ◌+◌, ◌*◌, ◌≤◌, ◌∙◌, length, ap, sym, subst, arith}
+use Rattle.std.proofs.Common.{◌≡◌, ℕ, ◌+◌, ◌*◌, ◌∙◌, length, ap, sym, subst, arith}
 use Rattle.vm_base.specs.FlatMemory.{bytes_at}
 use Rattle.vm_base.specs.MemoryState.{MemoryState}
 use Rattle.vm_base.specs.MemoryCalls.{IsReady}

@@ -1,9 +1,9 @@
 use Rattle.std.proofs.Common.{◌≡◌, ◌+◌, ◌*◌, ◌<◌, ◌≤◌, ◌∙◌, length, ap, sym, subst, arith}
 use Rattle.std.specs.Prelude.{slice_index}
-use Rattle.store_meaning.specs.HashLayout.{Table, chain_of}
+use Rattle.store_meaning.specs.HashLayout.{chain_of}
 use Rattle.store_meaning.proofs.HeapSteps.{KeepsPages}
 use Rattle.page_hash.specs.Relinking.{IsChainOf}
-use Rattle.page_hash.specs.ArrayRelinking.{IsOldTable, SplitsPart}
+use Rattle.page_hash.specs.ArrayRelinking.{SplitsPart}
 use Rattle.page_hash.proofs.BlockLinks.{keeps_on, may_on}
 use Rattle.page_hash.proofs.PageRelinks.{split_chain, splits_more, word_set, word_length}
 use Rattle.page_hash.proofs.relinking_all.split_page.Goals as goal

@@ -6,7 +6,7 @@ use Rattle.vm_base.proofs.IsKeptOn.{IsKept-on}
 use Rattle.store_meaning.specs.Layout.{header_at, pairs_field, word_at}
 use Rattle.page_heap.specs.HeapCalls.{IsInUse, free_store}
 use Rattle.page_heap.proofs.Flat.{ready_field}
-use Rattle.page_hash.specs.Removing.{IsNamedBlock, unlinked}
+use Rattle.page_hash.specs.Removing.{IsNamedBlock}
 use Rattle.page_hash.specs.declared.chain.Located.{Located}
 use Rattle.page_hash.proofs.Unlinking.{IsSound, sound_named, next_named, still_used}
 use Rattle.store_meaning.specs.Standing.{IsStanding}
