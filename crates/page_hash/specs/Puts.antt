@@ -14,7 +14,6 @@ use Rattle.store_meaning.specs.Reach.{At}
 use Rattle.store_meaning.specs.Standing.{Follows}
 use Rattle.page_heap.specs.declared.planned.Plan.{Plan}
 use Rattle.page_heap.specs.HeapCalls.{commit_store, free_store}
-use Rattle.page_hash.specs.HashCalls.{IsOfArea}
 use Rattle.page_hash.specs.Touching.{IsOfStore}
 use Rattle.page_hash.specs.PairStores.{pair_bytes}
 use Rattle.page_hash.specs.Walks.{bucket_at, located_in, IsSearch}
@@ -148,10 +147,9 @@ abbrev pub moved_stored : MemoryState → Plan → Located → ℕ → List ℕ 
 moved_stored state plan located class key value =
     free_store (linked_stored state plan located key value) located.at class
 
--- what a pair in another block stores to may be stored to
+-- what a pair in another block stores to may be stored to, and the old one's next block is told
 pub record IsReadyForMove (state : MemoryState) (plan : Plan) (located : Located) (size : ℕ)
     : Type 0 where
   pub new : IsReadyForNew state plan located.link size
   pub block : IsReady state located.at 8
-  pub part : IsOfArea state.mem located.at 8
-  pub low : located.at + 8 ≤ 2 ^ 48
+  pub next : located.next ≡ word_at state.mem located.at

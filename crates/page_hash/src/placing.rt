@@ -12,7 +12,7 @@ use crate::layout::{HEAD, PAIRS_FIELD};
 use crate::pair_stores::{store_pair, store_value};
 use crate::search::Search;
 use crate::touching::{touch_present, touch_range};
-use crate::words::{read_word, store_word};
+use crate::words::store_word;
 use page_heap::{Plan, class_for, commit, free, plan};
 use vm_base::{Memory, Refused};
 
@@ -163,9 +163,8 @@ fn store_moved<M: Memory>(
     ensures aside { M.aside m.new ≡ M.aside m.old }
     ensures went { M.went m.old m.new }
 {
-    let next = read_word(m, located.at);
     commit(m, plan);
-    store_pair(m, plan.addr, next, key, value);
+    store_pair(m, plan.addr, located.next, key, value);
     store_word(m, located.link, plan.addr);
     free(m, located.at, class);
 }
