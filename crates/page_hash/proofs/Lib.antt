@@ -10,6 +10,9 @@ pub mod Filled
 pub mod FrontReads
 pub mod Fronts
 pub mod FrozenReads
+pub mod ListedChains
+pub mod ListedParts
+pub mod ListedStore
 pub mod Pieces
 pub mod WalkLemmas
 pub mod Touched
