@@ -13,6 +13,7 @@ pub mod FrozenReads
 pub mod ListedChains
 pub mod ListedParts
 pub mod ListedStore
+pub mod SortedPairs
 pub mod Pieces
 pub mod WalkLemmas
 pub mod Touched

@@ -121,6 +121,11 @@ array_page memory store of array buckets most page is first many all inside =
       };
     }
 
+-- where the page begins
+pub array_here : (memory : FlatMemory) (store : Store) (of : Pairs) (array page : ℕ) → IsStore memory store of
+    → array ≡ word_at memory array_field → array + 4096 * page ≡ store.table.array + 8 * (512 * page)
+array_here memory store of array page is first = omega (arith, first, is.table.array)
+
 -- how many buckets the pages so far have
 pub pages_fit : (memory : FlatMemory) (store : Store) (of : Pairs) (buckets page : ℕ) → IsStore memory store of
     → buckets ≡ word_at memory buckets_field → page < buckets / 512 → 512 * page + 512 ≤ length store.table.chains
