@@ -1,5 +1,5 @@
 -- What was gathered from a store may be listed.
-use Rattle.std.proofs.Common.{◌≡◌, ◌*◌, ◌≤◌, List, length, map, sym, ◌∙◌, ap, subst, arith, IsPermutation}
+use Rattle.std.proofs.Common.{◌≡◌, ◌≤◌, List, length, map, sym, ◌∙◌, ap, subst, arith, IsPermutation}
 use Rattle.std.specs.List.{AllByRecursion}
 use Rattle.std.specs.FinMap.{entries}
 use Rattle.std.proofs.lemmas.List.{length-map}

@@ -1,6 +1,5 @@
-use Rattle.std.proofs.Common.{◌≡◌, ◌∙◌, length, rules, sym, ap, subst, arith, IsPermutation}
+use Rattle.std.proofs.Common.{◌≡◌, ◌∙◌, length, rules, sym, subst, arith, IsPermutation}
 use Rattle.std.specs.List.Sorted.{IsSortedBy}
-use Rattle.std.specs.Ordering.{is_lt}
 use Rattle.std.proofs.lemmas.List.Sorted.{answers_always}
 use Rattle.page_hash.proofs.SortedPairs.{before, before_orders, MayPush, sorted_pairs, may_push, pushed, all_pushed}
 use Rattle.page_hash.proofs.listing.in_order.Goals as goal

@@ -1,4 +1,4 @@
-use Rattle.std.proofs.Common.{◌≡◌, List, map, IsPermutation}
+use Rattle.std.proofs.Common.{◌≡◌, map, IsPermutation}
 use Rattle.std.specs.FinMap.{entries}
 use Rattle.store_meaning.specs.HashLayout.{Pairs, StandsForMap}
 use Rattle.page_hash.specs.Chains.{pair_seen}
