@@ -14,6 +14,7 @@ pub mod ListedChains
 pub mod ListedParts
 pub mod ListedStore
 pub mod SortedPairs
+pub mod ListedPairs
 pub mod Pieces
 pub mod WalkLemmas
 pub mod Touched

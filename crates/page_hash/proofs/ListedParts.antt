@@ -131,7 +131,7 @@ part_stops old new at chains k n before after fault is few stops =
     let told = stops next
     (record { many = length-take-le n is.rest room; linked = linked_take old.mem n (at + 8 * k) is.rest is.linked }) in
     let whole : part_cells at chains
-        ≡ part_cells at is.done ++ (part_cells (at + 8 * k) next ++ part_cells (at + 8 * k + 8 * length next) rest) =
+    ≡ part_cells at is.done ++ (part_cells (at + 8 * k) next ++ part_cells (at + 8 * k + 8 * length next) rest) =
     ap (part_cells at) (is.parts ∙ ap (λ l. is.done ++ l) (sym (take-append-drop n is.rest)))
     ∙ part_cells-append at is.done (next ++ rest)
     ∙ ap (λ m. part_cells at is.done ++ part_cells (at + 8 * m) (next ++ rest)) is.many

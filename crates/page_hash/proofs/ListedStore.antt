@@ -1,5 +1,5 @@
 -- The pairs of a store of a snapshot, bucket by bucket.
-use Rattle.std.proofs.Common.{◌≡◌, ℕ, zero, suc, ◌+◌, ◌-◌, ◌*◌, ◌/◌, ◌%◌, ◌^◌, ◌<◌, ◌≤◌, List, [], ◌∷◌, ◌++◌, length, take, drop, get_or, map, refl, sym, ◌∙◌, ap, ap₂, subst, append_assoc, append-nil, arith, inl, inr, length-append, Contains}
+use Rattle.std.proofs.Common.{◌≡◌, ℕ, suc, ◌+◌, ◌-◌, ◌*◌, ◌/◌, ◌%◌, ◌^◌, ◌<◌, ◌≤◌, List, [], ◌∷◌, ◌++◌, length, take, drop, get_or, refl, sym, ◌∙◌, ap, ap₂, subst, append_assoc, append-nil, arith, inl, inr, length-append, Contains}
 use Rattle.std.specs.List.{flat_map, AllByRecursion, range_with_len}
 use Rattle.std.proofs.Math.Seq.{get_or-append_seam, take-length}
 use Rattle.std.proofs.lemmas.List.{length-take-le, length-drop, take-append-drop}
@@ -9,7 +9,7 @@ use Rattle.vm_base.specs.FlatMemory.{FlatMemory, bytes_at}
 use Rattle.vm_base.specs.SnapshotState.{SnapshotState, GoesOn}
 use Rattle.vm_base.proofs.FlatBytes.{length-bytes_at}
 use Rattle.store_meaning.specs.Layout.{array_field, buckets_field, pairs_field, array_pages, store_area, word_at}
-use Rattle.store_meaning.specs.HashLayout.{Entry, Table, Store, Pairs, IsStore, chain_of, entries_of}
+use Rattle.store_meaning.specs.HashLayout.{Entry, Table, Store, Pairs, IsStore, chain_of}
 use Rattle.store_meaning.specs.StoreSteps.{entry_cells, bucket_cells, needed_cells}
 use Rattle.store_meaning.proofs.Lists.{all_left, all_right}
 use Rattle.page_hash.specs.declared.found.PairsFault.{PairsFault}

@@ -11,16 +11,16 @@ use Rattle.std.specs.Cmp.{IsStrictWeakOrder}
 use Rattle.std.specs.Cmp.Lexicographic.{nat_list_cmp_total}
 use Rattle.std.specs.FinMap.{is_sorted, entries, entries_sorted}
 use Rattle.std.specs.FinMap.Entries.{below_all}
-use Rattle.std.proofs.Math.Seq.{take-suc}
+use Rattle.std.proofs.Math.Seq.{take-suc, take-length}
 use Rattle.std.proofs.lemmas.Bool.{and_parts, false≢true}
-use Rattle.std.proofs.lemmas.List.{take-map, length-map, get_or-map, map-append}
-use Rattle.std.proofs.lemmas.List.Elements.{recursion_from_All}
+use Rattle.std.proofs.lemmas.List.{take-map, length-map, length-take-le, get_or-map, map-append}
+use Rattle.std.proofs.lemmas.List.Elements.{recursion_from_All, All-from_recursion}
 use Rattle.std.proofs.lemmas.List.Sorted.{IsPermutation-sym, IsPermutation-map, IsPermutation-trans, length_permutation, ranks_by, sorted_far}
 use Rattle.std.proofs.lemmas.Slice.Eq.{bytes_eq-Decides}
 use Rattle.store_meaning.specs.HashLayout.{Pairs}
 use Rattle.store_meaning.proofs.Lists.{map_all, all_permuted}
 use Rattle.store_meaning.proofs.Cancelling.{cancelled}
-use Rattle.image_text.specs.Image.{IsBehind}
+use Rattle.image_text.specs.Image.{IsBehind, FitsImage}
 use Rattle.page_hash.specs.declared.gathering.Pair.{Pair}
 use Rattle.page_hash.specs.Chains.{pair_seen}
 use Rattle.page_hash.proofs.MapEntries.{key_cmp, true_from}
@@ -67,7 +67,10 @@ front_least pair pairs sorted =
     sorted_far before before_orders (pair ∷ pairs) sorted 0 k d (omega arith) inside))
 
 tail_sorted : (pair : Pair) (pairs : List Pair) → IsSortedBy before (pair ∷ pairs) → IsSortedBy before pairs
-tail_sorted pair pairs sorted = λ k d low inside. sorted (suc k) d (omega arith) (omega (arith, inside))
+tail_sorted pair pairs sorted = λ k d low inside.
+    let next : suc k + 1 ≡ suc (k + 1) = omega arith in
+    subst (λ j. before (get_or (pair ∷ pairs) j d) (get_or pairs k d) ≡ false) next
+    (sorted (suc k) d (omega arith) (omega (arith, inside)))
 
 -- a sorted list of the entries of a map is that of the map
 sorted_same : (pairs : List Pair) (es : List (List ℕ × List ℕ)) → IsPermutation (map pair_seen pairs) es → IsSortedBy before pairs
@@ -126,12 +129,48 @@ next_behind pairs of i d is inside =
     (subst (λ e. IsBehind (take i (map pair_seen pairs)) e.0) (get_or-map pair_seen pairs i d (pair_seen d) inside)
     (behind i (map pair_seen pairs) (pair_seen d)
     (subst (λ l. is_sorted key_cmp l ≡ true) (sym is) (true_from (is_sorted key_cmp (entries of)) (entries_sorted of)))
-    (omega (arith, inside, length-map pair_seen pairs))))
+    (omega (arith, inside, length-map pairs pair_seen))))
+
+-- what a push of the next pair needs
+pub record MayPush (list : List (List ℕ × List ℕ)) (pair : Pair) : Type 0 where
+  pub fewer : length list < 268435456
+  pub greater : IsBehind list pair.key.items
+  pub fits : FitsImage (pair_seen pair)
+
+pub may_push : (old new : List Pair) (of : Pairs) (list : List (List ℕ × List ℕ)) (i : ℕ) (pair : Pair) → IsPermutation old new
+    → IsSortedBy before new → IsPermutation (map pair_seen old) (entries of) → length old ≤ 268435456
+    → AllByRecursion FitsImage (map pair_seen old) → i < length new → pair ≡ get_or new i pair → list ≡ map pair_seen (take i new)
+    → MayPush list pair
+may_push old new of list i pair moved sorted is few fit inside here so_far =
+    let all = length_permutation old new moved in
+    let taken : length (take i new) ≡ i = length-take-le i new (omega (arith, inside)) in
+    let seen = IsPermutation-map pair_seen old new moved in
+    let each = All-from_recursion FitsImage (map pair_seen new) (all_permuted FitsImage (map pair_seen old) (map pair_seen new) seen fit) in
+    let within : i < length (map pair_seen new) = omega (arith, inside, length-map new pair_seen) in
+    let at : get_or (map pair_seen new) i (pair_seen pair) ≡ pair_seen pair =
+    get_or-map pair_seen new i pair (pair_seen pair) inside ∙ ap pair_seen (sym here) in
+    record {
+      fewer = omega (arith, ap length so_far, length-map (take i new) pair_seen, taken, inside, all, few);
+      greater = subst (λ l. IsBehind l pair.key.items) (sym so_far)
+          (subst (λ (p : Pair). IsBehind (map pair_seen (take i new)) p.key.items) (sym here)
+          (next_behind new of i pair (sorted_pairs old new of moved sorted is) inside));
+      fits = subst FitsImage at (each i (pair_seen pair) within);
+    }
 
 -- the pairs so far and the next one
-pub next_pushed : (pairs : List Pair) (i : ℕ) (d : Pair) → i < length pairs
-    → map pair_seen (take (i + 1) pairs) ≡ map pair_seen (take i pairs) ++ pair_seen (get_or pairs i d) ∷ []
-next_pushed pairs i d inside =
+pub pushed : (pairs : List Pair) (list new : List (List ℕ × List ℕ)) (key value : List ℕ) (i : ℕ) (pair : Pair)
+    → new ≡ list ++ (key, value) ∷ [] → list ≡ map pair_seen (take i pairs) → key ≡ pair.key.items → value ≡ pair.value.items
+    → pair ≡ get_or pairs i pair → i < length pairs → new ≡ map pair_seen (take (i + 1) pairs)
+pushed pairs list new key value i pair added so_far key_is value_is here inside =
     let next : i + 1 ≡ suc i = omega arith in
-    ap (λ n. map pair_seen (take n pairs)) next ∙ ap (map pair_seen) (take-suc pairs i d inside)
-    ∙ map-append pair_seen (take i pairs) (get_or pairs i d ∷ [])
+    added
+    ∙ ap₂ (λ l (p : List ℕ × List ℕ). l ++ p ∷ []) so_far
+    (ap₂ (λ (k v : List ℕ). (k, v)) key_is value_is ∙ ap pair_seen here)
+    ∙ sym (ap (λ n. map pair_seen (take n pairs)) next ∙ ap (map pair_seen) (take-suc pairs i pair inside)
+    ∙ map-append pair_seen (take i pairs) (get_or pairs i pair ∷ []))
+
+-- all of them
+pub all_pushed : (pairs : List Pair) (list : List (List ℕ × List ℕ)) (i : ℕ) → list ≡ map pair_seen (take i pairs) → i ≡ length pairs
+    → list ≡ map pair_seen pairs
+all_pushed pairs list i so_far all =
+    so_far ∙ ap (λ n. map pair_seen (take n pairs)) all ∙ ap (map pair_seen) (take-length pairs)

@@ -1,4 +1,4 @@
-use Rattle.std.proofs.Common.{◌≡◌, ◌≤◌, List}
+use Rattle.std.proofs.Common.{◌≡◌, List}
 use Rattle.vm_base.specs.SnapshotState.{KeepsSnapshot}
 use Rattle.store_meaning.specs.HashLayout.{Entry}
 use Rattle.page_hash.specs.Chains.{AreChainsOf}
