@@ -71,16 +71,18 @@ one_more old done entry before after pair read same kept = record {
       ∙ append_assoc (map pair_seen before) (map entry_pair done) (entry_pair entry ∷ [])
       ∙ ap (λ l. map pair_seen before ++ l) (sym (map-append entry_pair done (entry ∷ [])));
   kept = subst (AreNotLost old) (sym (flat_map-append entry_cells done (entry ∷ [])))
-      (both_kept old (flat_map entry_cells done) (entry_cells entry ++ []) read.kept (both_kept old (entry_cells entry) [] kept (none_kept old)));
+      (both_kept old (flat_map entry_cells done) (entry_cells entry ++ []) read.kept
+      (both_kept old (entry_cells entry) [] kept (none_kept old)));
 }
 
 -- the block at the address was read
-pub chain_next : (old mid : SnapshotState) (chain : List Entry) (at : ℕ) (before after : List Pair) (pair : Pair) (block : BlockRead)
-    → (at ≡ 0 → ⊥) → GoesOn old mid → IsChainSoFar old chain at before after
+pub chain_next : (old mid : SnapshotState) (chain : List Entry) (at : ℕ) (before after new : List Pair) (pair : Pair)
+    (block : BlockRead) → (at ≡ 0 → ⊥) → GoesOn old mid → IsChainSoFar old chain at before after
     → ((entry : Entry) → IsBlockOf mid.mem at entry → IsBlockRead mid entry block)
-    → pair_seen pair ≡ (block.key.items, block.value.items)
-    → IsChainSoFar old chain block.next before (after ++ pair ∷ [])
-chain_next old mid chain at before after pair block some goes is read same = by is.done is.rest is.parts is.linked is.read
+    → pair_seen pair ≡ (block.key.items, block.value.items) → new ≡ after ++ pair ∷ []
+    → IsChainSoFar old chain block.next before new
+chain_next old mid chain at before after new pair block some goes is read same added =
+    subst (IsChainSoFar old chain block.next before) (sym added) (by is.done is.rest is.parts is.linked is.read)
   where
     by : (done rest : List Entry) → chain ≡ done ++ rest → IsChainFrom old.mem at rest → IsChainRead old done before after
         → IsChainSoFar old chain block.next before (after ++ pair ∷ [])

@@ -64,8 +64,8 @@ part_cells-append at (chain ∷ one) two =
     ∙ sym (append_assoc here (part_cells (at + 8) one) (part_cells (at + 8 * suc (length one)) two))
 
 -- the pairs of two parts, one behind the other
-pub parts_on : (old : SnapshotState) (at : ℕ) (one two : List (List Entry)) (before mid after : List Pair) → IsPartRead old at one before mid
-    → IsPartRead old (at + 8 * length one) two mid after → IsPartRead old at (one ++ two) before after
+pub parts_on : (old : SnapshotState) (at : ℕ) (one two : List (List Entry)) (before mid after : List Pair)
+    → IsPartRead old at one before mid → IsPartRead old (at + 8 * length one) two mid after → IsPartRead old at (one ++ two) before after
 parts_on old at one two before mid after first second =
     let ones = map entry_pair (flat_map (λ chain. chain) one) in
     let twos = map entry_pair (flat_map (λ chain. chain) two) in record {

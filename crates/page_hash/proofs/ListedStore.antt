@@ -65,7 +65,8 @@ pub header_words : (memory : FlatMemory) (fields : List ℕ) → fields ≡ byte
     × (big_number 8 (take 8 (drop 16 fields)) ≡ word_at memory pairs_field)
 header_words memory fields read =
     let long : length fields ≡ 24 = ap length read ∙ length-bytes_at memory.present array_field 24 in
-    let whole : take 24 fields ≡ bytes_at memory.present array_field 24 = ap (λ n. take n fields) (sym long) ∙ take-length fields ∙ read in (
+    let whole : take 24 fields ≡ bytes_at memory.present array_field 24 =
+    ap (λ n. take n fields) (sym long) ∙ take-length fields ∙ read in (
       number_in memory.present array_field 24 0 8 fields (omega (arith, long)) whole (omega arith),
       word_in memory.present array_field 24 8 16 fields read (omega arith) (omega arith),
       word_in memory.present array_field 24 16 8 fields read (omega arith) (omega arith),

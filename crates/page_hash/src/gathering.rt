@@ -37,7 +37,8 @@ fn add_chain<Z: Frozen>(
     requires chain { Contains (Z.snapshot z.old).mem.areas heap_area
         × HasChain (Z.snapshot z.old).mem first most }
     requires sound { KeepsSnapshot (Z.snapshot z.old) (Z.snapshot z.old) }
-    ensures read { OnOk result ((chain : List Entry) → IsChainFrom (Z.snapshot z.old).mem first chain
+    ensures read { OnOk result ((chain : List Entry)
+        → IsChainFrom (Z.snapshot z.old).mem first chain
         → IsChainRead (Z.snapshot z.old) chain pairs.old.items pairs.new.items) }
     ensures lost { IfErr result (λ fault.
         (chain : List Entry) → IsChainFrom (Z.snapshot z.old).mem first chain

@@ -1,11 +1,11 @@
-use Rattle.std.proofs.Common.{◌≡◌, ◌∙◌, ◌-◌, ◌++◌, [], ◌∷◌, refl, sym, ap, subst}
+use Rattle.std.proofs.Common.{◌≡◌, ◌∙◌, ◌-◌, refl, sym, ap, subst}
 use Rattle.std.proofs.lemmas.Result.{err_from_is_err_and}
 use Rattle.store_meaning.specs.Layout.{word_at}
 use Rattle.page_hash.specs.declared.gathering.Pair.{Pair}
 use Rattle.page_hash.specs.Walks.{IsBlockOf, HasChain}
 use Rattle.page_hash.proofs.ChainSteps.{has_block}
 use Rattle.page_hash.proofs.SnapshotsKept.{keeps_on}
-use Rattle.page_hash.proofs.ListedChains.{IsChainSoFar, chain_next, chain_stops, chain_ends}
+use Rattle.page_hash.proofs.ListedChains.{chain_next, chain_stops, chain_ends}
 use Rattle.page_hash.proofs.gathering.add_chain.Goals as goal
 
 pub read_block-requires-clause-block : goal.read_block-requires-clause-block
@@ -40,9 +40,9 @@ loop-at-preserved g c =
       aside = c.read_block.ensures.aside ∙ c.loop-at.invariant.aside;
       went = g.met.Z.Frozen.went_on _ _ _ c.loop-at.invariant.went c.read_block.ensures.went;
       so_far = λ chain is.
-          subst (IsChainSoFar old chain c.in_ok-block.block.next c.args.pairs.now.items) {x = c.loop-at.pairs.items ++ pair ∷ []} (sym c.in_ok-push.ensures.items)
-          (chain_next old mid chain c.loop-at.at c.args.pairs.now.items c.loop-at.pairs.items pair c.in_ok-block.block c.loop-at-test.true
-          c.loop-at.invariant.keeps.goes_on (c.loop-at.invariant.so_far chain is) c.in_ok-block.ensures.read refl);
+          chain_next old mid chain c.loop-at.at c.args.pairs.now.items c.loop-at.pairs.items c.push.new.self.items pair
+          c.in_ok-block.block c.loop-at-test.true c.loop-at.invariant.keeps.goes_on (c.loop-at.invariant.so_far chain is)
+          c.in_ok-block.ensures.read refl c.in_ok-push.ensures.items;
       left = subst (λ a. HasChain old.mem a (c.loop-at.left - 1)) (sym next) block.1.2;
     }
 

@@ -29,7 +29,8 @@ add_chain-requires-clause-chain g c =
     let kept = sym c.loop-bucket.invariant.keeps.goes_on.mem in
     let word : c.read_u64-first.result ≡ word_at mem (c.args.page + 8 * c.loop-bucket.bucket) =
     c.read_u64-first.ensures
-    ∙ bucket_word mem c.args.page c.loop-bucket.bucket c.read_frozen.new.buf c.in_ok-read_frozen.ensures.read.is c.loop-bucket-test.true in (
+    ∙ bucket_word mem c.args.page c.loop-bucket.bucket c.read_frozen.new.buf c.in_ok-read_frozen.ensures.read.is
+    c.loop-bucket-test.true in (
       subst (λ memory. Contains memory.areas heap_area) kept c.requires.chains.0,
       subst (λ memory. HasChain memory c.read_u64-first.result c.args.most) kept
           (subst (λ w. HasChain mem w c.args.most) (sym word)
