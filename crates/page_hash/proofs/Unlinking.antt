@@ -245,7 +245,8 @@ next_named memory store of key located is named =
     let facts = entry_named memory store of key located is named in
     facts.next
     ∙ sym (first_named facts.entry.at facts.spot.back
-    (links_behind memory _ facts.spot.front facts.entry facts.spot.back (linked_at memory store of key facts.entry facts.spot is facts.place)))
+    (links_behind memory _ facts.spot.front facts.entry facts.spot.back
+        (linked_at memory store of key facts.entry facts.spot is facts.place)))
     ∙ ap (word_at memory) (sym facts.at)
   where
     first_named : (place : ℕ) (back : List Entry) → Links memory place (addresses back) → word_at memory place ≡ first_of back

@@ -49,7 +49,8 @@ abbrev pub first_of : List Entry → ℕ
 first_of [] = 0
 first_of (entry ∷ entries) = entry.at
 
--- the block of an entry in front of these: the addresses of the word that names it, of itself and of
+-- the block of an entry in front of these: the addresses of the word that names it, of itself and
+-- of
 -- the next one, and the length of its value
 abbrev pub located_at : ℕ → Entry → List Entry → Located
 located_at link entry entries = record {

@@ -28,7 +28,8 @@ pub store_pair-requires-clause-ready : goal.store_pair-requires-clause-ready
 store_pair-requires-clause-ready g c =
     ready_same (g.M.Memory.state c.args.m.now) (g.M.Memory.state c.commit.new.m) c.args.plan.now.addr
     (pair_size c.args.key.now c.args.value.now)
-    (ap (λ s. s.ready) c.commit.ensures.stored ∙ (commit_ready (g.M.Memory.state c.args.m.now) c.args.plan.now).0) c.requires.ready.new.block
+    (ap (λ s. s.ready) c.commit.ensures.stored
+        ∙ (commit_ready (g.M.Memory.state c.args.m.now) c.args.plan.now).0) c.requires.ready.new.block
 
 pub store_word-requires-clause-ready : goal.store_word-requires-clause-ready
 store_word-requires-clause-ready g c =
@@ -57,7 +58,8 @@ pub free-requires-clause-header : goal.free-requires-clause-header
 free-requires-clause-header g c =
     ready_same (g.M.Memory.state c.args.m.now) (g.M.Memory.state c.store_word.new.m) header_at 4096
     (ap (λ s. s.ready) c.store_word.ensures.stored ∙ ap (λ s. s.ready) c.store_pair.ensures.stored
-    ∙ ap (λ s. s.ready) c.commit.ensures.stored ∙ (commit_ready (g.M.Memory.state c.args.m.now) c.args.plan.now).0) c.requires.ready.new.header
+    ∙ ap (λ s. s.ready) c.commit.ensures.stored
+        ∙ (commit_ready (g.M.Memory.state c.args.m.now) c.args.plan.now).0) c.requires.ready.new.header
 
 pub free-requires-clause-block : goal.free-requires-clause-block
 free-requires-clause-block g c =
