@@ -53,8 +53,8 @@ returns-clause-stored c = λ sides st.
       snapshot = c.args.self.now.snapshot;
       spare = c.args.self.now.spare;
       spared =
-          c.self-1.given.0;
-      even = c.self-1.given.1.0;
+          c.self-2-1.given.0;
+      even = c.self-2-1.given.1.0;
       slots = with_item c.args.self.now.slots c.args.slot (record {
         owner =
             c.index_mut.result.now.owner;
@@ -121,6 +121,6 @@ returns-clause-writable c =
             c.index_mut.result.now.owner;
         cell = c.store.new.self;
       });
-      even = c.self-1.given.1.0;
+      even = c.self-2-1.given.1.0;
     }) refl (known-owner c.args.self.now stands)
     (bits-set c.args.self.now.slots.items c.args.slot c.index_mut.result.now (record { owner = c.index_mut.result.now.owner; cell = c.store.new.self }) here c.store.ensures.writable)

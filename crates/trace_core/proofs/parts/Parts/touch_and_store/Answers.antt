@@ -2,14 +2,12 @@ use Rattle.std.proofs.Common.{Ok, Err, refl, sym, subst}
 use Rattle.trace_core.specs.KernelStanding.{EventRan}
 use Rattle.std.proofs.Math.Logic.{∥∥₁_map}
 use Rattle.trace_core.proofs.events.Stores.{ran-stored, ran-unstored, lets-kept}
-use Rattle.trace_core.proofs.parts.Parts.write.Goals as goal
+use Rattle.trace_core.proofs.parts.Parts.touch_and_store.Goals as goal
 
--- src/writing.rt:122:17
 pub store-requires-clause-ready : goal.store-requires-clause-ready
 store-requires-clause-ready g c = ∥∥₁_map c.requires.stands (λ it.
     let leaves = c.in-Ok.ensures.ready it.0 it.1.0 it.1.1 in (it.0, (leaves.after, (leaves.stands, leaves.ready))))
 
--- src/writing.rt:112:5
 pub returns-in-Ok : goal.returns-in-Ok
 returns-in-Ok g c = record {
   ran = λ machine state st.
@@ -18,7 +16,6 @@ returns-in-Ok g c = record {
   writable = (Ok tt, (refl, lets-kept _ _ _ _ _ c.in-Ok.ensures.beside.0.1 c.store.ensures.writable));
 }
 
--- src/writing.rt:112:5
 pub returns-in-Err : goal.returns-in-Err
 returns-in-Err g c = record {
   ran = λ machine state st. subst (EventRan _ _ machine _) (sym c.refused_by.ensures)
