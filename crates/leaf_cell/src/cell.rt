@@ -172,7 +172,8 @@ impl Cell {
         ensures writable { result ≡ writable_at self.now.writable page }
 
         // Where no leaf is joined such a page is present, and the parent's alone.
-        ensures alone { AreUnjoined self.now.leaves.kept → result ≡ true → IsAlone self.now.leaves page }
+        ensures alone { AreUnjoined self.now.leaves.kept → result ≡ true
+            → IsAlone self.now.leaves page }
     {
         may_write_in(&self.parent, page)
     }

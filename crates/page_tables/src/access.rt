@@ -10,7 +10,7 @@ ghost use Rattle.leaf_cell.specs.States.{state_of};
 ghost use Rattle.page_tables.specs.Sides.{Sides};
 ghost use Rattle.page_tables.specs.Standing.{TablesStandFor, slot_in, slot_count};
 ghost use Rattle.page_tables.specs.Held.{frames_of, HoldAlike};
-ghost use Rattle.page_tables.specs.Permissions.{KeepsWriting, may_write};
+ghost use Rattle.page_tables.specs.Permissions.{KeepsWriting, KeepsAllButBytes, may_write};
 ghost use Rattle.page_tables.specs.Accesses.{IsPageReady, IsSnapshotRead, IsLowestLoss};
 
 use crate::loss::{LostCell, lowest_lost};
@@ -81,11 +81,7 @@ impl PageTables {
         requires room { offset_of addr + length bytes.now ≤ 4096 }
         requires stands { ∥ ((sides : Sides) × (TablesStandFor self.old sides × IsPageReady sides.leaves (page_of addr))) ∥₁ }
         ensures stored { (sides : Sides) → TablesStandFor self.old sides → TablesStandFor self.new (record sides { pages = with_bytes sides.pages addr bytes.now }) }
-        ensures held { frames_of self.new ≡ frames_of self.old }
-        ensures cells { HoldAlike self.old.slots.items self.new.slots.items }
-        ensures writable { KeepsWriting self.old self.new }
-        ensures snapshot { self.new.snapshot ≡ self.old.snapshot }
-        ensures slots { slot_count self.new ≡ slot_count self.old }
+        ensures kept { KeepsAllButBytes self.old self.new }
     {
         match self.directory.find(location_of(addr).cell) {
             Some(slot) => self.store_in_slot(slot, addr, bytes),
@@ -98,13 +94,12 @@ impl PageTables {
         requires inside { addr < 2 ^ 48 }
         requires room { offset_of addr + length bytes.now ≤ 4096 }
         requires known { get self.old.directory (cell_of (page_of addr)) ≡ Some slot }
-        requires stands { ∥ ((sides : Sides) × (TablesStandFor self.old sides × IsPageReady sides.leaves (page_of addr))) ∥₁ }
-        ensures stored { (sides : Sides) → TablesStandFor self.old sides → TablesStandFor self.new (record sides { pages = with_bytes sides.pages addr bytes.now }) }
-        ensures held { frames_of self.new ≡ frames_of self.old }
-        ensures cells { HoldAlike self.old.slots.items self.new.slots.items }
-        ensures writable { KeepsWriting self.old self.new }
-        ensures snapshot { self.new.snapshot ≡ self.old.snapshot }
-        ensures slots { slot_count self.new ≡ slot_count self.old }
+        requires stands { ∥ ((sides : Sides) × (TablesStandFor self.old sides
+            × IsPageReady sides.leaves (page_of addr))) ∥₁ }
+        ensures stored { (sides : Sides) → TablesStandFor self.old sides
+            → TablesStandFor self.new (record sides
+            { pages = with_bytes sides.pages addr bytes.now }) }
+        ensures kept { KeepsAllButBytes self.old self.new }
     {
         let location = location_of(addr);
         let cell = &mut self.slots[slot as usize].cell;
@@ -118,13 +113,13 @@ impl PageTables {
         requires room { offset_of addr + length bytes.now ≤ 4096 }
         requires stands { ∥ ((sides : Sides) × TablesStandFor self.old sides) ∥₁ }
         ensures ready { result ≡ may_write self.old (page_of addr) }
-        ensures alone { result ≡ true → (sides : Sides) → TablesStandFor self.old sides → IsPageReady sides.leaves (page_of addr) }
-        ensures stored { result ≡ true → (sides : Sides) → TablesStandFor self.old sides → TablesStandFor self.new (record sides { pages = with_bytes sides.pages addr bytes.now }) }
+        ensures alone { result ≡ true → (sides : Sides) → TablesStandFor self.old sides
+            → IsPageReady sides.leaves (page_of addr) }
+        ensures stored { result ≡ true → (sides : Sides) → TablesStandFor self.old sides
+            → TablesStandFor self.new (record sides
+            { pages = with_bytes sides.pages addr bytes.now }) }
         ensures unstored { result ≡ false → self.new ≡ self.old }
-        ensures held { frames_of self.new ≡ frames_of self.old }
-        ensures writable { KeepsWriting self.old self.new }
-        ensures snapshot { self.new.snapshot ≡ self.old.snapshot }
-        ensures slots { slot_count self.new ≡ slot_count self.old }
+        ensures kept { KeepsAllButBytes self.old self.new }
     {
         match self.ready_slot(addr / PAGE_BYTES) {
             Some(slot) => {
@@ -141,7 +136,8 @@ impl PageTables {
         requires stands { ∥ ((sides : Sides) × TablesStandFor self.now sides) ∥₁ }
         ensures known { IfSome result (λ slot. get self.now.directory (cell_of page) ≡ Some slot) }
         ensures ready { is_some result ≡ may_write self.now page }
-        ensures alone { is_some result ≡ true → (sides : Sides) → TablesStandFor self.now sides → IsPageReady sides.leaves page }
+        ensures alone { is_some result ≡ true → (sides : Sides) → TablesStandFor self.now sides
+            → IsPageReady sides.leaves page }
     {
         let (cell, index) = cell_and_index(page);
         match self.directory.find(cell) {

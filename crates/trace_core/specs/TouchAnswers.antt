@@ -35,7 +35,8 @@ AreasAllow areas first n = (outside areas first n ≡ None) × (unwritable areas
 -- they refuse it by this fault: for the lowest page that lies in no area, or else the lowest that may only be read
 abbrev pub AreasRefuse : List Area → ℕ → ℕ → Fault → Type 0
 AreasRefuse areas first n (fault.NoArea page) = outside areas first n ≡ Some page
-AreasRefuse areas first n (fault.NoWrite page) = (outside areas first n ≡ None) × (unwritable areas first n ≡ Some page)
+AreasRefuse areas first n (fault.NoWrite page) = (outside areas first n ≡ None)
+    × (unwritable areas first n ≡ Some page)
 AreasRefuse areas first n other = ⊥
 
 -- the lowest page so far that may only be read, where the next one has this permission

@@ -83,18 +83,29 @@ impl Parts {
         requires few { len ≤ MOST_BYTES }
         requires range { addr + len ≤ 2 ^ 48 }
         requires stands { ∥ IsKernel (⟦<Parts as Standing>⟧.parts self.old) ∥₁ }
-        requires allowed { AreasAllow (⟦<Parts as Standing>⟧.parts self.old).areas (page_of addr) (page_count addr len) }
-        ensures ran { (machine : Machine) (state : KernelState) → KernelStands (⟦<Parts as Standing>⟧.parts self.old) machine state
-            → EventRan (⟦<Parts as Standing>⟧.parts self.old) (⟦<Parts as Standing>⟧.parts self.new) machine
-            (λ answers. touch_judged machine state answers addr len (touch_of state.world.parent addr len)) (touch_outcome result) }
-        ensures ready { (machine : Machine) (state : KernelState) → KernelStands (⟦<Parts as Standing>⟧.parts self.old) machine state
-            → LeavesReady (⟦<Parts as Standing>⟧.parts self.new) machine state.leaves addr len result }
-        ensures page { IfErr result (λ fault. (machine : Machine) (state : KernelState) → KernelStands (⟦<Parts as Standing>⟧.parts self.old) machine state
+        requires allowed { AreasAllow (⟦<Parts as Standing>⟧.parts self.old).areas (page_of addr)
+            (page_count addr len) }
+        ensures ran { (machine : Machine) (state : KernelState)
+            → KernelStands (⟦<Parts as Standing>⟧.parts self.old) machine state
+            → EventRan (⟦<Parts as Standing>⟧.parts self.old) (⟦<Parts as Standing>⟧.parts self.new)
+                machine
+            (λ answers. touch_judged machine state answers addr len
+                (touch_of state.world.parent addr len)) (touch_outcome result) }
+        ensures ready { (machine : Machine) (state : KernelState)
+            → KernelStands (⟦<Parts as Standing>⟧.parts self.old) machine state
+            → LeavesReady (⟦<Parts as Standing>⟧.parts self.new) machine state.leaves addr len
+                result }
+        ensures page { IfErr result (λ fault. (machine : Machine) (state : KernelState)
+            → KernelStands (⟦<Parts as Standing>⟧.parts self.old) machine state
             → LacksPage state.world.parent addr len fault) }
-        ensures beside { (((⟦<Parts as Standing>⟧.parts self.new).areas ≡ (⟦<Parts as Standing>⟧.parts self.old).areas)
-            × WritesAfterTouch addr len result (⟦<Parts as Standing>⟧.parts self.old).tables (⟦<Parts as Standing>⟧.parts self.new).tables)
-            × ((⟦<Parts as Standing>⟧.parts self.new).snapshot ≡ (⟦<Parts as Standing>⟧.parts self.old).snapshot)
-            × ((⟦<Parts as Standing>⟧.parts self.new).last ≡ (⟦<Parts as Standing>⟧.parts self.old).last) }
+        ensures beside { (((⟦<Parts as Standing>⟧.parts
+            self.new).areas ≡ (⟦<Parts as Standing>⟧.parts self.old).areas)
+            × WritesAfterTouch addr len result (⟦<Parts as Standing>⟧.parts self.old).tables
+                (⟦<Parts as Standing>⟧.parts self.new).tables)
+            × ((⟦<Parts as Standing>⟧.parts self.new).snapshot ≡ (⟦<Parts as Standing>⟧.parts
+                self.old).snapshot)
+            × ((⟦<Parts as Standing>⟧.parts self.new).last ≡ (⟦<Parts as Standing>⟧.parts
+                self.old).last) }
     {
         let first = addr / PAGE_BYTES;
         let count = page_count(addr, len);
@@ -156,10 +167,15 @@ impl Parts {
         requires few { length bytes.now ≤ MOST_BYTES }
         requires range { addr + length bytes.now ≤ 2 ^ 48 }
         requires stands { ∥ IsKernel (⟦<Parts as Standing>⟧.parts self.old) ∥₁ }
-        requires allowed { AreasAllow (⟦<Parts as Standing>⟧.parts self.old).areas (page_of addr) (page_count addr (length bytes.now)) }
-        ensures ran { (machine : Machine) (state : KernelState) → KernelStands (⟦<Parts as Standing>⟧.parts self.old) machine state
-            → EventRan (⟦<Parts as Standing>⟧.parts self.old) (⟦<Parts as Standing>⟧.parts self.new) machine (λ answers. written machine state answers addr bytes.now) result }
-        ensures writable { WritesAfterWrite addr (length bytes.now) result (⟦<Parts as Standing>⟧.parts self.old).tables (⟦<Parts as Standing>⟧.parts self.new).tables }
+        requires allowed { AreasAllow (⟦<Parts as Standing>⟧.parts self.old).areas (page_of addr)
+            (page_count addr (length bytes.now)) }
+        ensures ran { (machine : Machine) (state : KernelState)
+            → KernelStands (⟦<Parts as Standing>⟧.parts self.old) machine state
+            → EventRan (⟦<Parts as Standing>⟧.parts self.old) (⟦<Parts as Standing>⟧.parts self.new)
+                machine (λ answers. written machine state answers addr bytes.now) result }
+        ensures writable { WritesAfterWrite addr (length bytes.now) result
+            (⟦<Parts as Standing>⟧.parts self.old).tables
+            (⟦<Parts as Standing>⟧.parts self.new).tables }
     {
         if self.store_ready(addr, bytes) {
             Outcome::Done
@@ -174,12 +190,18 @@ impl Parts {
         requires some { 0 < length bytes.now }
         requires range { addr + length bytes.now ≤ 2 ^ 48 }
         requires stands { ∥ IsKernel (⟦<Parts as Standing>⟧.parts self.old) ∥₁ }
-        requires allowed { AreasAllow (⟦<Parts as Standing>⟧.parts self.old).areas (page_of addr) (page_count addr (length bytes.now)) }
-        ensures ran { result ≡ true → (machine : Machine) (state : KernelState) → KernelStands (⟦<Parts as Standing>⟧.parts self.old) machine state
-            → EventRan (⟦<Parts as Standing>⟧.parts self.old) (⟦<Parts as Standing>⟧.parts self.new) machine (λ answers. written machine state answers addr bytes.now) Done }
+        requires allowed { AreasAllow (⟦<Parts as Standing>⟧.parts self.old).areas (page_of addr)
+            (page_count addr (length bytes.now)) }
+        ensures ran { result ≡ true → (machine : Machine) (state : KernelState)
+            → KernelStands (⟦<Parts as Standing>⟧.parts self.old) machine state
+            → EventRan (⟦<Parts as Standing>⟧.parts self.old) (⟦<Parts as Standing>⟧.parts self.new)
+                machine (λ answers. written machine state answers addr bytes.now) Done }
         ensures writable { result ≡ true
-            → WritesAfterWrite addr (length bytes.now) Done (⟦<Parts as Standing>⟧.parts self.old).tables (⟦<Parts as Standing>⟧.parts self.new).tables }
-        ensures kept { result ≡ false → ⟦<Parts as Standing>⟧.parts self.new ≡ ⟦<Parts as Standing>⟧.parts self.old }
+            → WritesAfterWrite addr (length bytes.now) Done
+                (⟦<Parts as Standing>⟧.parts self.old).tables
+                (⟦<Parts as Standing>⟧.parts self.new).tables }
+        ensures kept { result ≡ false → ⟦<Parts as Standing>⟧.parts self.new ≡ ⟦<Parts as
+            Standing>⟧.parts self.old }
     {
         if bytes.len() as u64 > PAGE_BYTES - addr % PAGE_BYTES {
             return false;
@@ -193,10 +215,15 @@ impl Parts {
         requires few { length bytes.now ≤ MOST_BYTES }
         requires range { addr + length bytes.now ≤ 2 ^ 48 }
         requires stands { ∥ IsKernel (⟦<Parts as Standing>⟧.parts self.old) ∥₁ }
-        requires allowed { AreasAllow (⟦<Parts as Standing>⟧.parts self.old).areas (page_of addr) (page_count addr (length bytes.now)) }
-        ensures ran { (machine : Machine) (state : KernelState) → KernelStands (⟦<Parts as Standing>⟧.parts self.old) machine state
-            → EventRan (⟦<Parts as Standing>⟧.parts self.old) (⟦<Parts as Standing>⟧.parts self.new) machine (λ answers. written machine state answers addr bytes.now) result }
-        ensures writable { WritesAfterWrite addr (length bytes.now) result (⟦<Parts as Standing>⟧.parts self.old).tables (⟦<Parts as Standing>⟧.parts self.new).tables }
+        requires allowed { AreasAllow (⟦<Parts as Standing>⟧.parts self.old).areas (page_of addr)
+            (page_count addr (length bytes.now)) }
+        ensures ran { (machine : Machine) (state : KernelState)
+            → KernelStands (⟦<Parts as Standing>⟧.parts self.old) machine state
+            → EventRan (⟦<Parts as Standing>⟧.parts self.old) (⟦<Parts as Standing>⟧.parts self.new)
+                machine (λ answers. written machine state answers addr bytes.now) result }
+        ensures writable { WritesAfterWrite addr (length bytes.now) result
+            (⟦<Parts as Standing>⟧.parts self.old).tables
+            (⟦<Parts as Standing>⟧.parts self.new).tables }
     {
         match self.touch_allowed(addr, bytes.len() as u64) {
             Ok(()) => {

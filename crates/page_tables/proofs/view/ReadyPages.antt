@@ -61,16 +61,20 @@ module _ (tables : PageTables) (sides : Sides) (st : TablesStandFor tables sides
       by : (o : Option ℕ) → version_at cell.parent p ≡ o → course_touched p start ≡ start
       by None absent = absurd (false≢true (sym (ap is_some absent) ∙ ready.present))
       by (Some version) there =
-          touched-present p start (subst (λ it. AreUnjoined it.kept) (sym same) (st.kept.unjoined c)) version (ap (λ it. version_at it.parent p) same ∙ there)
-          ∙ ap (λ b. cond b (page_copy_answered p version (coming_answer start) (asking want.Page start)) start) (ap (λ it. is_named it p version) same ∙ unnamed version there)
+          touched-present p start (subst (λ it. AreUnjoined it.kept) (sym same) (st.kept.unjoined c)) version
+              (ap (λ it. version_at it.parent p) same ∙ there)
+          ∙ ap (λ b. cond b (page_copy_answered p version (coming_answer start) (asking want.Page start)) start)
+              (ap (λ it. is_named it p version) same ∙ unnamed version there)
 
   at-cell : RunsAt (course_touched p) cell sides.made [] cell sides.made None
   at-cell = record {
-    runs = λ before rest. touched-none (course_between cell sides.made rest before) refl ∙ ap (course_between cell sides.made rest) (sym (append-nil before));
+    runs = λ before rest. touched-none (course_between cell sides.made rest before) refl
+        ∙ ap (course_between cell sides.made rest) (sym (append-nil before));
   }
 
   page-runs : Runs (page_touched page) sides.leaves sides.made [] sides.leaves sides.made None
-  page-runs = subst (λ leaves. Runs (page_touched page) sides.leaves sides.made [] leaves sides.made None) (with_cell-same sides.leaves c st.kept)
+  page-runs = subst (λ leaves. Runs (page_touched page) sides.leaves sides.made [] leaves sides.made None)
+      (with_cell-same sides.leaves c st.kept)
       (known-runs page sides.leaves sides.made [] cell sides.made None at-cell (missing-known sides.leaves c st.kept.sorted had))
 
   -- the page is there already
@@ -95,7 +99,8 @@ module _ (tables : PageTables) (sides : Sides) (st : TablesStandFor tables sides
       let left : ℕ = slot_count tables - length (used_cells sides.leaves) in
       let last : page + 1 - 1 ≡ page = omega arith in
       let one : cell_of (page + 1 - 1) + 1 - c ≡ 1 = ap (λ q. cell_of q + 1 - c) last ∙ omega arith in
-      let found : cells_without_slot sides.leaves (c ∷ []) ≡ [] = ap (λ b. cond (not b) (c ∷ []) []) (known-found tables sides st c (st.parent c ∙ had)) in
+      let found : cells_without_slot sides.leaves (c ∷ []) ≡ [] = ap (λ b. cond (not b) (c ∷ []) [])
+          (known-found tables sides st c (st.parent c ∙ had)) in
       let none : nat_lt left 0 ≡ false = grind (arith, nat_tests) in
       ap (λ n. nat_lt left (length (cells_without_slot sides.leaves (range_with_len c n)))) one
       ∙ ap (λ cells. nat_lt left (length cells)) found ∙ none

@@ -10,6 +10,7 @@ use Rattle.page_tables.specs.declared.slot.Slot.{Slot}
 use Rattle.page_tables.specs.Held.{frames_in, shares_in}
 use Rattle.kernel_meaning.specs.Leaves.{share}
 use Rattle.page_tables.proofs.ClearedSlot.{shares-set}
+use Rattle.page_tables.proofs.SlotLemmas.{length-set}
 use Rattle.page_tables.proofs.OwnedSlots.{frames-set}
 use Rattle.page_tables.proofs.ParentPages.{owned-here, owned-index}
 use Rattle.page_tables.proofs.ParentStore.{ready-view, stands-stored}
@@ -21,33 +22,41 @@ use Rattle.page_tables.proofs.KeptWriting.{keeps-writing, bits-set}
 use Rattle.page_tables.proofs.Known.{standing, known-owner, known-alone}
 use Rattle.page_tables.proofs.tables.PageTables.store_in_slot.Goals as goal
 
-standing-ready : (tables : PageTables) (address : ℕ) → ∥ ((sides : Sides) × (TablesStandFor tables sides × IsPageReady sides.leaves (page_of address))) ∥₁ → ∥ ((sides : Sides) × TablesStandFor tables sides) ∥₁
+standing-ready : (tables : PageTables) (address : ℕ) → ∥ ((sides : Sides)
+    × (TablesStandFor tables sides × IsPageReady sides.leaves (page_of address))) ∥₁ → ∥ ((sides : Sides) × TablesStandFor tables sides) ∥₁
 standing-ready tables address known = standing tables (λ sides. IsPageReady sides.leaves (page_of address)) known
 
 pub index_mut-requires : goal.index_mut-requires
 index_mut-requires c =
     let known = c.requires.known in
-    owned-index c.args.self.now.slots.items _ c.args.slot (cell_of (page_of c.args.addr)) c.args.self.now.slots.ok.0 (known-owner c.args.self.now (standing-ready c.args.self.now c.args.addr c.requires.stands) (cell_of (page_of c.args.addr)) c.args.slot known)
+    owned-index c.args.self.now.slots.items _ c.args.slot (cell_of (page_of c.args.addr)) c.args.self.now.slots.ok.0
+        (known-owner c.args.self.now (standing-ready c.args.self.now c.args.addr c.requires.stands) (cell_of (page_of c.args.addr))
+        c.args.slot known)
 
 pub store-requires-clause-present : goal.store-requires-clause-present
 store-requires-clause-present c =
     let known = c.requires.known in
-    let alone : IsAlone c.index_mut.result.now.cell.leaves c.location_of-location.result.page = known-alone c.requires.stands (λ it. ready-view c.args.self.now it.0 it.1.0 c.args.addr c.args.slot c.args.bytes.now c.index_mut.result.now known
-    c.index_mut.ensures.value c.location_of-location.result.page c.location_of-location.result.at c.location_of-location.ensures.page c.location_of-location.ensures.at it.1.1) in
+    let alone : IsAlone c.index_mut.result.now.cell.leaves c.location_of-location.result.page = known-alone c.requires.stands
+        (λ it. ready-view c.args.self.now it.0 it.1.0 c.args.addr c.args.slot c.args.bytes.now c.index_mut.result.now known
+    c.index_mut.ensures.value c.location_of-location.result.page c.location_of-location.result.at c.location_of-location.ensures.page
+        c.location_of-location.ensures.at it.1.1) in
     alone.present
 
 pub store-requires-clause-unnamed : goal.store-requires-clause-unnamed
 store-requires-clause-unnamed c =
     let known = c.requires.known in
-    let alone : IsAlone c.index_mut.result.now.cell.leaves c.location_of-location.result.page = known-alone c.requires.stands (λ it. ready-view c.args.self.now it.0 it.1.0 c.args.addr c.args.slot c.args.bytes.now c.index_mut.result.now known
-    c.index_mut.ensures.value c.location_of-location.result.page c.location_of-location.result.at c.location_of-location.ensures.page c.location_of-location.ensures.at it.1.1) in
+    let alone : IsAlone c.index_mut.result.now.cell.leaves c.location_of-location.result.page = known-alone c.requires.stands
+        (λ it. ready-view c.args.self.now it.0 it.1.0 c.args.addr c.args.slot c.args.bytes.now c.index_mut.result.now known
+    c.index_mut.ensures.value c.location_of-location.result.page c.location_of-location.result.at c.location_of-location.ensures.page
+        c.location_of-location.ensures.at it.1.1) in
     alone.unnamed
 
 pub returns-clause-stored : goal.returns-clause-stored
 returns-clause-stored c = λ sides st.
     let known = c.requires.known in
     stands-stored c.args.self.now sides st c.args.addr c.args.slot c.args.bytes.now c.index_mut.result.now known c.index_mut.ensures.value
-    c.location_of-location.result.page c.location_of-location.result.at c.location_of-location.ensures.page c.location_of-location.ensures.at c.store.new.self c.requires.room c.store.ensures.stored
+    c.location_of-location.result.page c.location_of-location.result.at c.location_of-location.ensures.page
+        c.location_of-location.ensures.at c.store.new.self c.requires.room c.store.ensures.stored
     (record {
       directory = c.args.self.now.directory;
       snapshot = c.args.self.now.snapshot;
@@ -62,18 +71,6 @@ returns-clause-stored c = λ sides st.
       });
     })
     refl refl refl
-
-pub returns-clause-held : goal.returns-clause-held
-returns-clause-held c =
-    let known = c.requires.known in
-    let here = owned-here c.args.self.now.slots.items c.args.slot (cell_of (page_of c.args.addr)) c.index_mut.result.now (known-owner
-    c.args.self.now (standing-ready c.args.self.now c.args.addr c.requires.stands) (cell_of (page_of c.args.addr)) c.args.slot known)
-    c.index_mut.ensures.value in
-    let new : Slot = record { owner = c.index_mut.result.now.owner; cell = c.store.new.self } in
-    let sums : frames_in (slice_set c.args.self.now.slots.items c.args.slot new) + held_of c.index_mut.result.now.cell ≡ frames_in c.args.self.now.slots.items + held_of c.store.new.self =
-    frames-set c.args.self.now.slots.items c.args.slot c.index_mut.result.now new here in
-    let same : held_of c.store.new.self ≡ held_of c.index_mut.result.now.cell = c.store.ensures.held in
-    omega (arith, sums, same)
 
 pub invariant_of-self-clause-even : goal.invariant_of-self-clause-even
 invariant_of-self-clause-even c =
@@ -93,12 +90,11 @@ invariant_of-self-clause-even c =
     let even = c.args.self.now.even in
     omega (arith, frames, same, parts, alike, even)
 
-pub returns-clause-cells : goal.returns-clause-cells
-returns-clause-cells c =
-    let known = c.requires.known in
-    let here = owned-here c.args.self.now.slots.items c.args.slot (cell_of (page_of c.args.addr)) c.index_mut.result.now (known-owner
-    c.args.self.now (standing-ready c.args.self.now c.args.addr c.requires.stands) (cell_of (page_of c.args.addr)) c.args.slot known)
-    c.index_mut.ensures.value in
+pub returns-clause-kept : goal.returns-clause-kept
+returns-clause-kept c =
+    let stands = standing-ready c.args.self.now c.args.addr c.requires.stands in
+    let here = owned-here c.args.self.now.slots.items c.args.slot (cell_of (page_of c.args.addr)) c.index_mut.result.now
+    (known-owner c.args.self.now stands (cell_of (page_of c.args.addr)) c.args.slot c.requires.known) c.index_mut.ensures.value in
     let new : Slot = record { owner = c.index_mut.result.now.owner; cell = c.store.new.self } in
     let frames : frames_in (slice_set c.args.self.now.slots.items c.args.slot new) + held_of c.index_mut.result.now.cell ≡ frames_in
     c.args.self.now.slots.items + held_of c.store.new.self =
@@ -108,19 +104,14 @@ returns-clause-cells c =
     shares_in c.args.self.now.slots.items + share c.store.new.self.leaves =
     shares-set c.args.self.now.slots.items c.args.slot c.index_mut.result.now new here in
     let alike : share c.store.new.self.leaves ≡ share c.index_mut.result.now.cell.leaves = ap share c.store.ensures.leaves in
-    record { frames = omega (arith, frames, same); shares = omega (arith, parts, alike) }
-
-pub returns-clause-writable : goal.returns-clause-writable
-returns-clause-writable c =
-    let stands = standing-ready c.args.self.now c.args.addr c.requires.stands in
-    let known = c.requires.known in
-    let here = owned-here c.args.self.now.slots.items c.args.slot (cell_of (page_of c.args.addr)) c.index_mut.result.now (known-owner c.args.self.now stands (cell_of (page_of c.args.addr)) c.args.slot known) c.index_mut.ensures.value in
-    keeps-writing c.args.self.now (record c.args.self.now {
-      slots = with_item c.args.self.now.slots c.args.slot (record {
-        owner =
-            c.index_mut.result.now.owner;
-        cell = c.store.new.self;
-      });
-      even = c.self-2-1.given.1.0;
-    }) refl (known-owner c.args.self.now stands)
-    (bits-set c.args.self.now.slots.items c.args.slot c.index_mut.result.now (record { owner = c.index_mut.result.now.owner; cell = c.store.new.self }) here c.store.ensures.writable)
+    record {
+      held = omega (arith, frames, same);
+      cells = record { frames = omega (arith, frames, same); shares = omega (arith, parts, alike) };
+      writable = keeps-writing c.args.self.now (record c.args.self.now {
+        slots = with_item c.args.self.now.slots c.args.slot new;
+        even = c.self-2-1.given.1.0;
+      }) refl (known-owner c.args.self.now stands)
+      (bits-set c.args.self.now.slots.items c.args.slot c.index_mut.result.now new here c.store.ensures.writable);
+      snapshot = refl;
+      slots = length-set c.args.self.now.slots.items c.args.slot new;
+    }
