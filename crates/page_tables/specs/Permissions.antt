@@ -49,7 +49,8 @@ pub record LetsWrite (first n : ℕ) (old new : PageTables) : Type 0 where
 abbrev pub KeepsWriting : PageTables → PageTables → Type 0
 KeepsWriting old new = (page : ℕ) → may_write new page ≡ may_write old page
 
--- nothing but bytes of pages has changed: the frames, the slots and the snapshot's cells are as before, and each page may be written to where it might
+-- nothing but bytes of pages has changed: the frames, the slots and the snapshot's cells are as
+-- before, and each page may be written to where it might
 pub record KeepsAllButBytes (old new : PageTables) : Type 0 where
   pub held : frames_of new ≡ frames_of old
   pub cells : HoldAlike old.slots.items new.slots.items

@@ -4,6 +4,7 @@ use Rattle.std.specs.FinMap.{get}
 use Rattle.vm_base.specs.declared.faults.Fault.{Fault}
 use Rattle.vm_base.specs.declared.faults.Fault.TheVariants as fault
 use Rattle.vm_base.specs.declared.permission.Perm.{Perm}
+use Rattle.vm_base.specs.Places.{page_of, page_count}
 use Rattle.vm_base.specs.FlatMemory.{Area, FlatMemory}
 use Rattle.vm_base.specs.FlatStep.{is_writable, outside, unwritable, with_bytes}
 use Rattle.vm_base.specs.MemoryCalls.{IsInRange}
@@ -12,7 +13,7 @@ use Rattle.page_tables.specs.Accesses.{IsPageReady}
 use Rattle.trace_events.specs.declared.outcome.Outcome.{Outcome}
 use Rattle.trace_events.specs.declared.outcome.Outcome.TheVariants.{Done, NoArea, NoWrite, Overlap, AreasFull, CellsFull, NoFrame}
 use Rattle.trace_core.specs.KernelState.{Machine, KernelState}
-use Rattle.trace_core.specs.KernelStanding.{KernelParts, KernelStands}
+use Rattle.trace_core.specs.KernelStanding.{KernelParts, KernelStands, IsKernel}
 
 -- what an event answers where this fault refuses it
 abbrev pub fault_outcome : Fault → Outcome
@@ -32,7 +33,13 @@ touch_outcome (Err refused) = fault_outcome refused
 abbrev pub AreasAllow : List Area → ℕ → ℕ → Type 0
 AreasAllow areas first n = (outside areas first n ≡ None) × (unwritable areas first n ≡ None)
 
--- they refuse it by this fault: for the lowest page that lies in no area, or else the lowest that may only be read
+-- the parts stand, and their areas let n bytes be touched
+abbrev pub LetsTouch : KernelParts → ℕ → ℕ → Type 0
+LetsTouch parts address n =
+    ∥ IsKernel parts ∥₁ × AreasAllow parts.areas (page_of address) (page_count address n)
+
+-- they refuse it by this fault: for the lowest page that lies in no area, or else the lowest that
+-- may only be read
 abbrev pub AreasRefuse : List Area → ℕ → ℕ → Fault → Type 0
 AreasRefuse areas first n (fault.NoArea page) = outside areas first n ≡ Some page
 AreasRefuse areas first n (fault.NoWrite page) = (outside areas first n ≡ None)

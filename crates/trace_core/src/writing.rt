@@ -9,7 +9,8 @@ ghost use Rattle.trace_core.specs.CallAnswers.{area_outcome};
 ghost use Rattle.page_tables.specs.Permissions.{KeepsWriting};
 ghost use Rattle.trace_core.specs.Writing.{WritesAfterTouch, WritesAfterWrite};
 ghost use Rattle.trace_events.specs.declared.outcome.Outcome.TheVariants.{Done};
-ghost use Rattle.trace_core.specs.TouchAnswers.{fault_outcome, touch_outcome, IsReadyKernel, LeavesReady, LacksPage, with_stored, AreasAllow, AreasRefuse, or_read_only};
+ghost use Rattle.trace_core.specs.TouchAnswers.{fault_outcome, touch_outcome, IsReadyKernel, LeavesReady, LacksPage, with_stored};
+ghost use Rattle.trace_core.specs.TouchAnswers.{AreasAllow, AreasRefuse, LetsTouch, or_read_only};
 
 use crate::parts::{MOST_BYTES, Parts, Standing};
 use area_list::{AreaFault, Areas};
@@ -82,9 +83,7 @@ impl Parts {
         requires some { 0 < len }
         requires few { len ≤ MOST_BYTES }
         requires range { addr + len ≤ 2 ^ 48 }
-        requires stands { ∥ IsKernel (⟦<Parts as Standing>⟧.parts self.old) ∥₁ }
-        requires allowed { AreasAllow (⟦<Parts as Standing>⟧.parts self.old).areas (page_of addr)
-            (page_count addr len) }
+        requires stands { LetsTouch (⟦<Parts as Standing>⟧.parts self.old) addr len }
         ensures ran { (machine : Machine) (state : KernelState)
             → KernelStands (⟦<Parts as Standing>⟧.parts self.old) machine state
             → EventRan (⟦<Parts as Standing>⟧.parts self.old) (⟦<Parts as Standing>⟧.parts self.new)
@@ -98,14 +97,14 @@ impl Parts {
         ensures page { IfErr result (λ fault. (machine : Machine) (state : KernelState)
             → KernelStands (⟦<Parts as Standing>⟧.parts self.old) machine state
             → LacksPage state.world.parent addr len fault) }
-        ensures beside { (((⟦<Parts as Standing>⟧.parts
-            self.new).areas ≡ (⟦<Parts as Standing>⟧.parts self.old).areas)
+        ensures beside { (((⟦<Parts as Standing>⟧.parts self.new).areas
+            ≡ (⟦<Parts as Standing>⟧.parts self.old).areas)
             × WritesAfterTouch addr len result (⟦<Parts as Standing>⟧.parts self.old).tables
                 (⟦<Parts as Standing>⟧.parts self.new).tables)
-            × ((⟦<Parts as Standing>⟧.parts self.new).snapshot ≡ (⟦<Parts as Standing>⟧.parts
-                self.old).snapshot)
-            × ((⟦<Parts as Standing>⟧.parts self.new).last ≡ (⟦<Parts as Standing>⟧.parts
-                self.old).last) }
+            × ((⟦<Parts as Standing>⟧.parts self.new).snapshot
+                ≡ (⟦<Parts as Standing>⟧.parts self.old).snapshot)
+            × ((⟦<Parts as Standing>⟧.parts self.new).last
+                ≡ (⟦<Parts as Standing>⟧.parts self.old).last) }
     {
         let first = addr / PAGE_BYTES;
         let count = page_count(addr, len);
@@ -166,9 +165,7 @@ impl Parts {
         requires some { 0 < length bytes.now }
         requires few { length bytes.now ≤ MOST_BYTES }
         requires range { addr + length bytes.now ≤ 2 ^ 48 }
-        requires stands { ∥ IsKernel (⟦<Parts as Standing>⟧.parts self.old) ∥₁ }
-        requires allowed { AreasAllow (⟦<Parts as Standing>⟧.parts self.old).areas (page_of addr)
-            (page_count addr (length bytes.now)) }
+        requires stands { LetsTouch (⟦<Parts as Standing>⟧.parts self.old) addr (length bytes.now) }
         ensures ran { (machine : Machine) (state : KernelState)
             → KernelStands (⟦<Parts as Standing>⟧.parts self.old) machine state
             → EventRan (⟦<Parts as Standing>⟧.parts self.old) (⟦<Parts as Standing>⟧.parts self.new)
@@ -189,9 +186,7 @@ impl Parts {
     fn store_ready(&mut self, addr: u64, bytes: &[u8]) -> bool
         requires some { 0 < length bytes.now }
         requires range { addr + length bytes.now ≤ 2 ^ 48 }
-        requires stands { ∥ IsKernel (⟦<Parts as Standing>⟧.parts self.old) ∥₁ }
-        requires allowed { AreasAllow (⟦<Parts as Standing>⟧.parts self.old).areas (page_of addr)
-            (page_count addr (length bytes.now)) }
+        requires stands { LetsTouch (⟦<Parts as Standing>⟧.parts self.old) addr (length bytes.now) }
         ensures ran { result ≡ true → (machine : Machine) (state : KernelState)
             → KernelStands (⟦<Parts as Standing>⟧.parts self.old) machine state
             → EventRan (⟦<Parts as Standing>⟧.parts self.old) (⟦<Parts as Standing>⟧.parts self.new)
@@ -200,8 +195,8 @@ impl Parts {
             → WritesAfterWrite addr (length bytes.now) Done
                 (⟦<Parts as Standing>⟧.parts self.old).tables
                 (⟦<Parts as Standing>⟧.parts self.new).tables }
-        ensures kept { result ≡ false → ⟦<Parts as Standing>⟧.parts self.new ≡ ⟦<Parts as
-            Standing>⟧.parts self.old }
+        ensures kept { result ≡ false
+            → ⟦<Parts as Standing>⟧.parts self.new ≡ ⟦<Parts as Standing>⟧.parts self.old }
     {
         if bytes.len() as u64 > PAGE_BYTES - addr % PAGE_BYTES {
             return false;
@@ -214,9 +209,7 @@ impl Parts {
         requires some { 0 < length bytes.now }
         requires few { length bytes.now ≤ MOST_BYTES }
         requires range { addr + length bytes.now ≤ 2 ^ 48 }
-        requires stands { ∥ IsKernel (⟦<Parts as Standing>⟧.parts self.old) ∥₁ }
-        requires allowed { AreasAllow (⟦<Parts as Standing>⟧.parts self.old).areas (page_of addr)
-            (page_count addr (length bytes.now)) }
+        requires stands { LetsTouch (⟦<Parts as Standing>⟧.parts self.old) addr (length bytes.now) }
         ensures ran { (machine : Machine) (state : KernelState)
             → KernelStands (⟦<Parts as Standing>⟧.parts self.old) machine state
             → EventRan (⟦<Parts as Standing>⟧.parts self.old) (⟦<Parts as Standing>⟧.parts self.new)

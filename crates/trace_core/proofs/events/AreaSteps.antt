@@ -33,7 +33,8 @@ first_of (Some page) then = Some page
 
 -- a page of no area is outside
 pub outside-here : (areas : List Area) (page end : ℕ) → page < end → area_of areas page ≡ None → outside areas page (end - page) ≡ Some page
-outside-here areas page end below missing = lowest_here (λ q. not (is_some (area_of areas q))) page end below (ap (λ o. not (is_some o)) missing)
+outside-here areas page end below missing = lowest_here (λ q. not (is_some (area_of areas q))) page end below
+    (ap (λ o. not (is_some o)) missing)
 
 -- no page is left
 pub none-left : (areas : List Area) (page end : ℕ) → end ≤ page → outside areas page (end - page) ≡ None
@@ -55,11 +56,13 @@ module _ (areas : List Area) (page end : ℕ) (area : Area) (found : IsFound are
 
   -- the lowest page that may only be read, so far or of the rest
   pub read_only-behind : page < end → (so_far : Option ℕ)
-      → first_of (or_read_only so_far page area.perm) (unwritable areas (area.first + area.pages) (end - (area.first + area.pages))) ≡ first_of so_far (unwritable areas page (end - page))
+      → first_of (or_read_only so_far page area.perm) (unwritable areas (area.first + area.pages)
+          (end - (area.first + area.pages))) ≡ first_of so_far (unwritable areas page (end - page))
   read_only-behind below (Some it) = refl
   read_only-behind below None = by (is_writable area.perm) refl
     where
-      by : (b : Bool) → is_writable area.perm ≡ b → first_of (cond b None (Some page)) (unwritable areas (area.first + area.pages) (end - (area.first + area.pages))) ≡ unwritable areas page (end - page)
+      by : (b : Bool) → is_writable area.perm ≡ b → first_of (cond b None (Some page)) (unwritable areas (area.first + area.pages)
+          (end - (area.first + area.pages))) ≡ unwritable areas page (end - page)
       by true writable = sym (unwritable-behind (ap not writable))
       by false read_only = sym (lowest_here (λ q. is_read_only (area_of areas q)) page end below
           (ap is_read_only (found.all page found.reached found.ahead) ∙ ap not read_only))

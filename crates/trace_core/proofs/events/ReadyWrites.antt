@@ -26,18 +26,23 @@ use Rattle.trace_core.proofs.events.Writes.{TouchRan, touched-done}
 -- bytes within one page meet one page
 pub one-page : (addr n : ℕ) → 0 < n → offset_of addr + n ≤ 4096 → page_count addr n ≡ 1
 one-page addr n some within =
-    let full : page_count addr n ≡ page_of (addr + n - 1) + 1 - page_of addr = ap (λ b. cond b 0 (page_of (addr + n - 1) + 1 - page_of addr)) (ne_eqb n 0 (λ e. omega arith)) in
+    let full : page_count addr n ≡ page_of (addr + n - 1) + 1 - page_of addr = ap
+        (λ b. cond b 0 (page_of (addr + n - 1) + 1 - page_of addr)) (ne_eqb n 0 (λ e. omega arith)) in
     let last : page_of (addr + n - 1) ≡ page_of addr = omega arith in
     full ∙ omega (arith, last)
 
-module _ (parts : KernelParts) (addr : ℕ) (bytes : List ℕ) (some : 0 < length bytes) (within : offset_of addr + length bytes ≤ 4096) (new : PageTables) where
+module _ (parts : KernelParts) (addr : ℕ) (bytes : List ℕ) (some : 0 < length bytes) (within : offset_of addr + length bytes ≤ 4096)
+    (new : PageTables) where
   one : page_count addr (length bytes) ≡ 1
   one = one-page addr (length bytes) some within
 
-  module _ (machine : Machine) (state : KernelState) (st : KernelStands parts machine state) (allowed : AreasAllow parts.areas (page_of addr) (page_count addr (length bytes)))
+  module _ (machine : Machine) (state : KernelState) (st : KernelStands parts machine state)
+      (allowed : AreasAllow parts.areas (page_of addr) (page_count addr (length bytes)))
       (alone : (sides : Sides) → TablesStandFor parts.tables sides → IsPageReady sides.leaves (page_of addr))
-      (stored : (sides : Sides) → TablesStandFor parts.tables sides → TablesStandFor new (record sides { pages = with_bytes sides.pages addr bytes }))
-      (held : frames_of new ≡ frames_of parts.tables) (snapshot : HasSameSnapshot parts.tables new) (slots : slot_count new ≡ slot_count parts.tables) where
+      (stored : (sides : Sides) → TablesStandFor parts.tables sides
+          → TablesStandFor new (record sides { pages = with_bytes sides.pages addr bytes }))
+      (held : frames_of new ≡ frames_of parts.tables) (snapshot : HasSameSnapshot parts.tables new)
+          (slots : slot_count new ≡ slot_count parts.tables) where
     ready : IsPageReady state.leaves (page_of addr)
     ready = alone (sides_of state st.pages) st.tables
 
@@ -60,10 +65,12 @@ module _ (parts : KernelParts) (addr : ℕ) (bytes : List ℕ) (some : 0 < lengt
   -- its page may be written to, as it might before
   lets : may_write parts.tables (page_of addr) ≡ true → KeepsWriting parts.tables new → LetsWrite (page_of addr) 1 parts.tables new
   lets may keeps = record {
-    within = λ q low high. let same : page_of addr ≡ q = omega (arith, low, high) in keeps q ∙ subst (λ p. may_write parts.tables p ≡ true) same may;
+    within = λ q low high. let same : page_of addr ≡ q = omega (arith, low, high) in keeps q
+        ∙ subst (λ p. may_write parts.tables p ≡ true) same may;
     still = λ q might. keeps q ∙ might;
     apart = λ q beyond. keeps q;
   }
 
-  pub ready-lets : may_write parts.tables (page_of addr) ≡ true → KeepsWriting parts.tables new → WritesAfterWrite addr (length bytes) Done parts.tables new
+  pub ready-lets : may_write parts.tables (page_of addr) ≡ true → KeepsWriting parts.tables new
+      → WritesAfterWrite addr (length bytes) Done parts.tables new
   ready-lets may keeps = (Ok tt, (refl, subst (λ n. LetsWrite (page_of addr) n parts.tables new) (sym one) (lets may keeps)))

@@ -299,7 +299,8 @@ module _ (parts : KernelParts) (machine : Machine) (state : KernelState) (st : K
             refusal page (subst (λ count. FollowsRange (page_of addr) count mid deals (Some refusal) (sides_of state st.pages)) whole range)
 
   -- they refuse by a fault
-  pub touched-refused : (why : Fault) → AreasRefuse parts.areas (page_of addr) count why → TouchRan parts parts machine state addr n (Err why)
+  pub touched-refused : (why : Fault) → AreasRefuse parts.areas (page_of addr) count why
+      → TouchRan parts parts machine state addr n (Err why)
   touched-refused (fault.NoArea page) h = touched-outside page h
   touched-refused (fault.NoWrite page) h = touched-read_only h.0 page h.1
   touched-refused (fault.NoFrame at page) h = absurd h
@@ -308,7 +309,8 @@ module _ (parts : KernelParts) (machine : Machine) (state : KernelState) (st : K
   touched-refused fault.CellsFull h = absurd h
 
 -- where the areas refuse a touch no page lacks a frame
-pub refused-lacks : (areas : List Area) (addr n count : ℕ) (memory : FlatMemory) (why : Fault) → AreasRefuse areas (page_of addr) count why → LacksPage memory addr n why
+pub refused-lacks : (areas : List Area) (addr n count : ℕ) (memory : FlatMemory) (why : Fault) → AreasRefuse areas (page_of addr) count why
+    → LacksPage memory addr n why
 refused-lacks areas addr n count memory (fault.NoArea page) h = tt
 refused-lacks areas addr n count memory (fault.NoWrite page) h = tt
 refused-lacks areas addr n count memory (fault.NoFrame at page) h = absurd h
@@ -317,7 +319,8 @@ refused-lacks areas addr n count memory fault.AreasFull h = absurd h
 refused-lacks areas addr n count memory fault.CellsFull h = absurd h
 
 -- and just those pages may be written to that might before
-pub refused-writes : (areas : List Area) (addr count : ℕ) (tables : PageTables) (why : Fault) → AreasRefuse areas (page_of addr) count why → WritesAfterFault addr why tables tables
+pub refused-writes : (areas : List Area) (addr count : ℕ) (tables : PageTables) (why : Fault) → AreasRefuse areas (page_of addr) count why
+    → WritesAfterFault addr why tables tables
 refused-writes areas addr count tables (fault.NoArea page) h = λ q. refl
 refused-writes areas addr count tables (fault.NoWrite page) h = λ q. refl
 refused-writes areas addr count tables (fault.NoFrame at page) h = absurd h

@@ -11,7 +11,8 @@ loop-page-preserved c =
     record {
       left = sym (outside-behind c.args.areas.now c.loop-page.page (c.args.first + c.args.count) _ found) ∙ c.loop-page.invariant.left;
       read_only = ap (λ o. first_of o _) c.lowest_read_only.ensures
-          ∙ read_only-behind c.args.areas.now c.loop-page.page (c.args.first + c.args.count) _ found c.loop-page-test.true c.loop-page.lowest
+          ∙ read_only-behind c.args.areas.now c.loop-page.page (c.args.first + c.args.count) _ found c.loop-page-test.true
+              c.loop-page.lowest
           ∙ c.loop-page.invariant.read_only;
     }
 
@@ -23,12 +24,14 @@ returns-in-None-clause-refused c =
 pub returns-in-Some-clause-refused : goal.returns-in-Some-clause-refused
 returns-in-Some-clause-refused c = (
   sym c.loop-page.invariant.left ∙ none-left c.args.areas.now c.loop-page.page (c.args.first + c.args.count) (omega arith),
-  sym c.loop-page.invariant.read_only ∙ ap (λ o. first_of o (unwritable c.args.areas.now c.loop-page.page (c.args.first + c.args.count - c.loop-page.page))) c.in-Some.is,
+  sym c.loop-page.invariant.read_only ∙ ap (λ o. first_of o (unwritable c.args.areas.now c.loop-page.page
+      (c.args.first + c.args.count - c.loop-page.page))) c.in-Some.is,
 )
 
 pub returns-in-None-lowest-clause-allowed : goal.returns-in-None-lowest-clause-allowed
 returns-in-None-lowest-clause-allowed c = (
   sym c.loop-page.invariant.left ∙ none-left c.args.areas.now c.loop-page.page (c.args.first + c.args.count) (omega arith),
-  sym c.loop-page.invariant.read_only ∙ ap (λ o. first_of o (unwritable c.args.areas.now c.loop-page.page (c.args.first + c.args.count - c.loop-page.page))) c.in-None-lowest.is
+  sym c.loop-page.invariant.read_only ∙ ap (λ o. first_of o (unwritable c.args.areas.now c.loop-page.page
+      (c.args.first + c.args.count - c.loop-page.page))) c.in-None-lowest.is
   ∙ none-unwritable c.args.areas.now c.loop-page.page (c.args.first + c.args.count) (omega arith),
 )

@@ -11,26 +11,28 @@ use Rattle.trace_core.proofs.events.KernelFacts.{known-tables, known-lent}
 use Rattle.trace_core.proofs.parts.Parts.touch_allowed.Goals as goal
 
 pub lacks_slots-requires-clause-stands : goal.lacks_slots-requires-clause-stands
-lacks_slots-requires-clause-stands g c = known-tables _ c.requires.stands
+lacks_slots-requires-clause-stands g c = known-tables _ c.requires.stands.0
 
 pub touch-requires-clause-lent : goal.touch-requires-clause-lent
-touch-requires-clause-lent g c = known-lent _ c.requires.stands
+touch-requires-clause-lent g c = known-lent _ c.requires.stands.0
 
 pub returns-then-lacks_slots-clause-ran : goal.returns-then-lacks_slots-clause-ran
 returns-then-lacks_slots-clause-ran g c = λ machine state st.
     (touched-full _ machine state st c.args.addr c.args.len _ c.page_count-count.ensures.count
-    (ap (outside c.args.self.now.areas (page_of c.args.addr)) c.page_count-count.ensures.count ∙ c.requires.allowed.0) c.requires.some (ap (unwritable c.args.self.now.areas (page_of c.args.addr)) c.page_count-count.ensures.count ∙ c.requires.allowed.1)
+    (ap (outside c.args.self.now.areas (page_of c.args.addr)) c.page_count-count.ensures.count ∙ c.requires.stands.1.0) c.requires.some
+        (ap (unwritable c.args.self.now.areas (page_of c.args.addr)) c.page_count-count.ensures.count ∙ c.requires.stands.1.1)
     (sym (c.lacks_slots.ensures (sides_of state st.pages) st.tables) ∙ c.if-lacks_slots.true)).ran
 
 pub touch-requires-clause-stands : goal.touch-requires-clause-stands
 touch-requires-clause-stands g c =
-    ∥∥₁_map c.requires.stands (λ it.
+    ∥∥₁_map c.requires.stands.0 (λ it.
     let state = it.1.0 in
     let st = it.1.1 in (
       sides_of state st.pages,
       (
         st.tables,
-        room-there c.args.self.now.tables (sides_of state st.pages) (cells_of_pages (page_of c.args.addr) c.page_count-count.result) st.tables
+        room-there c.args.self.now.tables (sides_of state st.pages) (cells_of_pages (page_of c.args.addr) c.page_count-count.result)
+            st.tables
             (sym (c.lacks_slots.ensures (sides_of state st.pages) st.tables) ∙ c.if-lacks_slots.false),
       ),
     ))
@@ -39,7 +41,8 @@ pub returns-in-Ok : goal.returns-in-Ok
 returns-in-Ok g c = record {
   ran = λ machine state st.
       (touched-done _ machine state st c.args.addr c.args.len _ c.page_count-count.ensures.count
-      (ap (outside c.args.self.now.areas (page_of c.args.addr)) c.page_count-count.ensures.count ∙ c.requires.allowed.0) c.requires.some (ap (unwritable c.args.self.now.areas (page_of c.args.addr)) c.page_count-count.ensures.count ∙ c.requires.allowed.1)
+      (ap (outside c.args.self.now.areas (page_of c.args.addr)) c.page_count-count.ensures.count ∙ c.requires.stands.1.0) c.requires.some
+          (ap (unwritable c.args.self.now.areas (page_of c.args.addr)) c.page_count-count.ensures.count ∙ c.requires.stands.1.1)
       (sym (c.lacks_slots.ensures (sides_of state st.pages) st.tables) ∙ c.if-lacks_slots.false)
       c.touch.new.self c.in-Ok.ensures.made.deals _ c.in-Ok.ensures.made.led c.touch.ensures.held c.touch.ensures.snapshot
       c.touch.ensures.slots
@@ -47,20 +50,23 @@ returns-in-Ok g c = record {
   ready = λ machine state st.
       touch-leaves _ _ machine state c.args.addr c.args.len _
       (touched-done _ machine state st c.args.addr c.args.len _ c.page_count-count.ensures.count
-      (ap (outside c.args.self.now.areas (page_of c.args.addr)) c.page_count-count.ensures.count ∙ c.requires.allowed.0) c.requires.some (ap (unwritable c.args.self.now.areas (page_of c.args.addr)) c.page_count-count.ensures.count ∙ c.requires.allowed.1)
+      (ap (outside c.args.self.now.areas (page_of c.args.addr)) c.page_count-count.ensures.count ∙ c.requires.stands.1.0) c.requires.some
+          (ap (unwritable c.args.self.now.areas (page_of c.args.addr)) c.page_count-count.ensures.count ∙ c.requires.stands.1.1)
       (sym (c.lacks_slots.ensures (sides_of state st.pages) st.tables) ∙ c.if-lacks_slots.false)
       c.touch.new.self c.in-Ok.ensures.made.deals _ c.in-Ok.ensures.made.led c.touch.ensures.held c.touch.ensures.snapshot
       c.touch.ensures.slots
       (c.in-Ok.ensures.made.follows (sides_of state st.pages) st.tables));
   page = tt;
-  beside = ((refl, subst (λ n. LetsWrite (page_of c.args.addr) n c.args.self.now.tables c.touch.new.self) c.page_count-count.ensures.count c.in-Ok.ensures.writable), refl, refl);
+  beside = ((refl, subst (λ n. LetsWrite (page_of c.args.addr) n c.args.self.now.tables c.touch.new.self) c.page_count-count.ensures.count
+      c.in-Ok.ensures.writable), refl, refl);
 }
 
 pub returns-in-Err : goal.returns-in-Err
 returns-in-Err g c = record {
   ran = λ machine state st.
       (touched-no_frame _ machine state st c.args.addr c.args.len _ c.page_count-count.ensures.count
-      (ap (outside c.args.self.now.areas (page_of c.args.addr)) c.page_count-count.ensures.count ∙ c.requires.allowed.0) c.requires.some (ap (unwritable c.args.self.now.areas (page_of c.args.addr)) c.page_count-count.ensures.count ∙ c.requires.allowed.1)
+      (ap (outside c.args.self.now.areas (page_of c.args.addr)) c.page_count-count.ensures.count ∙ c.requires.stands.1.0) c.requires.some
+          (ap (unwritable c.args.self.now.areas (page_of c.args.addr)) c.page_count-count.ensures.count ∙ c.requires.stands.1.1)
       (sym (c.lacks_slots.ensures (sides_of state st.pages) st.tables) ∙ c.if-lacks_slots.false)
       c.touch.new.self c.in-Err.ensures.made.deals _ c.in-Err.ensures.made.led c.touch.ensures.held c.touch.ensures.snapshot
       c.touch.ensures.slots
@@ -69,7 +75,8 @@ returns-in-Err g c = record {
   ready = λ machine state st.
       touch-leaves _ _ machine state c.args.addr c.args.len _
       (touched-no_frame _ machine state st c.args.addr c.args.len _ c.page_count-count.ensures.count
-      (ap (outside c.args.self.now.areas (page_of c.args.addr)) c.page_count-count.ensures.count ∙ c.requires.allowed.0) c.requires.some (ap (unwritable c.args.self.now.areas (page_of c.args.addr)) c.page_count-count.ensures.count ∙ c.requires.allowed.1)
+      (ap (outside c.args.self.now.areas (page_of c.args.addr)) c.page_count-count.ensures.count ∙ c.requires.stands.1.0) c.requires.some
+          (ap (unwritable c.args.self.now.areas (page_of c.args.addr)) c.page_count-count.ensures.count ∙ c.requires.stands.1.1)
       (sym (c.lacks_slots.ensures (sides_of state st.pages) st.tables) ∙ c.if-lacks_slots.false)
       c.touch.new.self c.in-Err.ensures.made.deals _ c.in-Err.ensures.made.led c.touch.ensures.held c.touch.ensures.snapshot
       c.touch.ensures.slots
@@ -77,6 +84,7 @@ returns-in-Err g c = record {
       (c.in-Err.ensures.made.follows (sides_of state st.pages) st.tables));
   page = λ machine state st.
       page-lacks c.args.self.now.tables (sides_of state st.pages) st.tables c.args.addr c.args.len _ c.page_count-count.ensures.count
-      c.touch.new.self c.in-Err.ensures.made.deals c.in-Err.refused.at c.in-Err.refused.page (c.in-Err.ensures.made.follows (sides_of state st.pages) st.tables);
+      c.touch.new.self c.in-Err.ensures.made.deals c.in-Err.refused.at c.in-Err.refused.page
+          (c.in-Err.ensures.made.follows (sides_of state st.pages) st.tables);
   beside = ((refl, c.in-Err.ensures.writable), refl, refl);
 }
