@@ -10,6 +10,11 @@ pub mod Filled
 pub mod FrontReads
 pub mod Fronts
 pub mod FrozenReads
+pub mod ListedChains
+pub mod ListedParts
+pub mod ListedStore
+pub mod SortedPairs
+pub mod ListedPairs
 pub mod Pieces
 pub mod WalkLemmas
 pub mod Touched

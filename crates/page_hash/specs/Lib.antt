@@ -1,6 +1,7 @@
 pub mod Blocks
 pub mod HashCalls
 pub mod Listing
+pub mod Chains
 pub mod Lookups
 pub mod Walks
 pub mod Clears

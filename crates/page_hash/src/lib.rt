@@ -9,8 +9,10 @@ mod clearing;
 mod doubling;
 mod found;
 mod frozen_reads;
+mod gathering;
 mod key_hash;
 mod layout;
+mod listing;
 mod lookups;
 mod opening;
 mod page_words;
@@ -27,6 +29,7 @@ mod words;
 
 pub use clearing::clear;
 pub use found::{Found, PairsFault};
+pub use listing::pairs;
 pub use lookups::{find, get, len, value};
 pub use opening::begin;
 pub use putting::put;
