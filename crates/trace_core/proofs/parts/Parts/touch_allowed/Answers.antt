@@ -1,4 +1,4 @@
-use Rattle.std.proofs.Common.{Some, refl, sym, ◌∙◌, subst}
+use Rattle.std.proofs.Common.{Some, refl, sym, ◌∙◌, ap, subst}
 use Rattle.page_tables.specs.Permissions.{LetsWrite}
 use Rattle.vm_base.specs.Places.{page_of}
 use Rattle.vm_base.specs.FlatStep.{outside, unwritable}
