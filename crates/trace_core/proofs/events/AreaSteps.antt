@@ -71,4 +71,5 @@ module _ (areas : List Area) (page end : ℕ) (area : Area) (found : IsFound are
       → first_of now (unwritable areas (area.first + area.pages) (end - (area.first + area.pages)))
       ≡ first_of so_far (unwritable areas page (end - page))
   read_only-behind below so_far now same =
-      ap (λ o. first_of o (unwritable areas (area.first + area.pages) (end - (area.first + area.pages)))) same ∙ read_only-passed below so_far
+      ap (λ o. first_of o (unwritable areas (area.first + area.pages) (end - (area.first + area.pages)))) same
+      ∙ read_only-passed below so_far

@@ -76,7 +76,8 @@ lets old new page may keeps = record {
 pub ready-lets : (addr n : ℕ) → 0 < n → offset_of addr + n ≤ 4096 → (old new : PageTables) → may_write old (page_of addr) ≡ true
     → KeepsWriting old new → WritesAfterWrite addr n Done old new
 ready-lets addr n some within old new may keeps =
-    (Ok tt, (refl, subst (λ k. LetsWrite (page_of addr) k old new) (sym (one-page addr n some within)) (lets old new (page_of addr) may keeps)))
+    (Ok tt, (refl, subst (λ k. LetsWrite (page_of addr) k old new) (sym (one-page addr n some within))
+        (lets old new (page_of addr) may keeps)))
 
 -- the parts are as they were where the tables are
 pub same-parts : (parts : KernelParts) (new : PageTables) → new ≡ parts.tables → record parts { tables = new } ≡ parts
@@ -89,4 +90,5 @@ ran-again old mid new machine end outcome same ran = subst (λ parts. EventRan p
 
 pub writes-again : (address n : ℕ) (outcome : Outcome) (old mid : KernelParts) (new : PageTables) → mid ≡ old
     → WritesAfterWrite address n outcome mid.tables new → WritesAfterWrite address n outcome old.tables new
-writes-again address n outcome old mid new same writes = subst (λ parts. WritesAfterWrite address n outcome parts.tables new) same writes
+writes-again address n outcome old mid new same writes =
+    subst (λ parts. WritesAfterWrite address n outcome parts.tables new) same writes

@@ -19,7 +19,8 @@ returns-then-store_ready-clause-writable g c = c.store_ready.ensures.writable c.
 pub returns-else-store_ready-clause-ran : goal.returns-else-store_ready-clause-ran
 returns-else-store_ready-clause-ran g c = λ machine state st.
     let same = c.store_ready.ensures.kept c.if-store_ready.false in
-    ran-again _ _ _ machine _ _ same (c.touch_and_store.ensures.ran machine state (subst (λ parts. KernelStands parts machine state) (sym same) st))
+    ran-again _ _ _ machine _ _ same
+    (c.touch_and_store.ensures.ran machine state (subst (λ parts. KernelStands parts machine state) (sym same) st))
 
 pub returns-else-store_ready-clause-writable : goal.returns-else-store_ready-clause-writable
 returns-else-store_ready-clause-writable g c =
