@@ -57,7 +57,7 @@ module _ (areas : List Area) (page end : ℕ) (area : Area) (found : IsFound are
   -- the lowest page that may only be read, so far or of the rest
   read_only-passed : page < end → (so_far : Option ℕ)
       → first_of (or_read_only so_far page area.perm) (unwritable areas (area.first + area.pages)
-          (end - (area.first + area.pages))) ≡ first_of so_far (unwritable areas page (end - page))
+      (end - (area.first + area.pages))) ≡ first_of so_far (unwritable areas page (end - page))
   read_only-passed below (Some it) = refl
   read_only-passed below None = by (is_writable area.perm) refl
     where

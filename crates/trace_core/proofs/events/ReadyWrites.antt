@@ -29,7 +29,7 @@ use Rattle.trace_core.proofs.events.Writes.{TouchRan, touched-done}
 pub one-page : (addr n : ℕ) → 0 < n → offset_of addr + n ≤ 4096 → page_count addr n ≡ 1
 one-page addr n some within =
     let full : page_count addr n ≡ page_of (addr + n - 1) + 1 - page_of addr = ap
-        (λ b. cond b 0 (page_of (addr + n - 1) + 1 - page_of addr)) (ne_eqb n 0 (λ e. omega arith)) in
+    (λ b. cond b 0 (page_of (addr + n - 1) + 1 - page_of addr)) (ne_eqb n 0 (λ e. omega arith)) in
     let last : page_of (addr + n - 1) ≡ page_of addr = omega arith in
     full ∙ omega (arith, last)
 
@@ -42,9 +42,9 @@ module _ (parts : KernelParts) (addr : ℕ) (bytes : List ℕ) (some : 0 < lengt
       (allowed : AreasAllow parts.areas (page_of addr) (page_count addr (length bytes)))
       (alone : (sides : Sides) → TablesStandFor parts.tables sides → IsPageReady sides.leaves (page_of addr))
       (stored : (sides : Sides) → TablesStandFor parts.tables sides
-          → TablesStandFor new (record sides { pages = with_bytes sides.pages addr bytes }))
+      → TablesStandFor new (record sides { pages = with_bytes sides.pages addr bytes }))
       (held : frames_of new ≡ frames_of parts.tables) (snapshot : HasSameSnapshot parts.tables new)
-          (slots : slot_count new ≡ slot_count parts.tables) where
+      (slots : slot_count new ≡ slot_count parts.tables) where
     ready : IsPageReady state.leaves (page_of addr)
     ready = alone (sides_of state st.pages) st.tables
 
@@ -75,9 +75,14 @@ lets old new page may keeps = record {
 -- so may that of bytes within one page
 pub ready-lets : (addr n : ℕ) → 0 < n → offset_of addr + n ≤ 4096 → (old new : PageTables) → may_write old (page_of addr) ≡ true
     → KeepsWriting old new → WritesAfterWrite addr n Done old new
-ready-lets addr n some within old new may keeps =
-    (Ok tt, (refl, subst (λ k. LetsWrite (page_of addr) k old new) (sym (one-page addr n some within))
-        (lets old new (page_of addr) may keeps)))
+ready-lets addr n some within old new may keeps = (
+  Ok tt,
+  (
+    refl,
+    subst (λ k. LetsWrite (page_of addr) k old new) (sym (one-page addr n some within))
+        (lets old new (page_of addr) may keeps),
+  ),
+)
 
 -- the parts are as they were where the tables are
 pub same-parts : (parts : KernelParts) (new : PageTables) → new ≡ parts.tables → record parts { tables = new } ≡ parts

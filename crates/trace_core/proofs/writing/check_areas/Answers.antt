@@ -32,5 +32,5 @@ returns-in-None-lowest-clause-allowed c = (
   sym c.loop-page.invariant.left ∙ none-left c.args.areas.now c.loop-page.page (c.args.first + c.args.count) (omega arith),
   sym c.loop-page.invariant.read_only ∙ ap (λ o. first_of o (unwritable c.args.areas.now c.loop-page.page
       (c.args.first + c.args.count - c.loop-page.page))) c.in-None-lowest.is
-  ∙ none-unwritable c.args.areas.now c.loop-page.page (c.args.first + c.args.count) (omega arith),
+      ∙ none-unwritable c.args.areas.now c.loop-page.page (c.args.first + c.args.count) (omega arith),
 )

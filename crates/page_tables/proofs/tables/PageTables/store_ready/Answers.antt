@@ -19,5 +19,10 @@ pub returns-in-None-clause-ready : goal.returns-in-None-clause-ready
 returns-in-None-clause-ready c = sym (ap is_some c.in-None.is) ∙ c.ready_slot.ensures.ready
 
 pub returns-in-None-clause-kept : goal.returns-in-None-clause-kept
-returns-in-None-clause-kept c = record { held = refl; cells = record { frames = refl; shares = refl }; writable = λ page. refl;
-    snapshot = refl; slots = refl }
+returns-in-None-clause-kept c = record {
+  held = refl;
+  cells = record { frames = refl; shares = refl };
+  writable = λ page. refl;
+  snapshot = refl;
+  slots = refl;
+}

@@ -11,7 +11,7 @@ pub returns-clause-ran : goal.returns-clause-ran
 returns-clause-ran g c = λ stored machine state st.
     ready-ran _ c.args.addr c.args.bytes.now c.requires.some (omega arith) c.store_ready.new.self machine state st c.requires.stands.1
     (c.store_ready.ensures.alone stored) (c.store_ready.ensures.stored stored) c.store_ready.ensures.kept.held
-        c.store_ready.ensures.kept.snapshot c.store_ready.ensures.kept.slots
+    c.store_ready.ensures.kept.snapshot c.store_ready.ensures.kept.slots
 
 pub returns-clause-writable : goal.returns-clause-writable
 returns-clause-writable g c = λ stored.

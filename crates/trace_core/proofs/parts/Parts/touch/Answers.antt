@@ -17,6 +17,13 @@ returns-in-Err g c = record {
       (touched-refused _ machine state st c.args.addr c.args.len _ c.page_count.ensures.count c.in-Err.fault c.in-Err.ensures.refused);
   page = λ machine state st. refused-lacks c.args.self.now.areas c.args.addr c.args.len _ state.world.parent c.in-Err.fault
       c.in-Err.ensures.refused;
-  beside = ((refl, refused-writes c.args.self.now.areas c.args.addr _ c.args.self.now.tables c.in-Err.fault
-      c.in-Err.ensures.refused), refl, refl);
+  beside = (
+    (
+      refl,
+      refused-writes c.args.self.now.areas c.args.addr _ c.args.self.now.tables c.in-Err.fault
+          c.in-Err.ensures.refused,
+    ),
+    refl,
+    refl,
+  );
 }

@@ -8,7 +8,7 @@ use Rattle.trace_core.proofs.parts.Parts.write_allowed.Goals as goal
 pub touch_and_store-requires-clause-stands : goal.touch_and_store-requires-clause-stands
 touch_and_store-requires-clause-stands g c =
     subst (λ parts. LetsTouch parts c.args.addr (length c.args.bytes.now)) (sym (c.store_ready.ensures.kept c.if-store_ready.false))
-        c.requires.stands
+    c.requires.stands
 
 pub returns-then-store_ready-clause-ran : goal.returns-then-store_ready-clause-ran
 returns-then-store_ready-clause-ran g c = c.store_ready.ensures.ran c.if-store_ready.true
