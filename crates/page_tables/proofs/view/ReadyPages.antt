@@ -1,8 +1,8 @@
 -- The touch of a page that may be stored to makes no deal and changes nothing, and its cell has a slot.
-use Rattle.std.proofs.Common.{◌≡◌, ℕ, ◌+◌, ◌-◌, ◌%◌, ◌<◌, ◌≤◌, List, [], ◌∷◌, ◌++◌, length, Option, Some, None, cond, refl, sym, ◌∙◌, ap, subst, arith, nat_lt}
+use Rattle.std.proofs.Common.{◌≡◌, ℕ, ◌+◌, ◌-◌, ◌%◌, [], ◌∷◌, length, Option, Some, None, cond, refl, sym, ◌∙◌, ap, subst, arith, nat_lt}
 use Rattle.std.specs.Prelude.{Bool, true, false, not, ◌&&◌, is_some}
 use Rattle.std.specs.List.{range_with_len}
-use Rattle.std.specs.FinMap.{get, insert}
+use Rattle.std.specs.FinMap.{insert}
 use Rattle.std.proofs.lemmas.Bool.{false≢true}
 use Rattle.std.proofs.lemmas.Bool.Decides.{nat_tests}
 use Rattle.std.proofs.lemmas.List.{append-nil}
@@ -13,7 +13,7 @@ use Rattle.vm_base.specs.FlatStep.{with_pages}
 use Rattle.kernel_meaning.specs.Leaves.{CellLeaves, version_at, is_named, has_pages}
 use Rattle.kernel_meaning.specs.FrameLaw.{cell_at, lacks_slots, used_cells, cells_without_slot}
 use Rattle.kernel_meaning.specs.CellActs.{Course, asking, coming_answer, course_touched, page_copy_answered}
-use Rattle.kernel_meaning.specs.EventRequests.{page_touched, pages_touched, touch_goes_on}
+use Rattle.kernel_meaning.specs.EventRequests.{page_touched, touch_goes_on}
 use Rattle.leaf_cell.specs.CellView.{AreUnjoined}
 use Rattle.leaf_cell.specs.Touching.{is_named_too}
 use Rattle.leaf_cell.proofs.AllowedPages.{unshared-alone}

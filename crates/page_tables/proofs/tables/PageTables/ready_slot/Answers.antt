@@ -1,11 +1,9 @@
 -- The entry is read where the directory has the cell.
-use Rattle.std.proofs.Common.{◌≡◌, ◌%◌, Some, None, refl, sym, ◌∙◌, ap, subst}
+use Rattle.std.proofs.Common.{◌≡◌, Some, None, refl, sym, ◌∙◌, ap, subst}
 use Rattle.std.specs.Prelude.{true}
 use Rattle.std.specs.List.{slice_get}
 use Rattle.std.specs.FinMap.{get}
-use Rattle.std.proofs.lemmas.Bool.{false≢true}
 use Rattle.vm_base.specs.Places.{cell_of}
-use Rattle.leaf_cell.specs.CellView.{AreUnjoined}
 use Rattle.leaf_cell.specs.Touching.{IsAlone}
 use Rattle.leaf_cell.specs.Writable.{writable_at}
 use Rattle.page_tables.specs.Permissions.{may_write}

@@ -1,8 +1,7 @@
 -- The cell of the page takes the bytes.
-use Rattle.std.proofs.Common.{◌≡◌, ℕ, ◌+◌, sym, ◌∙◌, ap, refl, arith}
+use Rattle.std.proofs.Common.{◌≡◌, ℕ, ◌+◌, ap, refl, arith}
 use Rattle.std.specs.Prelude.{slice_set}
 use Rattle.std.specs.Vec.{with_item}
-use Rattle.std.specs.FinMap.{get}
 use Rattle.vm_base.specs.Places.{page_of, cell_of}
 use Rattle.leaf_cell.specs.CellView.{held_of}
 use Rattle.leaf_cell.specs.Touching.{IsAlone}

@@ -1,7 +1,7 @@
 -- The areas judge, and then the pages are touched.
-use Rattle.std.proofs.Common.{refl, sym, subst}
+use Rattle.std.proofs.Common.{refl, subst}
 use Rattle.vm_base.specs.Places.{page_of}
-use Rattle.trace_core.specs.TouchAnswers.{AreasAllow, AreasRefuse}
+use Rattle.trace_core.specs.TouchAnswers.{AreasAllow}
 use Rattle.trace_core.proofs.events.Writes.{touch-leaves, touched-refused, refused-lacks, refused-writes}
 use Rattle.trace_core.proofs.parts.Parts.touch.Goals as goal
 
