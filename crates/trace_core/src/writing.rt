@@ -87,24 +87,24 @@ impl Parts {
         ensures ran { (machine : Machine) (state : KernelState)
             → KernelStands (⟦<Parts as Standing>⟧.parts self.old) machine state
             → EventRan (⟦<Parts as Standing>⟧.parts self.old) (⟦<Parts as Standing>⟧.parts self.new)
-                machine
+            machine
             (λ answers. touch_judged machine state answers addr len
-                (touch_of state.world.parent addr len)) (touch_outcome result) }
+            (touch_of state.world.parent addr len)) (touch_outcome result) }
         ensures ready { (machine : Machine) (state : KernelState)
             → KernelStands (⟦<Parts as Standing>⟧.parts self.old) machine state
             → LeavesReady (⟦<Parts as Standing>⟧.parts self.new) machine state.leaves addr len
-                result }
+            result }
         ensures page { IfErr result (λ fault. (machine : Machine) (state : KernelState)
             → KernelStands (⟦<Parts as Standing>⟧.parts self.old) machine state
             → LacksPage state.world.parent addr len fault) }
         ensures beside { (((⟦<Parts as Standing>⟧.parts self.new).areas
             ≡ (⟦<Parts as Standing>⟧.parts self.old).areas)
             × WritesAfterTouch addr len result (⟦<Parts as Standing>⟧.parts self.old).tables
-                (⟦<Parts as Standing>⟧.parts self.new).tables)
+            (⟦<Parts as Standing>⟧.parts self.new).tables)
             × ((⟦<Parts as Standing>⟧.parts self.new).snapshot
-                ≡ (⟦<Parts as Standing>⟧.parts self.old).snapshot)
+            ≡ (⟦<Parts as Standing>⟧.parts self.old).snapshot)
             × ((⟦<Parts as Standing>⟧.parts self.new).last
-                ≡ (⟦<Parts as Standing>⟧.parts self.old).last) }
+            ≡ (⟦<Parts as Standing>⟧.parts self.old).last) }
     {
         let first = addr / PAGE_BYTES;
         let count = page_count(addr, len);
@@ -169,7 +169,7 @@ impl Parts {
         ensures ran { (machine : Machine) (state : KernelState)
             → KernelStands (⟦<Parts as Standing>⟧.parts self.old) machine state
             → EventRan (⟦<Parts as Standing>⟧.parts self.old) (⟦<Parts as Standing>⟧.parts self.new)
-                machine (λ answers. written machine state answers addr bytes.now) result }
+            machine (λ answers. written machine state answers addr bytes.now) result }
         ensures writable { WritesAfterWrite addr (length bytes.now) result
             (⟦<Parts as Standing>⟧.parts self.old).tables
             (⟦<Parts as Standing>⟧.parts self.new).tables }
@@ -190,11 +190,11 @@ impl Parts {
         ensures ran { result ≡ true → (machine : Machine) (state : KernelState)
             → KernelStands (⟦<Parts as Standing>⟧.parts self.old) machine state
             → EventRan (⟦<Parts as Standing>⟧.parts self.old) (⟦<Parts as Standing>⟧.parts self.new)
-                machine (λ answers. written machine state answers addr bytes.now) Done }
+            machine (λ answers. written machine state answers addr bytes.now) Done }
         ensures writable { result ≡ true
             → WritesAfterWrite addr (length bytes.now) Done
-                (⟦<Parts as Standing>⟧.parts self.old).tables
-                (⟦<Parts as Standing>⟧.parts self.new).tables }
+            (⟦<Parts as Standing>⟧.parts self.old).tables
+            (⟦<Parts as Standing>⟧.parts self.new).tables }
         ensures kept { result ≡ false
             → ⟦<Parts as Standing>⟧.parts self.new ≡ ⟦<Parts as Standing>⟧.parts self.old }
     {
@@ -213,7 +213,7 @@ impl Parts {
         ensures ran { (machine : Machine) (state : KernelState)
             → KernelStands (⟦<Parts as Standing>⟧.parts self.old) machine state
             → EventRan (⟦<Parts as Standing>⟧.parts self.old) (⟦<Parts as Standing>⟧.parts self.new)
-                machine (λ answers. written machine state answers addr bytes.now) result }
+            machine (λ answers. written machine state answers addr bytes.now) result }
         ensures writable { WritesAfterWrite addr (length bytes.now) result
             (⟦<Parts as Standing>⟧.parts self.old).tables
             (⟦<Parts as Standing>⟧.parts self.new).tables }
@@ -328,13 +328,7 @@ fn lowest_read_only(lowest: Option<u64>, page: u64, perm: Perm) -> Option<u64>
 {
     match lowest {
         Some(page) => Some(page),
-        None => {
-            if is_read_only(perm) {
-                Some(page)
-            } else {
-                None
-            }
-        }
+        None => { if is_read_only(perm) { Some(page) } else { None } }
     }
 }
 

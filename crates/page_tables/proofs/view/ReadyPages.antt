@@ -1,8 +1,8 @@
 -- The touch of a page that may be stored to makes no deal and changes nothing, and its cell has a slot.
-use Rattle.std.proofs.Common.{◌≡◌, ℕ, ◌+◌, ◌-◌, ◌%◌, ◌<◌, ◌≤◌, List, [], ◌∷◌, ◌++◌, length, Option, Some, None, cond, refl, sym, ◌∙◌, ap, subst, arith, nat_lt}
+use Rattle.std.proofs.Common.{◌≡◌, ℕ, ◌+◌, ◌-◌, ◌%◌, [], ◌∷◌, length, Option, Some, None, cond, refl, sym, ◌∙◌, ap, subst, arith, nat_lt}
 use Rattle.std.specs.Prelude.{Bool, true, false, not, ◌&&◌, is_some}
 use Rattle.std.specs.List.{range_with_len}
-use Rattle.std.specs.FinMap.{get, insert}
+use Rattle.std.specs.FinMap.{insert}
 use Rattle.std.proofs.lemmas.Bool.{false≢true}
 use Rattle.std.proofs.lemmas.Bool.Decides.{nat_tests}
 use Rattle.std.proofs.lemmas.List.{append-nil}
@@ -13,7 +13,7 @@ use Rattle.vm_base.specs.FlatStep.{with_pages}
 use Rattle.kernel_meaning.specs.Leaves.{CellLeaves, version_at, is_named, has_pages}
 use Rattle.kernel_meaning.specs.FrameLaw.{cell_at, lacks_slots, used_cells, cells_without_slot}
 use Rattle.kernel_meaning.specs.CellActs.{Course, asking, coming_answer, course_touched, page_copy_answered}
-use Rattle.kernel_meaning.specs.EventRequests.{page_touched, pages_touched, touch_goes_on}
+use Rattle.kernel_meaning.specs.EventRequests.{page_touched, touch_goes_on}
 use Rattle.leaf_cell.specs.CellView.{AreUnjoined}
 use Rattle.leaf_cell.specs.Touching.{is_named_too}
 use Rattle.leaf_cell.proofs.AllowedPages.{unshared-alone}
@@ -62,9 +62,9 @@ module _ (tables : PageTables) (sides : Sides) (st : TablesStandFor tables sides
       by None absent = absurd (false≢true (sym (ap is_some absent) ∙ ready.present))
       by (Some version) there =
           touched-present p start (subst (λ it. AreUnjoined it.kept) (sym same) (st.kept.unjoined c)) version
-              (ap (λ it. version_at it.parent p) same ∙ there)
+          (ap (λ it. version_at it.parent p) same ∙ there)
           ∙ ap (λ b. cond b (page_copy_answered p version (coming_answer start) (asking want.Page start)) start)
-              (ap (λ it. is_named it p version) same ∙ unnamed version there)
+          (ap (λ it. is_named it p version) same ∙ unnamed version there)
 
   at-cell : RunsAt (course_touched p) cell sides.made [] cell sides.made None
   at-cell = record {
@@ -100,7 +100,7 @@ module _ (tables : PageTables) (sides : Sides) (st : TablesStandFor tables sides
       let last : page + 1 - 1 ≡ page = omega arith in
       let one : cell_of (page + 1 - 1) + 1 - c ≡ 1 = ap (λ q. cell_of q + 1 - c) last ∙ omega arith in
       let found : cells_without_slot sides.leaves (c ∷ []) ≡ [] = ap (λ b. cond (not b) (c ∷ []) [])
-          (known-found tables sides st c (st.parent c ∙ had)) in
+      (known-found tables sides st c (st.parent c ∙ had)) in
       let none : nat_lt left 0 ≡ false = grind (arith, nat_tests) in
       ap (λ n. nat_lt left (length (cells_without_slot sides.leaves (range_with_len c n)))) one
       ∙ ap (λ cells. nat_lt left (length cells)) found ∙ none

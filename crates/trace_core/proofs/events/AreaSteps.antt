@@ -55,14 +55,21 @@ module _ (areas : List Area) (page end : ℕ) (area : Area) (found : IsFound are
       (λ q above below. ap is_read_only (found.all q (omega (arith, above, found.reached)) below) ∙ writable)
 
   -- the lowest page that may only be read, so far or of the rest
-  pub read_only-behind : page < end → (so_far : Option ℕ)
+  read_only-passed : page < end → (so_far : Option ℕ)
       → first_of (or_read_only so_far page area.perm) (unwritable areas (area.first + area.pages)
-          (end - (area.first + area.pages))) ≡ first_of so_far (unwritable areas page (end - page))
-  read_only-behind below (Some it) = refl
-  read_only-behind below None = by (is_writable area.perm) refl
+      (end - (area.first + area.pages))) ≡ first_of so_far (unwritable areas page (end - page))
+  read_only-passed below (Some it) = refl
+  read_only-passed below None = by (is_writable area.perm) refl
     where
       by : (b : Bool) → is_writable area.perm ≡ b → first_of (cond b None (Some page)) (unwritable areas (area.first + area.pages)
           (end - (area.first + area.pages))) ≡ unwritable areas page (end - page)
       by true writable = sym (unwritable-behind (ap not writable))
       by false read_only = sym (lowest_here (λ q. is_read_only (area_of areas q)) page end below
           (ap is_read_only (found.all page found.reached found.ahead) ∙ ap not read_only))
+
+  pub read_only-behind : page < end → (so_far now : Option ℕ) → now ≡ or_read_only so_far page area.perm
+      → first_of now (unwritable areas (area.first + area.pages) (end - (area.first + area.pages)))
+      ≡ first_of so_far (unwritable areas page (end - page))
+  read_only-behind below so_far now same =
+      ap (λ o. first_of o (unwritable areas (area.first + area.pages) (end - (area.first + area.pages)))) same
+      ∙ read_only-passed below so_far

@@ -1,9 +1,10 @@
 -- Bytes of one page that may be written to are stored: the touch before them makes no deal.
-use Rattle.std.proofs.Common.{◌≡◌, ℕ, ◌+◌, ◌-◌, ◌<◌, ◌≤◌, List, [], length, Result, Ok, None, cond, refl, sym, ◌∙◌, ap, subst, arith}
+use Rattle.std.proofs.Common.{◌≡◌, ℕ, ◌+◌, ◌-◌, ◌<◌, ◌≤◌, List, [], length, Ok, None, cond, refl, sym, ◌∙◌, ap, subst, arith}
 use Rattle.std.specs.Prelude.{true, false}
 use Rattle.std.proofs.lemmas.Bool.{ne_eqb}
 use Rattle.vm_base.specs.Places.{page_of, page_count, offset_of}
 use Rattle.vm_base.specs.FlatStep.{with_bytes}
+use Rattle.kernel_meaning.specs.Requests.{Answer}
 use Rattle.kernel_meaning.specs.FrameLaw.{lacks_slots}
 use Rattle.page_tables.specs.declared.tables.PageTables.{PageTables}
 use Rattle.page_tables.specs.Accesses.{IsPageReady}
@@ -14,9 +15,10 @@ use Rattle.page_tables.specs.Sides.{Sides}
 use Rattle.page_tables.specs.Standing.{TablesStandFor, slot_count}
 use Rattle.page_tables.specs.TablesView.{HasSameSnapshot}
 use Rattle.page_tables.proofs.view.ReadyPages.{ready-follows, ready-room}
+use Rattle.trace_events.specs.declared.outcome.Outcome.{Outcome}
 use Rattle.trace_events.specs.declared.outcome.Outcome.TheVariants.{Done}
 use Rattle.trace_core.specs.KernelState.{Machine, KernelState}
-use Rattle.trace_core.specs.EventMeaning.{written}
+use Rattle.trace_core.specs.EventMeaning.{EventEnd, written}
 use Rattle.trace_core.specs.KernelStanding.{KernelParts, KernelStands, EventRan, sides_of}
 use Rattle.trace_core.specs.TouchAnswers.{AreasAllow}
 use Rattle.trace_core.specs.Writing.{WritesAfterWrite}
@@ -27,7 +29,7 @@ use Rattle.trace_core.proofs.events.Writes.{TouchRan, touched-done}
 pub one-page : (addr n : ℕ) → 0 < n → offset_of addr + n ≤ 4096 → page_count addr n ≡ 1
 one-page addr n some within =
     let full : page_count addr n ≡ page_of (addr + n - 1) + 1 - page_of addr = ap
-        (λ b. cond b 0 (page_of (addr + n - 1) + 1 - page_of addr)) (ne_eqb n 0 (λ e. omega arith)) in
+    (λ b. cond b 0 (page_of (addr + n - 1) + 1 - page_of addr)) (ne_eqb n 0 (λ e. omega arith)) in
     let last : page_of (addr + n - 1) ≡ page_of addr = omega arith in
     full ∙ omega (arith, last)
 
@@ -40,9 +42,9 @@ module _ (parts : KernelParts) (addr : ℕ) (bytes : List ℕ) (some : 0 < lengt
       (allowed : AreasAllow parts.areas (page_of addr) (page_count addr (length bytes)))
       (alone : (sides : Sides) → TablesStandFor parts.tables sides → IsPageReady sides.leaves (page_of addr))
       (stored : (sides : Sides) → TablesStandFor parts.tables sides
-          → TablesStandFor new (record sides { pages = with_bytes sides.pages addr bytes }))
+      → TablesStandFor new (record sides { pages = with_bytes sides.pages addr bytes }))
       (held : frames_of new ≡ frames_of parts.tables) (snapshot : HasSameSnapshot parts.tables new)
-          (slots : slot_count new ≡ slot_count parts.tables) where
+      (slots : slot_count new ≡ slot_count parts.tables) where
     ready : IsPageReady state.leaves (page_of addr)
     ready = alone (sides_of state st.pages) st.tables
 
@@ -62,15 +64,36 @@ module _ (parts : KernelParts) (addr : ℕ) (bytes : List ℕ) (some : 0 < lengt
     ready-ran = ran-stored parts parts machine state addr bytes (record parts { tables = new }) refl touched.ran
         (stored-stands parts machine touched.ran.after addr bytes new touched.ran.stands stored held snapshot slots)
 
-  -- its page may be written to, as it might before
-  lets : may_write parts.tables (page_of addr) ≡ true → KeepsWriting parts.tables new → LetsWrite (page_of addr) 1 parts.tables new
-  lets may keeps = record {
-    within = λ q low high. let same : page_of addr ≡ q = omega (arith, low, high) in keeps q
-        ∙ subst (λ p. may_write parts.tables p ≡ true) same may;
-    still = λ q might. keeps q ∙ might;
-    apart = λ q beyond. keeps q;
-  }
+-- a page that might be written to still may
+lets : (old new : PageTables) (page : ℕ) → may_write old page ≡ true → KeepsWriting old new → LetsWrite page 1 old new
+lets old new page may keeps = record {
+  within = λ q low high. let same : page ≡ q = omega (arith, low, high) in keeps q ∙ subst (λ p. may_write old p ≡ true) same may;
+  still = λ q might. keeps q ∙ might;
+  apart = λ q beyond. keeps q;
+}
 
-  pub ready-lets : may_write parts.tables (page_of addr) ≡ true → KeepsWriting parts.tables new
-      → WritesAfterWrite addr (length bytes) Done parts.tables new
-  ready-lets may keeps = (Ok tt, (refl, subst (λ n. LetsWrite (page_of addr) n parts.tables new) (sym one) (lets may keeps)))
+-- so may that of bytes within one page
+pub ready-lets : (addr n : ℕ) → 0 < n → offset_of addr + n ≤ 4096 → (old new : PageTables) → may_write old (page_of addr) ≡ true
+    → KeepsWriting old new → WritesAfterWrite addr n Done old new
+ready-lets addr n some within old new may keeps = (
+  Ok tt,
+  (
+    refl,
+    subst (λ k. LetsWrite (page_of addr) k old new) (sym (one-page addr n some within))
+        (lets old new (page_of addr) may keeps),
+  ),
+)
+
+-- the parts are as they were where the tables are
+pub same-parts : (parts : KernelParts) (new : PageTables) → new ≡ parts.tables → record parts { tables = new } ≡ parts
+same-parts parts new same = ap (λ tables. record parts { tables = tables }) same
+
+-- what ran from such parts
+pub ran-again : (old mid new : KernelParts) (machine : Machine) (end : List Answer → EventEnd) (outcome : Outcome) → mid ≡ old
+    → EventRan mid new machine end outcome → EventRan old new machine end outcome
+ran-again old mid new machine end outcome same ran = subst (λ parts. EventRan parts new machine end outcome) same ran
+
+pub writes-again : (address n : ℕ) (outcome : Outcome) (old mid : KernelParts) (new : PageTables) → mid ≡ old
+    → WritesAfterWrite address n outcome mid.tables new → WritesAfterWrite address n outcome old.tables new
+writes-again address n outcome old mid new same writes =
+    subst (λ parts. WritesAfterWrite address n outcome parts.tables new) same writes

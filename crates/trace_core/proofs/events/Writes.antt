@@ -309,24 +309,24 @@ module _ (parts : KernelParts) (machine : Machine) (state : KernelState) (st : K
   touched-refused fault.CellsFull h = absurd h
 
 -- where the areas refuse a touch no page lacks a frame
-pub refused-lacks : (areas : List Area) (addr n count : ℕ) (memory : FlatMemory) (why : Fault) → AreasRefuse areas (page_of addr) count why
+pub refused-lacks : (areas : List Area) (addr n k : ℕ) (memory : FlatMemory) (why : Fault) → AreasRefuse areas (page_of addr) k why
     → LacksPage memory addr n why
-refused-lacks areas addr n count memory (fault.NoArea page) h = tt
-refused-lacks areas addr n count memory (fault.NoWrite page) h = tt
-refused-lacks areas addr n count memory (fault.NoFrame at page) h = absurd h
-refused-lacks areas addr n count memory (fault.Overlap page) h = absurd h
-refused-lacks areas addr n count memory fault.AreasFull h = absurd h
-refused-lacks areas addr n count memory fault.CellsFull h = absurd h
+refused-lacks areas addr n k memory (fault.NoArea page) h = tt
+refused-lacks areas addr n k memory (fault.NoWrite page) h = tt
+refused-lacks areas addr n k memory (fault.NoFrame at page) h = absurd h
+refused-lacks areas addr n k memory (fault.Overlap page) h = absurd h
+refused-lacks areas addr n k memory fault.AreasFull h = absurd h
+refused-lacks areas addr n k memory fault.CellsFull h = absurd h
 
 -- and just those pages may be written to that might before
-pub refused-writes : (areas : List Area) (addr count : ℕ) (tables : PageTables) (why : Fault) → AreasRefuse areas (page_of addr) count why
+pub refused-writes : (areas : List Area) (addr k : ℕ) (tables : PageTables) (why : Fault) → AreasRefuse areas (page_of addr) k why
     → WritesAfterFault addr why tables tables
-refused-writes areas addr count tables (fault.NoArea page) h = λ q. refl
-refused-writes areas addr count tables (fault.NoWrite page) h = λ q. refl
-refused-writes areas addr count tables (fault.NoFrame at page) h = absurd h
-refused-writes areas addr count tables (fault.Overlap page) h = absurd h
-refused-writes areas addr count tables fault.AreasFull h = absurd h
-refused-writes areas addr count tables fault.CellsFull h = absurd h
+refused-writes areas addr k tables (fault.NoArea page) h = λ q. refl
+refused-writes areas addr k tables (fault.NoWrite page) h = λ q. refl
+refused-writes areas addr k tables (fault.NoFrame at page) h = absurd h
+refused-writes areas addr k tables (fault.Overlap page) h = absurd h
+refused-writes areas addr k tables fault.AreasFull h = absurd h
+refused-writes areas addr k tables fault.CellsFull h = absurd h
 
 -- ---- reading, and the start
 

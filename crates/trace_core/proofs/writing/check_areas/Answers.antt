@@ -10,9 +10,8 @@ loop-page-preserved c =
     let found = subst (IsFound c.args.areas.now c.loop-page.page) (sym c.area.view_is) c.in-Some.ensures.found in
     record {
       left = sym (outside-behind c.args.areas.now c.loop-page.page (c.args.first + c.args.count) _ found) ∙ c.loop-page.invariant.left;
-      read_only = ap (λ o. first_of o _) c.lowest_read_only.ensures
-          ∙ read_only-behind c.args.areas.now c.loop-page.page (c.args.first + c.args.count) _ found c.loop-page-test.true
-              c.loop-page.lowest
+      read_only = read_only-behind c.args.areas.now c.loop-page.page (c.args.first + c.args.count) _ found c.loop-page-test.true
+          c.loop-page.lowest _ c.lowest_read_only-lowest.ensures
           ∙ c.loop-page.invariant.read_only;
     }
 
@@ -21,11 +20,11 @@ returns-in-None-clause-refused c =
     sym c.loop-page.invariant.left ∙ outside-here c.args.areas.now c.loop-page.page (c.args.first + c.args.count) c.loop-page-test.true
     (sym c.find.ensures.area ∙ c.in-None.is)
 
-pub returns-in-Some-clause-refused : goal.returns-in-Some-clause-refused
-returns-in-Some-clause-refused c = (
+pub returns-in-Some-lowest-clause-refused : goal.returns-in-Some-lowest-clause-refused
+returns-in-Some-lowest-clause-refused c = (
   sym c.loop-page.invariant.left ∙ none-left c.args.areas.now c.loop-page.page (c.args.first + c.args.count) (omega arith),
   sym c.loop-page.invariant.read_only ∙ ap (λ o. first_of o (unwritable c.args.areas.now c.loop-page.page
-      (c.args.first + c.args.count - c.loop-page.page))) c.in-Some.is,
+      (c.args.first + c.args.count - c.loop-page.page))) c.in-Some-lowest.is,
 )
 
 pub returns-in-None-lowest-clause-allowed : goal.returns-in-None-lowest-clause-allowed
@@ -33,5 +32,5 @@ returns-in-None-lowest-clause-allowed c = (
   sym c.loop-page.invariant.left ∙ none-left c.args.areas.now c.loop-page.page (c.args.first + c.args.count) (omega arith),
   sym c.loop-page.invariant.read_only ∙ ap (λ o. first_of o (unwritable c.args.areas.now c.loop-page.page
       (c.args.first + c.args.count - c.loop-page.page))) c.in-None-lowest.is
-  ∙ none-unwritable c.args.areas.now c.loop-page.page (c.args.first + c.args.count) (omega arith),
+      ∙ none-unwritable c.args.areas.now c.loop-page.page (c.args.first + c.args.count) (omega arith),
 )

@@ -1,8 +1,7 @@
 -- The cell of the page takes the bytes.
-use Rattle.std.proofs.Common.{◌≡◌, ℕ, ◌+◌, sym, ◌∙◌, ap, refl, arith}
+use Rattle.std.proofs.Common.{◌≡◌, ℕ, ◌+◌, ap, refl, arith}
 use Rattle.std.specs.Prelude.{slice_set}
 use Rattle.std.specs.Vec.{with_item}
-use Rattle.std.specs.FinMap.{get}
 use Rattle.vm_base.specs.Places.{page_of, cell_of}
 use Rattle.leaf_cell.specs.CellView.{held_of}
 use Rattle.leaf_cell.specs.Touching.{IsAlone}
@@ -30,25 +29,25 @@ pub index_mut-requires : goal.index_mut-requires
 index_mut-requires c =
     let known = c.requires.known in
     owned-index c.args.self.now.slots.items _ c.args.slot (cell_of (page_of c.args.addr)) c.args.self.now.slots.ok.0
-        (known-owner c.args.self.now (standing-ready c.args.self.now c.args.addr c.requires.stands) (cell_of (page_of c.args.addr))
-        c.args.slot known)
+    (known-owner c.args.self.now (standing-ready c.args.self.now c.args.addr c.requires.stands) (cell_of (page_of c.args.addr))
+    c.args.slot known)
 
 pub store-requires-clause-present : goal.store-requires-clause-present
 store-requires-clause-present c =
     let known = c.requires.known in
     let alone : IsAlone c.index_mut.result.now.cell.leaves c.location_of-location.result.page = known-alone c.requires.stands
-        (λ it. ready-view c.args.self.now it.0 it.1.0 c.args.addr c.args.slot c.args.bytes.now c.index_mut.result.now known
+    (λ it. ready-view c.args.self.now it.0 it.1.0 c.args.addr c.args.slot c.args.bytes.now c.index_mut.result.now known
     c.index_mut.ensures.value c.location_of-location.result.page c.location_of-location.result.at c.location_of-location.ensures.page
-        c.location_of-location.ensures.at it.1.1) in
+    c.location_of-location.ensures.at it.1.1) in
     alone.present
 
 pub store-requires-clause-unnamed : goal.store-requires-clause-unnamed
 store-requires-clause-unnamed c =
     let known = c.requires.known in
     let alone : IsAlone c.index_mut.result.now.cell.leaves c.location_of-location.result.page = known-alone c.requires.stands
-        (λ it. ready-view c.args.self.now it.0 it.1.0 c.args.addr c.args.slot c.args.bytes.now c.index_mut.result.now known
+    (λ it. ready-view c.args.self.now it.0 it.1.0 c.args.addr c.args.slot c.args.bytes.now c.index_mut.result.now known
     c.index_mut.ensures.value c.location_of-location.result.page c.location_of-location.result.at c.location_of-location.ensures.page
-        c.location_of-location.ensures.at it.1.1) in
+    c.location_of-location.ensures.at it.1.1) in
     alone.unnamed
 
 pub returns-clause-stored : goal.returns-clause-stored
@@ -56,7 +55,7 @@ returns-clause-stored c = λ sides st.
     let known = c.requires.known in
     stands-stored c.args.self.now sides st c.args.addr c.args.slot c.args.bytes.now c.index_mut.result.now known c.index_mut.ensures.value
     c.location_of-location.result.page c.location_of-location.result.at c.location_of-location.ensures.page
-        c.location_of-location.ensures.at c.store.new.self c.requires.room c.store.ensures.stored
+    c.location_of-location.ensures.at c.store.new.self c.requires.room c.store.ensures.stored
     (record {
       directory = c.args.self.now.directory;
       snapshot = c.args.self.now.snapshot;
@@ -111,7 +110,7 @@ returns-clause-kept c =
         slots = with_item c.args.self.now.slots c.args.slot new;
         even = c.self-2-1.given.1.0;
       }) refl (known-owner c.args.self.now stands)
-      (bits-set c.args.self.now.slots.items c.args.slot c.index_mut.result.now new here c.store.ensures.writable);
+          (bits-set c.args.self.now.slots.items c.args.slot c.index_mut.result.now new here c.store.ensures.writable);
       snapshot = refl;
       slots = length-set c.args.self.now.slots.items c.args.slot new;
     }

@@ -1,7 +1,6 @@
 -- The slot that was found is the cell's, and the page is the parent's alone there.
 use Rattle.std.proofs.Common.{refl, sym, ◌∙◌, ap}
 use Rattle.std.specs.Prelude.{is_some}
-use Rattle.std.proofs.lemmas.Bool.{false≢true}
 use Rattle.std.proofs.Math.Logic.{∥∥₁_map}
 use Rattle.page_tables.proofs.tables.PageTables.store_ready.Goals as goal
 
@@ -19,5 +18,10 @@ pub returns-in-None-clause-ready : goal.returns-in-None-clause-ready
 returns-in-None-clause-ready c = sym (ap is_some c.in-None.is) ∙ c.ready_slot.ensures.ready
 
 pub returns-in-None-clause-kept : goal.returns-in-None-clause-kept
-returns-in-None-clause-kept c = record { held = refl; cells = record { frames = refl; shares = refl }; writable = λ page. refl;
-    snapshot = refl; slots = refl }
+returns-in-None-clause-kept c = record {
+  held = refl;
+  cells = record { frames = refl; shares = refl };
+  writable = λ page. refl;
+  snapshot = refl;
+  slots = refl;
+}

@@ -1,4 +1,4 @@
-use Rattle.std.proofs.Common.{Some, refl, sym, ◌∙◌, subst}
+use Rattle.std.proofs.Common.{Some, refl, sym, ◌∙◌, ap, subst}
 use Rattle.page_tables.specs.Permissions.{LetsWrite}
 use Rattle.vm_base.specs.Places.{page_of}
 use Rattle.vm_base.specs.FlatStep.{outside, unwritable}
@@ -20,7 +20,7 @@ pub returns-then-lacks_slots-clause-ran : goal.returns-then-lacks_slots-clause-r
 returns-then-lacks_slots-clause-ran g c = λ machine state st.
     (touched-full _ machine state st c.args.addr c.args.len _ c.page_count-count.ensures.count
     (ap (outside c.args.self.now.areas (page_of c.args.addr)) c.page_count-count.ensures.count ∙ c.requires.stands.1.0) c.requires.some
-        (ap (unwritable c.args.self.now.areas (page_of c.args.addr)) c.page_count-count.ensures.count ∙ c.requires.stands.1.1)
+    (ap (unwritable c.args.self.now.areas (page_of c.args.addr)) c.page_count-count.ensures.count ∙ c.requires.stands.1.1)
     (sym (c.lacks_slots.ensures (sides_of state st.pages) st.tables) ∙ c.if-lacks_slots.true)).ran
 
 pub touch-requires-clause-stands : goal.touch-requires-clause-stands
@@ -42,7 +42,7 @@ returns-in-Ok g c = record {
   ran = λ machine state st.
       (touched-done _ machine state st c.args.addr c.args.len _ c.page_count-count.ensures.count
       (ap (outside c.args.self.now.areas (page_of c.args.addr)) c.page_count-count.ensures.count ∙ c.requires.stands.1.0) c.requires.some
-          (ap (unwritable c.args.self.now.areas (page_of c.args.addr)) c.page_count-count.ensures.count ∙ c.requires.stands.1.1)
+      (ap (unwritable c.args.self.now.areas (page_of c.args.addr)) c.page_count-count.ensures.count ∙ c.requires.stands.1.1)
       (sym (c.lacks_slots.ensures (sides_of state st.pages) st.tables) ∙ c.if-lacks_slots.false)
       c.touch.new.self c.in-Ok.ensures.made.deals _ c.in-Ok.ensures.made.led c.touch.ensures.held c.touch.ensures.snapshot
       c.touch.ensures.slots
@@ -51,14 +51,21 @@ returns-in-Ok g c = record {
       touch-leaves _ _ machine state c.args.addr c.args.len _
       (touched-done _ machine state st c.args.addr c.args.len _ c.page_count-count.ensures.count
       (ap (outside c.args.self.now.areas (page_of c.args.addr)) c.page_count-count.ensures.count ∙ c.requires.stands.1.0) c.requires.some
-          (ap (unwritable c.args.self.now.areas (page_of c.args.addr)) c.page_count-count.ensures.count ∙ c.requires.stands.1.1)
+      (ap (unwritable c.args.self.now.areas (page_of c.args.addr)) c.page_count-count.ensures.count ∙ c.requires.stands.1.1)
       (sym (c.lacks_slots.ensures (sides_of state st.pages) st.tables) ∙ c.if-lacks_slots.false)
       c.touch.new.self c.in-Ok.ensures.made.deals _ c.in-Ok.ensures.made.led c.touch.ensures.held c.touch.ensures.snapshot
       c.touch.ensures.slots
       (c.in-Ok.ensures.made.follows (sides_of state st.pages) st.tables));
   page = tt;
-  beside = ((refl, subst (λ n. LetsWrite (page_of c.args.addr) n c.args.self.now.tables c.touch.new.self) c.page_count-count.ensures.count
-      c.in-Ok.ensures.writable), refl, refl);
+  beside = (
+    (
+      refl,
+      subst (λ n. LetsWrite (page_of c.args.addr) n c.args.self.now.tables c.touch.new.self) c.page_count-count.ensures.count
+          c.in-Ok.ensures.writable,
+    ),
+    refl,
+    refl,
+  );
 }
 
 pub returns-in-Err : goal.returns-in-Err
@@ -66,7 +73,7 @@ returns-in-Err g c = record {
   ran = λ machine state st.
       (touched-no_frame _ machine state st c.args.addr c.args.len _ c.page_count-count.ensures.count
       (ap (outside c.args.self.now.areas (page_of c.args.addr)) c.page_count-count.ensures.count ∙ c.requires.stands.1.0) c.requires.some
-          (ap (unwritable c.args.self.now.areas (page_of c.args.addr)) c.page_count-count.ensures.count ∙ c.requires.stands.1.1)
+      (ap (unwritable c.args.self.now.areas (page_of c.args.addr)) c.page_count-count.ensures.count ∙ c.requires.stands.1.1)
       (sym (c.lacks_slots.ensures (sides_of state st.pages) st.tables) ∙ c.if-lacks_slots.false)
       c.touch.new.self c.in-Err.ensures.made.deals _ c.in-Err.ensures.made.led c.touch.ensures.held c.touch.ensures.snapshot
       c.touch.ensures.slots
@@ -76,7 +83,7 @@ returns-in-Err g c = record {
       touch-leaves _ _ machine state c.args.addr c.args.len _
       (touched-no_frame _ machine state st c.args.addr c.args.len _ c.page_count-count.ensures.count
       (ap (outside c.args.self.now.areas (page_of c.args.addr)) c.page_count-count.ensures.count ∙ c.requires.stands.1.0) c.requires.some
-          (ap (unwritable c.args.self.now.areas (page_of c.args.addr)) c.page_count-count.ensures.count ∙ c.requires.stands.1.1)
+      (ap (unwritable c.args.self.now.areas (page_of c.args.addr)) c.page_count-count.ensures.count ∙ c.requires.stands.1.1)
       (sym (c.lacks_slots.ensures (sides_of state st.pages) st.tables) ∙ c.if-lacks_slots.false)
       c.touch.new.self c.in-Err.ensures.made.deals _ c.in-Err.ensures.made.led c.touch.ensures.held c.touch.ensures.snapshot
       c.touch.ensures.slots
@@ -85,6 +92,6 @@ returns-in-Err g c = record {
   page = λ machine state st.
       page-lacks c.args.self.now.tables (sides_of state st.pages) st.tables c.args.addr c.args.len _ c.page_count-count.ensures.count
       c.touch.new.self c.in-Err.ensures.made.deals c.in-Err.refused.at c.in-Err.refused.page
-          (c.in-Err.ensures.made.follows (sides_of state st.pages) st.tables);
+      (c.in-Err.ensures.made.follows (sides_of state st.pages) st.tables);
   beside = ((refl, c.in-Err.ensures.writable), refl, refl);
 }

@@ -13,7 +13,7 @@ returns-in-Ok g c = record {
   ran = λ machine state st.
       let ran = c.in-Ok.ensures.ran machine state st in
       ran-stored _ _ machine state c.args.addr c.args.bytes.now _ c.store.ensures.others ran
-          (c.store.ensures.stored machine ran.after ran.stands);
+      (c.store.ensures.stored machine ran.after ran.stands);
   writable = (Ok tt, (refl, lets-kept _ _ _ _ _ c.in-Ok.ensures.beside.0.1 c.store.ensures.writable));
 }
 

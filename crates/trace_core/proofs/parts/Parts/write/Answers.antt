@@ -16,6 +16,12 @@ returns-in-Err g c = record {
   ran = λ machine state st. subst (EventRan _ _ machine _) (sym c.refused_by.ensures)
       (ran-unstored _ _ machine state c.args.addr c.args.bytes.now c.in-Err.fault
       (touched-refused _ machine state st c.args.addr _ _ c.page_count.ensures.count c.in-Err.fault c.in-Err.ensures.refused).ran);
-  writable = (Err c.in-Err.fault, (c.refused_by.ensures, refused-writes c.args.self.now.areas c.args.addr _ c.args.self.now.tables
-      c.in-Err.fault c.in-Err.ensures.refused));
+  writable = (
+    Err c.in-Err.fault,
+    (
+      c.refused_by.ensures,
+      refused-writes c.args.self.now.areas c.args.addr _ c.args.self.now.tables
+          c.in-Err.fault c.in-Err.ensures.refused,
+    ),
+  );
 }
