@@ -32,8 +32,9 @@ fn in_order(alloc: Global, mut pairs: Vec<Pair>) -> Result<PairList, PairsFault>
 }
 
 /// All pairs of a snapshot, in rising order of keys. It reads the header's fields, the array page
-/// by page, and of each block the head and then exactly its key and value. So it answers `Lost`
-/// only where a cell of these bytes is lost, with the count of the first one that it read.
+/// by page, and of each block the head and then exactly its key and value. `Lost` is answered only
+/// where a cell of these bytes is lost, with the count of the first one in the order of reading;
+/// `NoMemory` where memory for the pairs is wanted.
 pub fn pairs<Z: Frozen>(alloc: Global, z: &mut Z) -> Result<PairList, PairsFault>
     requires stands { (pairs : Pairs) × StandsForMap (Z.snapshot z.old).mem pairs }
     ensures pairs { IfOk result (λ list.
