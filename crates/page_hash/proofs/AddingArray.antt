@@ -1,30 +1,26 @@
 -- The new array of a doubling: mapped and touched, or taken out again.
-use Rattle.std.proofs.Common.{◌≡◌, ℕ, zero, suc, ◌+◌, ◌-◌, ◌*◌, ◌/◌, ◌^◌, ◌<◌, ◌≤◌, ◌⊎◌, min, max, eqb, cond, false, true, List, [], ◌∷◌, length, Result, Ok, OnOk, IfErr, Option, Some, None, IsSome, is_some, refl, sym, ◌∙◌, ap, ap₂, subst, arith, inl, inr, Contains, pow_pos, pow_mono}
-use Rattle.std.specs.FinMap.{get, retain_keys}
-use Rattle.std.proofs.lemmas.Bool.{cases_Bool, cases_eq, cases_lt, cond-true, cond-false, eq-eqb, ne_eqb, false≢true}
-use Rattle.vm_base.specs.declared.faults.Fault.{Fault}
-use Rattle.vm_base.specs.declared.permission.Perm.TheVariants.{ReadWrite}
-use Rattle.vm_base.specs.Counts.{Rose}
+use Rattle.std.proofs.Common.{◌≡◌, ℕ, ◌+◌, ◌-◌, ◌*◌, ◌/◌, ◌^◌, ◌<◌, ◌≤◌, ◌⊎◌, min, eqb, cond, List, [], length, Option, Some, None, IsSome, is_some, refl, sym, ◌∙◌, ap, ap₂, subst, arith, inl, inr, Contains, pow_pos, pow_mono}
+use Rattle.std.specs.FinMap.{get}
+use Rattle.std.proofs.lemmas.Bool.{cases_eq, cases_lt, cond-true, cond-false, eq-eqb, ne_eqb, false≢true}
 use Rattle.vm_base.specs.Places.{page_of, page_count, cell_of, cells_of_range}
-use Rattle.vm_base.specs.FlatMemory.{Area, PageMap, FlatMemory, area_of}
-use Rattle.vm_base.specs.FlatStep.{with_pages, is_beyond, taken, areas_without}
+use Rattle.vm_base.specs.FlatMemory.{PageMap, FlatMemory, area_of}
+use Rattle.vm_base.specs.FlatStep.{with_pages, is_beyond, areas_without}
 use Rattle.vm_base.specs.FlatLaws.{HasNumbersOf, IsBeyond, IsAmong, unmapped}
 use Rattle.vm_base.specs.MemoryState.{MemoryState, IsMemory, IsKept, IsListed, own_of}
-use Rattle.vm_base.specs.MemoryCalls.{IsReady, IsInRange, Maps, Changes, Refuses, map_answer, unmap_answer, touched}
+use Rattle.vm_base.specs.MemoryCalls.{touched}
 use Rattle.vm_base.proofs.FlatAreas.{cells-of_pages, taken-none}
 use Rattle.vm_base.proofs.FlatLaws.{get-unmapped, get-unmapped_beyond, get-unmapped_among, get-with_pages_beyond}
 use Rattle.vm_base.proofs.NumberedMaps.{same_numbered}
-use Rattle.store_meaning.specs.Layout.{array_a, array_b, array_pages, heap_at, store_area, store_cells, header_area, heap_area}
-use Rattle.store_meaning.specs.HashLayout.{Store, Pairs, IsStore, array_after, other_array}
-use Rattle.store_meaning.specs.Standing.{MayHoldStore, IsStanding}
+use Rattle.store_meaning.specs.Layout.{array_a, array_b, array_pages, store_area, store_cells}
+use Rattle.store_meaning.specs.HashLayout.{Store, Pairs}
+use Rattle.store_meaning.specs.Standing.{MayHoldStore}
 use Rattle.page_heap.proofs.Mapped.{mapped_by, unmapped_by}
 use Rattle.page_hash.specs.declared.arrays.Arrays.{Arrays}
 use Rattle.page_hash.specs.ArrayRelinking.{AreArrays}
 use Rattle.page_hash.specs.Doubling.{IsDue, IsFreshArea, TouchesArea, LeavesArea, AddsArray, LacksArray, areas_with_both}
 use Rattle.page_hash.proofs.StoreReads.{array_region}
-use Rattle.page_hash.proofs.Cleared.{may_kept, IsMapping, IsUnmapping}
+use Rattle.page_hash.proofs.Cleared.{IsMapping, IsUnmapping}
 use Rattle.page_hash.proofs.PresentTouch.{region_listed}
-use Rattle.page_hash.proofs.AreaTouch.{count_whole}
 use Rattle.page_hash.proofs.BothAreas.{AreRegions, one_array, map_both, out_new, unmap_one, new_free, new_listed}
 
 -- ---- what is due
@@ -72,6 +68,8 @@ due_arrays arrays facts = record {
   regions = facts.regions;
   some = omega (arith, facts.whole, facts.some);
   few = omega (arith, facts.whole, facts.few);
+  pages = facts.part;
+  whole = facts.whole;
 }
 
 -- ---- the new array's area

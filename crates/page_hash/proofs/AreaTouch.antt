@@ -1,14 +1,13 @@
 -- The pages of an area that are touched piece by piece.
-use Rattle.std.proofs.Common.{◌≡◌, ℕ, zero, suc, ◌+◌, ◌-◌, ◌*◌, ◌/◌, ◌^◌, ◌<◌, ◌≤◌, ◌⊎◌, min, max, eqb, List, Result, Ok, OnOk, IfErr, refl, sym, ◌∙◌, ap, subst, arith, inl, inr, Contains}
-use Rattle.std.proofs.lemmas.Bool.{cases_eq, cases_lt, cond-true, cond-false, eq-eqb, ne_eqb}
+use Rattle.std.proofs.Common.{◌≡◌, ℕ, zero, suc, ◌+◌, ◌-◌, ◌*◌, ◌<◌, ◌≤◌, ◌⊎◌, min, max, eqb, Ok, refl, sym, ◌∙◌, ap, subst, arith, inl, inr, Contains}
+use Rattle.std.proofs.lemmas.Bool.{cases_eq, cases_lt, cond-false, ne_eqb}
 use Rattle.vm_base.specs.declared.faults.Fault.{Fault}
 use Rattle.vm_base.specs.declared.faults.Fault.TheVariants.{NoArea, NoWrite, NoFrame, Overlap, AreasFull, CellsFull}
-use Rattle.vm_base.specs.Counts.{Rose}
 use Rattle.vm_base.specs.Places.{page_of, page_count, cells_of_range}
 use Rattle.vm_base.specs.FlatMemory.{PageMap, FlatMemory}
 use Rattle.vm_base.specs.FlatStep.{with_page, with_pages}
 use Rattle.vm_base.specs.MemoryState.{MemoryState, IsMemory, IsKept, own_of}
-use Rattle.vm_base.specs.MemoryCalls.{IsInRange, IsReady, Touches, TouchFails, touched, touch_answer}
+use Rattle.vm_base.specs.MemoryCalls.{IsReady, Touches, TouchFails, touched, touch_answer}
 use Rattle.vm_base.proofs.OwnFrames.{own-touched}
 use Rattle.vm_base.proofs.IsKeptOn.{IsKept-on}
 use Rattle.store_meaning.specs.Layout.{store_area, store_cells}

@@ -1,15 +1,14 @@
 -- A block that is linked anew: its touch is not refused, and its first word alone changes.
-use Rattle.std.proofs.Common.{◌≡◌, ℕ, ◌+◌, ◌-◌, ◌*◌, ◌<◌, ◌≤◌, ◌⊎◌, List, [], Result, OnOk, IfErr, IsSome, is_some, refl, sym, ◌∙◌, ap, subst, arith, inl, inr, Contains, eqb}
+use Rattle.std.proofs.Common.{◌≡◌, ℕ, ◌+◌, ◌-◌, ◌<◌, ◌≤◌, List, [], length, Result, OnOk, IfErr, is_some, refl, sym, ◌∙◌, ap, subst, arith, inl, inr, Contains, eqb}
 use Rattle.std.specs.FinMap.{get}
 use Rattle.std.proofs.lemmas.Bool.{false≢true, cases_eq, cond-true, cond-false, eq-eqb, ne_eqb}
 use Rattle.byteorder.specs.Endian.{big_bytes}
 use Rattle.vm_base.specs.declared.faults.Fault.{Fault}
 use Rattle.vm_base.specs.Places.{page_of, page_count, cell_of, cells_of_range}
 use Rattle.vm_base.specs.FlatMemory.{FlatMemory, IsFlat}
-use Rattle.vm_base.specs.FlatStep.{with_bytes}
 use Rattle.vm_base.specs.FlatLaws.{AreFullPages, HasNumbersOf}
-use Rattle.vm_base.specs.MemoryState.{MemoryState, IsMemory, IsKept, IsIn, IsListed}
-use Rattle.vm_base.specs.MemoryCalls.{IsInRange, IsReady, Touches, TouchFails, after_store}
+use Rattle.vm_base.specs.MemoryState.{MemoryState, IsMemory, IsKept, IsIn}
+use Rattle.vm_base.specs.MemoryCalls.{IsReady, Touches, TouchFails, after_store}
 use Rattle.vm_base.proofs.FlatAreas.{cells-of_pages}
 use Rattle.vm_base.proofs.FlatLaws.{is_some-with_bytes, full_from_flat}
 use Rattle.vm_base.proofs.IsKeptOn.{IsKept-on}
@@ -121,26 +120,18 @@ keeps_none state sound = record {
   kept = kept_none state store_cells sound;
 }
 
--- a word stored in pages that were touched keeps all else
-pub store_keeps : (old new : MemoryState) (at word : ℕ) → IsReady old at 8 → IsKept old new [] → new ≡ after_store old at (big_bytes 8 word)
-    → KeepsPlace old new
-store_keeps old new at word ready kept stored = record {
+-- bytes stored in pages that were touched keep all else
+pub store_keeps : (old new : MemoryState) (at : ℕ) (bytes : List ℕ) → IsReady old at (length bytes) → IsKept old new []
+    → new ≡ after_store old at bytes → KeepsPlace old new
+store_keeps old new at bytes ready kept stored = record {
   areas = ap (λ (s : MemoryState). s.mem.areas) stored;
   pages = λ page. ap (λ (s : MemoryState). is_some (get s.mem.present page)) stored
-      ∙ is_some-with_bytes old.mem.present at (big_bytes 8 word) (λ q inside. kept.before.present q (ready q inside)) page;
+      ∙ is_some-with_bytes old.mem.present at bytes (λ q inside. kept.before.present q (ready q inside)) page;
   most = ap (λ (s : MemoryState). s.most) stored;
   ready = λ page there. subst (λ (s : MemoryState). IsIn page s.ready) (sym stored) there;
   kept = IsKept-on old old new [] [] store_cells (kept_none old [] kept.before) kept (λ cell never. absurd (false≢true never))
       (λ cell never. absurd (false≢true never));
 }
-
--- a word of a range that may be stored to
-pub ready_word : (state : MemoryState) (base total at : ℕ) → 0 < total → base ≤ at → at + 8 ≤ base + total → IsReady state base total
-    → IsReady state at 8
-ready_word state base total at some low high ready page inside =
-    let count : page_count base total ≡ page_of (base + total - 1) + 1 - page_of base =
-    cond-false (eqb total 0) 0 _ (ne_eqb total 0 (λ none. omega (arith, none, some))) in
-    ready page (omega (arith, low, inside.0), omega (arith, high, inside.0, inside.1, count, some))
 
 -- what may be stored to still may
 pub ready_on : (old new : MemoryState) (base total : ℕ) → KeepsPlace old new → IsReady old base total → IsReady new base total

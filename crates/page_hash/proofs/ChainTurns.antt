@@ -1,20 +1,18 @@
 -- A chain that is linked anew as two, block by block.
-use Rattle.std.proofs.Common.{◌≡◌, ℕ, zero, suc, ◌+◌, ◌-◌, ◌*◌, ◌/◌, ◌%◌, ◌^◌, ◌<◌, ◌≤◌, ◌⊎◌, eqb, Bool, true, false, cond, List, [], ◌∷◌, ◌++◌, length, map, reverse, refl, sym, ◌∙◌, ap, subst, arith, inl, inr, length-append, append-nil}
-use Rattle.std.specs.Prelude.{if◌then◌else◌, slice_index, slice_set, is_some, IsSome}
+use Rattle.std.proofs.Common.{◌≡◌, ℕ, suc, ◌+◌, ◌-◌, ◌*◌, ◌/◌, ◌%◌, ◌^◌, ◌<◌, ◌≤◌, ◌⊎◌, Bool, true, false, List, [], ◌∷◌, ◌++◌, length, map, reverse, refl, sym, ◌∙◌, ap, subst, arith, inl, inr, append-nil}
+use Rattle.std.specs.Prelude.{if◌then◌else◌, slice_index, slice_set}
 use Rattle.std.specs.List.{AllByRecursion, filter}
-use Rattle.std.specs.FinMap.{get}
 use Rattle.std.proofs.Math.Nat.{div-add-mod, mod-lt, mul_comm, mul_assoc}
 use Rattle.std.proofs.lemmas.Nat.{mod-mul-add}
-use Rattle.std.proofs.lemmas.Bool.{cases_Bool, cases_eq, cond-true, cond-false, eq-eqb, ne_eqb}
+use Rattle.std.proofs.lemmas.Bool.{cases_Bool, cond-true, cond-false, eq-eqb, ne_eqb}
 use Rattle.std.proofs.lemmas.List.{append_assoc, map-append, reverse-append}
 use Rattle.byteorder.specs.Endian.{big_bytes, big_number}
 use Rattle.vm_base.specs.FlatMemory.{FlatMemory, IsFlat, bytes_at}
 use Rattle.vm_base.specs.FlatLaws.{AreApart, AreFullPages}
 use Rattle.vm_base.proofs.FlatLaws.{bytes_at-with_bytes_apart}
-use Rattle.store_meaning.specs.Layout.{heap_at, heap_end, word_at}
-use Rattle.store_meaning.specs.HeapLayout.{ArePresent}
-use Rattle.store_meaning.specs.HashLayout.{Entry, Holds, hash_of, pair_size}
-use Rattle.store_meaning.specs.Owned.{Range, entry_range, ArePairwiseApart}
+use Rattle.store_meaning.specs.Layout.{word_at}
+use Rattle.store_meaning.specs.HashLayout.{Entry, hash_of, pair_size}
+use Rattle.store_meaning.specs.Owned.{entry_range, ArePairwiseApart}
 use Rattle.store_meaning.proofs.Lists.{all_mono, all_left, all_right, all_both, all_map, map_all}
 use Rattle.store_meaning.proofs.Words.{word_at-stored, word_at-apart}
 use Rattle.store_meaning.proofs.HeapSteps.{KeepsPages, storing_keeps}

@@ -6,7 +6,7 @@ use Rattle.std.proofs.lemmas.List.{map-append}
 use Rattle.vm_base.specs.FlatLaws.{AreApart}
 use Rattle.store_meaning.specs.HashLayout.{Entry, Table, pair_size, chain_of, entries_of}
 use Rattle.store_meaning.specs.Owned.{Range, entry_range, ArePairwiseApart}
-use Rattle.store_meaning.proofs.Lists.{all_mono, all_left, all_right, all_both, all_map}
+use Rattle.store_meaning.proofs.Lists.{all_mono, all_left, all_right, all_map}
 use Rattle.store_meaning.proofs.Apart.{IsApartFrom}
 use Rattle.page_hash.specs.ArrayRelinking.{IsBesideChains}
 use Rattle.page_hash.proofs.MapEntries.{chain_part}

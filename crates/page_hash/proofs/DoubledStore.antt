@@ -1,8 +1,7 @@
 -- The store behind a doubling: all chains are linked anew, the header names the new array, and the old one is gone.
-use Rattle.std.proofs.Common.{◌≡◌, ℕ, zero, suc, ◌+◌, ◌-◌, ◌*◌, ◌/◌, ◌%◌, ◌^◌, ◌<◌, ◌≤◌, ◌⊎◌, eqb, Bool, true, false, List, [], ◌∷◌, ◌++◌, length, map, take, drop, get_or, reverse, Option, Some, None, unwrap_or, IsSome, is_some, refl, sym, ◌∙◌, ap, ap₂, subst, arith, inl, inr, Contains, All, IsPermutation, pow_mono}
+use Rattle.std.proofs.Common.{◌≡◌, ℕ, suc, ◌+◌, ◌-◌, ◌*◌, ◌/◌, ◌%◌, ◌^◌, ◌<◌, ◌≤◌, ◌⊎◌, Bool, true, List, [], ◌∷◌, ◌++◌, length, map, take, drop, reverse, Option, Some, None, unwrap_or, IsSome, is_some, refl, sym, ◌∙◌, ap, ap₂, subst, arith, inl, inr, Contains, All, IsPermutation, pow_mono}
 use Rattle.std.specs.List.{AllByRecursion, flat_map, filter, range_with_len}
 use Rattle.std.specs.FinMap.{get}
-use Rattle.std.proofs.Math.Nat.{mod-eq_of_lt, add-mod_left}
 use Rattle.std.proofs.lemmas.Bool.{cases_lt, cases_Bool, cond-true, cond-false, eqb-true}
 use Rattle.std.proofs.lemmas.List.{length-map}
 use Rattle.std.proofs.lemmas.List.Elements.{recursion_from_All, All-from_recursion}
@@ -13,9 +12,9 @@ use Rattle.vm_base.specs.FlatMemory.{FlatMemory, bytes_at}
 use Rattle.vm_base.specs.FlatStep.{with_bytes}
 use Rattle.vm_base.specs.FlatLaws.{AreApart, AreFullPages, unmapped}
 use Rattle.vm_base.proofs.FlatLaws.{bytes_at-with_bytes, bytes_at-with_bytes_apart, bytes_at-unmapped, get-unmapped_beyond, is_some-with_bytes}
-use Rattle.store_meaning.specs.Layout.{classes, header_at, heap_at, array_a, array_b, array_field, buckets_field, pairs_field, list_field, top_field, header_area, heap_area, store_area, store_areas, array_pages, word_at}
-use Rattle.store_meaning.specs.HeapLayout.{Block, IsHeap, Links, HalfIsPresent, free_of, block_bytes}
-use Rattle.store_meaning.specs.HashLayout.{Entry, Table, Store, Pairs, IsStore, IsTable, Holds, hash_of, pair_size, entry_block, entry_pair, chain_of, entries_of, other_array}
+use Rattle.store_meaning.specs.Layout.{classes, header_at, heap_at, array_a, array_field, list_field, top_field, header_area, heap_area, store_area, array_pages, word_at}
+use Rattle.store_meaning.specs.HeapLayout.{Block, Links, HalfIsPresent, free_of}
+use Rattle.store_meaning.specs.HashLayout.{Entry, Store, Pairs, IsStore, Holds, hash_of, entry_block, entry_pair, chain_of, entries_of, other_array}
 use Rattle.store_meaning.specs.StoreSteps.{doubled, relinked_chain}
 use Rattle.store_meaning.specs.Owned.{entry_range, free_range, header_ranges, bucket_ranges, block_ranges}
 use Rattle.store_meaning.proofs.Lists.{all_mono, all_map, map_all, all_among, all_permuted, class_within}
@@ -27,7 +26,7 @@ use Rattle.store_meaning.proofs.Apart.{IsApartFrom}
 use Rattle.store_meaning.proofs.OwnedApart.{owned-apart}
 use Rattle.page_hash.specs.declared.arrays.Arrays.{Arrays}
 use Rattle.page_hash.specs.Relinking.{IsHeldBlock, AreHeldBlocks, LinksFrom, places_of, is_of_bucket, turned_for}
-use Rattle.page_hash.specs.ArrayRelinking.{IsBesideChains, RelinksPart}
+use Rattle.page_hash.specs.ArrayRelinking.{RelinksPart}
 use Rattle.page_hash.specs.Doubling.{IsDue, new_area}
 use Rattle.page_hash.proofs.MapEntries.{chain_part}
 use Rattle.page_hash.proofs.Cleared.{part_at}
@@ -35,7 +34,7 @@ use Rattle.page_hash.proofs.ChainTurns.{LinksFrom-kept, both_hold}
 use Rattle.page_hash.proofs.ChainsApart.{pairwise_right, pairwise_across}
 use Rattle.page_hash.proofs.PartRelinks.{arrays_low, low_beside, turned_for_all}
 use Rattle.page_hash.proofs.AddingArray.{due_facts, due_arrays}
-use Rattle.page_hash.proofs.OldTable.{links_to, store_blocks}
+use Rattle.page_hash.proofs.OldTable.{links_to}
 use Rattle.page_hash.proofs.DoubledEntries.{relinked_low, relinked_high, doubled_entries}
 
 -- the bytes of the header's three fields

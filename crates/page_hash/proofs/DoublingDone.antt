@@ -1,5 +1,5 @@
 -- A doubling that was made, and one that was refused.
-use Rattle.std.proofs.Common.{◌≡◌, ℕ, ◌+◌, ◌-◌, ◌*◌, ◌/◌, ◌<◌, ◌≤◌, ◌⊎◌, max, min, cond, eqb, List, [], ◌∷◌, ◌++◌, length, map, Option, Some, None, IsSome, is_some, refl, sym, ◌∙◌, ap, subst, arith, inl, inr, Contains}
+use Rattle.std.proofs.Common.{◌≡◌, ℕ, ◌+◌, ◌-◌, ◌*◌, ◌/◌, ◌<◌, ◌≤◌, max, min, eqb, List, [], ◌∷◌, ◌++◌, length, map, Option, Some, None, IsSome, is_some, refl, sym, ◌∙◌, ap, subst, arith, inl, inr, Contains}
 use Rattle.std.specs.Prelude.{IsNone, unwrap_or}
 use Rattle.std.specs.FinMap.{get, len, len-entries, entries}
 use Rattle.std.proofs.lemmas.Bool.{cases_Bool, cond-true, cond-false, ne_eqb, false≢true}
@@ -20,7 +20,7 @@ use Rattle.store_meaning.specs.HeapLayout.{ArePresent}
 use Rattle.store_meaning.specs.HashLayout.{Store, Pairs, IsStore, StandsForMap, other_array, entry_pair, entries_of}
 use Rattle.store_meaning.specs.StoreSteps.{doubled, relinked_chain}
 use Rattle.store_meaning.specs.Reach.{Place, At, reach_of, reach_step}
-use Rattle.store_meaning.specs.Standing.{MayHoldStore, IsStanding, StaysStanding, Stands, KeepsWithin, Follows}
+use Rattle.store_meaning.specs.Standing.{MayHoldStore, IsStanding, StaysStanding, KeepsWithin, Follows}
 use Rattle.store_meaning.proofs.HeapSteps.{KeepsPages}
 use Rattle.store_meaning.proofs.Reaching.{reach_of-more, KeepsWithin-more}
 use Rattle.page_hash.specs.declared.arrays.Arrays.{Arrays}
@@ -33,7 +33,7 @@ use Rattle.page_hash.proofs.PartRelinks.{blocks_part}
 use Rattle.page_hash.proofs.BothAreas.{old_listed, others_listed}
 use Rattle.page_hash.proofs.AddingArray.{due_facts, due_arrays}
 use Rattle.page_hash.proofs.OldTable.{old_table}
-use Rattle.page_hash.proofs.DoubledStore.{DoublingSteps, fields_of, doubled_is}
+use Rattle.page_hash.proofs.DoubledStore.{fields_of, doubled_is}
 use Rattle.page_hash.proofs.DoublingReach.{both_own, new_or_old}
 
 -- ---- what the steps need
@@ -108,7 +108,7 @@ doubling_made old added relinked new arrays store pairs due adds part keeps move
         held = table.blocks;
         blocks = blocks_part added.mem relinked.mem arrays store.table 0 arrays.buckets table.regions (omega arith)
             (omega arith) table.blocks
-            (λ page there. keeps.pages page ∙ there) part;
+            (λ page there. keeps.pages page ∙ there) part.beside;
         kept = λ page there. keeps.pages page ∙ there;
         full = full;
         areas = moves.areas;

@@ -1,6 +1,6 @@
 -- The frames of a doubling are within the reach of the map's own place.
-use Rattle.std.proofs.Common.{◌≡◌, ℕ, ◌+◌, ◌-◌, ◌*◌, ◌/◌, ◌^◌, ◌<◌, ◌≤◌, ◌⊎◌, min, max, leb, ltb, eqb, List, [], ◌∷◌, ◌++◌, length, map, zip, sum, fold, Option, Some, None, IsSome, is_some, refl, sym, ◌∙◌, ap, subst, arith, inl, inr}
-use Rattle.std.specs.FinMap.{get, len, len-entries, entries}
+use Rattle.std.proofs.Common.{◌≡◌, ℕ, ◌+◌, ◌-◌, ◌*◌, ◌/◌, ◌^◌, ◌<◌, ◌≤◌, ◌⊎◌, min, leb, ltb, eqb, List, [], ◌∷◌, length, map, zip, sum, Some, IsSome, is_some, sym, ◌∙◌, ap, subst, arith, inl, inr}
+use Rattle.std.specs.FinMap.{get}
 use Rattle.std.proofs.lemmas.Bool.{cases_Bool, cases_lt, cond-false, ne_eqb, and_parts, leb-true, ltb-true, false≢true}
 use Rattle.vm_base.specs.Places.{page_of, page_count}
 use Rattle.vm_base.specs.FlatMemory.{Area, FlatMemory, IsFlat, area_of, holds}
@@ -8,14 +8,14 @@ use Rattle.vm_base.specs.MemoryState.{MemoryState, own_of}
 use Rattle.vm_base.specs.MemoryCalls.{IsInRange, touched}
 use Rattle.vm_base.proofs.FlatLaws.{get-with_pages_beyond}
 use Rattle.store_meaning.specs.Layout.{classes, array_a, array_b, array_pages, heap_at, store_areas}
-use Rattle.store_meaning.specs.HashLayout.{Store, Pairs, IsStore, entry_pair, entries_of}
-use Rattle.store_meaning.specs.Reach.{Place, At, Reach, reach_of, reach_step, frames_of_pages, pages_of_peaks}
+use Rattle.store_meaning.specs.HashLayout.{Store, Pairs}
+use Rattle.store_meaning.specs.Reach.{Reach, frames_of_pages, pages_of_peaks}
 use Rattle.store_meaning.specs.Standing.{KeepsWithin}
-use Rattle.store_meaning.proofs.Intervals.{Interval, IsInOneOf, ArePagesIn}
+use Rattle.store_meaning.proofs.Intervals.{IsInOneOf}
 use Rattle.store_meaning.proofs.ReachFrames.{region_pages, own_of-within, two_arrays_within}
 use Rattle.page_hash.specs.declared.arrays.Arrays.{Arrays}
 use Rattle.page_hash.specs.Doubling.{IsDue}
-use Rattle.page_hash.proofs.AddingArray.{DueFacts, due_facts}
+use Rattle.page_hash.proofs.AddingArray.{due_facts}
 
 -- a page that has an area lies in one of them
 found_in_areas : (areas : List Area) (page : ℕ) → IsSome (area_of areas page)

@@ -1,5 +1,5 @@
 -- The hash of a key that is read piece by piece.
-use Rattle.std.proofs.Common.{◌≡◌, ℕ, ◌+◌, ◌-◌, ◌<◌, ◌≤◌, List, ◌++◌, length, take, drop, fold, min, refl, sym, ◌∙◌, ap, arith, length-append}
+use Rattle.std.proofs.Common.{◌≡◌, ℕ, ◌+◌, ◌-◌, ◌≤◌, List, ◌++◌, length, take, drop, fold, sym, ◌∙◌, ap, arith, length-append}
 use Rattle.std.proofs.Math.Seq.{take-append_seam}
 use Rattle.std.proofs.lemmas.List.{length-take-le, length-drop}
 use Rattle.std.proofs.lemmas.List.Sums.{fold-append}
@@ -7,7 +7,7 @@ use Rattle.byteorder.specs.Endian.{big_number}
 use Rattle.byteorder.specs.Numbers.{big_from-take}
 use Rattle.vm_base.specs.FlatMemory.{FlatMemory, PageMap, bytes_at}
 use Rattle.vm_base.proofs.FlatBytes.{bytes_at-split, length-bytes_at}
-use Rattle.store_meaning.specs.Layout.{heap_end, word_at}
+use Rattle.store_meaning.specs.Layout.{word_at}
 use Rattle.store_meaning.specs.HashLayout.{Entry, hash_of, hash_step}
 use Rattle.page_hash.specs.Relinking.{IsHeldBlock}
 use Rattle.page_hash.proofs.FrontReads.{part_in, number_in}

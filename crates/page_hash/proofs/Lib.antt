@@ -52,3 +52,6 @@ pub mod DoublingDone
 pub mod Removals
 pub mod MovedSteps
 pub mod PlacedMoved
+pub mod PlacedPairs
+pub mod PutDoubled
+pub mod PageRelinks

@@ -1,11 +1,10 @@
 -- One pair more, less or changed in a map, and in a list of its pairs.
-use Rattle.std.proofs.Common.{◌≡◌, ℕ, Bool, true, false, List, [], ◌∷◌, map, Option, Some, None, is_some, refl, sym, ◌∙◌, ap, ap₂, subst, inl, inr, IsPermutation, cond, ◌&&◌, Decides}
+use Rattle.std.proofs.Common.{◌≡◌, ℕ, Bool, true, false, List, [], ◌∷◌, Some, None, is_some, refl, sym, ◌∙◌, ap, ap₂, subst, inl, inr, IsPermutation, cond, ◌&&◌, Decides}
 use Rattle.std.specs.Str.{bytes_eq}
 use Rattle.std.specs.List.{AllByRecursion}
-use Rattle.std.specs.Ordering.{nat_cmp, eq_by_cmp, is_eq}
-use Rattle.std.specs.declared.cmp.Ordering.{Ordering}
+use Rattle.std.specs.Ordering.{eq_by_cmp, is_eq}
 use Rattle.std.specs.declared.cmp.Ordering.TheVariants.{Less, Equal, Greater}
-use Rattle.std.specs.Cmp.Lexicographic.{slice_cmp, nat_list_cmp_total, texts_ties}
+use Rattle.std.specs.Cmp.Lexicographic.{nat_list_cmp_total, texts_ties}
 use Rattle.std.specs.FinMap.{find, put, is_sorted, entries, entries_sorted, get, get-entries, insert, remove, entries-insert, get-insert, get-remove, same_map, slice_cmp-IsAntisymmetric, nat_cmp-IsAntisymmetric}
 use Rattle.std.specs.FinMap.Entries.{by_order}
 use Rattle.std.proofs.lemmas.Bool.{cases_Bool, cond-true, cond-false, and_parts, false≢true}
@@ -14,7 +13,7 @@ use Rattle.std.proofs.lemmas.Slice.Eq.{bytes_eq-Decides}
 use Rattle.store_meaning.specs.HashLayout.{Pairs}
 use Rattle.store_meaning.proofs.Lists.{all_permuted}
 use Rattle.store_meaning.proofs.Cancelling.{cancelled}
-use Rattle.page_hash.proofs.MapEntries.{key_cmp, same_key, other_key, true_from, found_all}
+use Rattle.page_hash.proofs.MapEntries.{key_cmp, same_key, true_from, found_all}
 
 -- keys and values, as a list
 abbrev Texts : Type 0

@@ -1,18 +1,18 @@
 -- The stores of a pair that gets a block of another class, one after another, make the store with that block in the old one's place.
-use Rattle.std.proofs.Common.{◌≡◌, ℕ, zero, suc, ◌+◌, ◌*◌, ◌^◌, ◌<◌, ◌≤◌, List, [], ◌∷◌, ◌++◌, length, refl, sym, ◌∙◌, ap, subst, arith, inl, inr, Contains, IsPermutation}
+use Rattle.std.proofs.Common.{◌≡◌, ℕ, suc, ◌+◌, ◌^◌, ◌≤◌, List, [], ◌∷◌, refl, sym, ◌∙◌, ap, subst, arith, inl, inr, Contains}
 use Rattle.std.specs.FinMap.{insert}
 use Rattle.std.specs.List.{AllByRecursion, flat_map}
-use Rattle.std.proofs.lemmas.List.Sorted.{IsPermutation-sym, IsPermutation-refl}
+use Rattle.std.proofs.lemmas.List.Sorted.{IsPermutation-sym}
 use Rattle.byteorder.specs.Endian.{big_number}
-use Rattle.vm_base.specs.FlatMemory.{FlatMemory, bytes_at}
+use Rattle.vm_base.specs.FlatMemory.{FlatMemory}
 use Rattle.vm_base.specs.FlatLaws.{AreApart}
-use Rattle.store_meaning.specs.Layout.{classes, header_at, array_a, heap_at, pairs_field, list_field, word_at}
+use Rattle.store_meaning.specs.Layout.{classes, header_at, heap_at, pairs_field, list_field, word_at}
 use Rattle.store_meaning.specs.HeapLayout.{Block, Heap, IsHeap, next_at, with_next, committed, freed, block_bytes, free_of}
-use Rattle.store_meaning.specs.HashLayout.{Entry, Store, Pairs, Holds, IsStore, pair_size, pair_class, entry_block, entries_of}
+use Rattle.store_meaning.specs.HashLayout.{Entry, Store, Pairs, Holds, IsStore, pair_size, pair_class, entry_block}
 use Rattle.store_meaning.specs.StoreSteps.{with_moved, next_entry}
-use Rattle.store_meaning.specs.Owned.{Range, word_range, entry_range}
+use Rattle.store_meaning.specs.Owned.{Range, word_range}
 use Rattle.store_meaning.proofs.Lists.{all_permuted, class_within}
-use Rattle.store_meaning.proofs.HeapSteps.{KeepsPages, class_bytes}
+use Rattle.store_meaning.proofs.HeapSteps.{class_bytes}
 use Rattle.store_meaning.proofs.OwnedApart.{class_of-holds}
 use Rattle.store_meaning.proofs.TableSteps.{Spot, link_at, others, entries_above}
 use Rattle.store_meaning.proofs.HeapBeside.{IsBesideHeap, heap_beside, in_use_beside, committed_used, next_off, link_off_middle, link_off_next}

@@ -1,13 +1,13 @@
 -- The header names the new array, and the old one is taken out.
-use Rattle.std.proofs.Common.{◌≡◌, ℕ, ◌+◌, ◌*◌, ◌/◌, ◌<◌, ◌≤◌, ◌++◌, length, Result, OnOk, IfErr, sym, ◌∙◌, ap, subst, arith, inl, inr, refl, Contains}
+use Rattle.std.proofs.Common.{◌≡◌, ◌*◌, ◌/◌, ◌++◌, Result, OnOk, IfErr, sym, ◌∙◌, ap, subst, arith, refl, Contains}
 use Rattle.byteorder.specs.Endian.{big_bytes}
 use Rattle.vm_base.specs.declared.faults.Fault.{Fault}
-use Rattle.vm_base.specs.FlatMemory.{PageMap, FlatMemory}
+use Rattle.vm_base.specs.FlatMemory.{FlatMemory}
 use Rattle.vm_base.specs.FlatStep.{with_bytes, areas_without}
 use Rattle.vm_base.specs.FlatLaws.{unmapped}
 use Rattle.vm_base.specs.MemoryState.{MemoryState}
 use Rattle.vm_base.specs.MemoryCalls.{Touches, TouchFails, after_store}
-use Rattle.store_meaning.specs.Layout.{header_area, array_field, header_at}
+use Rattle.store_meaning.specs.Layout.{header_area, array_field}
 use Rattle.page_heap.proofs.Mapped.{unmapped_by}
 use Rattle.page_hash.specs.declared.arrays.Arrays.{Arrays}
 use Rattle.page_hash.specs.Relinking.{MayRelink}

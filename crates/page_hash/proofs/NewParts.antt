@@ -1,28 +1,27 @@
 -- What the stores of a pair in a new block leave: the word of its heap, its bytes, and the words that name it.
-use Rattle.std.proofs.Common.{◌≡◌, ℕ, zero, suc, ◌+◌, ◌-◌, ◌*◌, ◌^◌, ◌<◌, ◌≤◌, ◌⊎◌, Bool, true, false, List, [], ◌∷◌, ◌++◌, length, map, eqb, refl, sym, ◌∙◌, ap, ap₂, subst, arith, inl, inr, append-nil, length-append, pow_mono, pow_pos, Contains, unwrap_or}
-use Rattle.std.specs.Prelude.{nat_le, if◌then◌else◌, cond}
+use Rattle.std.proofs.Common.{◌≡◌, ℕ, zero, suc, ◌+◌, ◌-◌, ◌*◌, ◌^◌, ◌<◌, ◌≤◌, ◌⊎◌, Bool, true, false, List, [], ◌∷◌, ◌++◌, length, map, refl, sym, ◌∙◌, ap, subst, arith, inl, inr, length-append, Contains, unwrap_or}
+use Rattle.std.specs.Prelude.{nat_le, if◌then◌else◌}
 use Rattle.std.specs.List.{AllByRecursion, find, flat_map, range_with_len}
-use Rattle.std.proofs.lemmas.Bool.{cases_Bool, cases_eq, cond-true, cond-false}
+use Rattle.std.proofs.lemmas.Bool.{cases_Bool, cond-true, cond-false}
 use Rattle.std.proofs.lemmas.Bool.Decides.{nat_tests}
-use Rattle.std.proofs.lemmas.List.{append_assoc}
 use Rattle.std.proofs.lemmas.List.Elements.{recursion_from_All}
 use Rattle.std.proofs.lemmas.List.Sorted.{length_permutation}
 use Rattle.byteorder.specs.Endian.{big_bytes, big_number}
 use Rattle.vm_base.specs.FlatMemory.{FlatMemory, bytes_at}
-use Rattle.vm_base.specs.FlatLaws.{AreApart, AreFullPages}
+use Rattle.vm_base.specs.FlatLaws.{AreFullPages}
 use Rattle.vm_base.specs.MemoryState.{MemoryState, IsMemory, IsIn}
 use Rattle.vm_base.specs.MemoryCalls.{IsReady, after_store}
 use Rattle.vm_base.proofs.FlatLaws.{bytes_at-with_bytes, full_from_ready}
 use Rattle.vm_base.proofs.FlatPages.{with_bytes-append}
-use Rattle.store_meaning.specs.Layout.{classes, class_of, header_at, heap_at, heap_end, top_field, list_field, number_at, word_at}
-use Rattle.store_meaning.specs.HeapLayout.{Block, Heap, IsHeap, block_bytes, blocks_of, free_of, first_or_top, next_at}
-use Rattle.store_meaning.specs.HashLayout.{Entry, Store, Pairs, Holds, IsStore, pair_size, entry_block, entries_of}
+use Rattle.store_meaning.specs.Layout.{classes, class_of, header_at, heap_at, top_field, list_field, number_at, word_at}
+use Rattle.store_meaning.specs.HeapLayout.{Block, Heap, blocks_of, free_of, first_or_top, next_at}
+use Rattle.store_meaning.specs.HashLayout.{Store, Pairs, Holds, IsStore, pair_size, entry_block, entries_of}
 use Rattle.store_meaning.proofs.Lists.{class_within}
 use Rattle.store_meaning.proofs.Words.{number-of_bytes}
 use Rattle.store_meaning.proofs.HeapSteps.{class_bytes}
 use Rattle.page_heap.specs.declared.planned.Plan.{Plan}
-use Rattle.page_heap.specs.HeapCalls.{commit_store, free_store, plan_by, plan_for}
-use Rattle.page_hash.specs.PairStores.{head_bytes, front_bytes, pair_bytes}
+use Rattle.page_heap.specs.HeapCalls.{commit_store, plan_by, plan_for}
+use Rattle.page_hash.specs.PairStores.{head_bytes, pair_bytes}
 use Rattle.page_hash.proofs.NextReach.{all_bytes, fill_bytes}
 use Rattle.page_hash.proofs.PutRanges.{ready_part}
 use Rattle.page_hash.proofs.StoreParts.{StoresIn, putting, stores_in, full_then, full_part, number_stored}

@@ -1,22 +1,21 @@
 -- The stores of a pair of a new key, one after another, make the store with the pair in front of its chain.
-use Rattle.std.proofs.Common.{◌≡◌, ℕ, zero, suc, ◌+◌, ◌-◌, ◌*◌, ◌^◌, ◌<◌, ◌≤◌, List, [], ◌∷◌, length, refl, sym, ◌∙◌, ap, subst, arith, inl, inr, Contains, unwrap_or}
+use Rattle.std.proofs.Common.{◌≡◌, ℕ, zero, suc, ◌+◌, ◌^◌, ◌<◌, ◌≤◌, List, [], ◌∷◌, length, refl, sym, ◌∙◌, ap, subst, arith, inl, inr, Contains, unwrap_or}
 use Rattle.std.specs.Prelude.{None, nat_le}
 use Rattle.std.specs.FinMap.{insert}
-use Rattle.std.specs.List.{AllByRecursion, find, range_with_len}
+use Rattle.std.specs.List.{find, range_with_len}
 use Rattle.std.proofs.lemmas.Bool.{cases_Bool, cond-true, cond-false}
 use Rattle.std.proofs.lemmas.List.Sorted.{IsPermutation-refl}
 use Rattle.byteorder.specs.Endian.{big_number}
 use Rattle.vm_base.specs.FlatMemory.{FlatMemory, bytes_at}
 use Rattle.vm_base.specs.FlatLaws.{AreApart}
 use Rattle.store_meaning.specs.Layout.{classes, class_of, header_at, array_a, heap_at, pairs_field, word_at}
-use Rattle.store_meaning.specs.HeapLayout.{Block, Heap, IsHeap, next_at, committed, block_bytes}
-use Rattle.store_meaning.specs.HashLayout.{Entry, Store, Pairs, Holds, IsStore, pair_size, pair_class, entry_block, entries_of}
-use Rattle.store_meaning.specs.StoreSteps.{bucket_of, entry_for, with_new, next_entry}
+use Rattle.store_meaning.specs.HeapLayout.{Block, Heap, IsHeap, next_at, committed}
+use Rattle.store_meaning.specs.HashLayout.{Entry, Store, Pairs, Holds, IsStore, pair_size, pair_class, entries_of}
+use Rattle.store_meaning.specs.StoreSteps.{entry_for, with_new, next_entry}
 use Rattle.store_meaning.specs.Owned.{Range, word_range, entry_range}
 use Rattle.store_meaning.proofs.HeapSteps.{KeepsPages}
 use Rattle.store_meaning.proofs.OwnedApart.{array_between, class_of-holds}
-use Rattle.store_meaning.proofs.TableSteps.{AreSameBeside}
-use Rattle.store_meaning.proofs.HeapBeside.{IsBesideHeap, heap_beside, in_use_beside, committed_used, next_off}
+use Rattle.store_meaning.proofs.HeapBeside.{heap_beside, in_use_beside, committed_used, next_off}
 use Rattle.page_heap.proofs.Plans.{class_listed}
 use Rattle.page_hash.specs.Walks.{bucket_at}
 use Rattle.page_hash.specs.Puts.{FitsPair}

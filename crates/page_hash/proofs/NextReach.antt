@@ -1,5 +1,5 @@
 -- The blocks of a heap, with its next one, keep within a reach that has the place of the pair in it.
-use Rattle.std.proofs.Common.{◌≡◌, ℕ, zero, suc, ◌+◌, ◌*◌, ◌^◌, ◌<◌, ◌≤◌, max, eqb, List, [], ◌∷◌, ◌++◌, map, zip, sum, count_by, sum_by, cond, refl, sym, ◌∙◌, ap, ap₂, subst, arith, inl, inr, Contains, IsPermutation, mul-le-mul_left, ◌==◌, Bool, true, false}
+use Rattle.std.proofs.Common.{◌≡◌, ℕ, zero, suc, ◌+◌, ◌*◌, ◌^◌, ◌<◌, ◌≤◌, max, eqb, List, [], ◌∷◌, ◌++◌, map, zip, sum, count_by, cond, refl, sym, ◌∙◌, ap, ap₂, subst, arith, inl, inr, Contains, IsPermutation, mul-le-mul_left, ◌==◌, Bool, true, false}
 use Rattle.std.proofs.Math.Nat.{mul-suc}
 use Rattle.std.specs.List.{AllByRecursion, AllZip, flat_map, range_with_len}
 use Rattle.std.specs.FinMap.{get, insert, entries}
@@ -11,7 +11,7 @@ use Rattle.std.proofs.lemmas.List.Sorted.{IsPermutation-trans, IsPermutation-sym
 use Rattle.vm_base.specs.FlatMemory.{FlatMemory}
 use Rattle.vm_base.specs.MemoryState.{MemoryState}
 use Rattle.store_meaning.specs.Layout.{classes, heap_at}
-use Rattle.store_meaning.specs.HeapLayout.{Block, Heap, IsHeap, Fill, block_bytes, blocks_of, free_of, first_or_top, next_at, with_free, with_next, committed, freed, without_block}
+use Rattle.store_meaning.specs.HeapLayout.{Block, Heap, IsHeap, Fill, block_bytes, blocks_of, free_of, first_or_top, next_at, with_next, committed, freed, without_block}
 use Rattle.store_meaning.specs.HashLayout.{Entry, Store, Pairs, IsStore, pair_class, entry_block, entry_pair, entries_of}
 use Rattle.store_meaning.specs.Reach.{Reach, At, reach_step, count_of}
 use Rattle.store_meaning.specs.Standing.{KeepsWithin, blocks_in}

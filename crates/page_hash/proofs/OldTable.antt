@@ -1,14 +1,14 @@
 -- A store whose doubling is due has an old table: its blocks lie apart, and their first words are present.
-use Rattle.std.proofs.Common.{◌≡◌, ℕ, ◌+◌, ◌-◌, ◌*◌, ◌%◌, ◌/◌, ◌^◌, ◌<◌, ◌≤◌, List, [], ◌∷◌, ◌++◌, length, map, refl, sym, ◌∙◌, ap, subst, arith, inl, inr, Contains, pow_pos}
+use Rattle.std.proofs.Common.{◌≡◌, ℕ, ◌+◌, ◌*◌, ◌%◌, ◌<◌, List, [], ◌∷◌, length, map, sym, ap, subst, arith, Contains}
 use Rattle.std.specs.List.{AllByRecursion, flat_map}
 use Rattle.std.proofs.lemmas.List.Elements.{recursion_from_All}
 use Rattle.byteorder.specs.Endian.{big_number}
 use Rattle.vm_base.specs.FlatMemory.{FlatMemory, bytes_at}
-use Rattle.store_meaning.specs.Layout.{classes, class_of, heap_at, heap_end, store_area, array_pages, word_at}
-use Rattle.store_meaning.specs.HeapLayout.{Block, Links, ArePresent, HalfIsPresent, blocks_of, free_of}
+use Rattle.store_meaning.specs.Layout.{classes, heap_at, store_area, array_pages, word_at}
+use Rattle.store_meaning.specs.HeapLayout.{Block, Links, HalfIsPresent, blocks_of, free_of}
 use Rattle.store_meaning.specs.HashLayout.{Entry, Store, Pairs, IsStore, Holds, hash_of, pair_size, entry_block, chain_of, entries_of}
-use Rattle.store_meaning.specs.Owned.{entry_range, free_range, header_ranges, bucket_ranges, block_ranges, ArePairwiseApart}
-use Rattle.store_meaning.proofs.Lists.{all_left, all_map, all_mono, all_permuted, map_all}
+use Rattle.store_meaning.specs.Owned.{entry_range, free_range, header_ranges, bucket_ranges, block_ranges}
+use Rattle.store_meaning.proofs.Lists.{all_left, all_map, all_mono, all_permuted}
 use Rattle.store_meaning.proofs.Blocks.{LiesIn}
 use Rattle.store_meaning.proofs.HeapSteps.{KeepsPages, blocks_within}
 use Rattle.store_meaning.proofs.OwnedApart.{owned-apart, class_of-holds}
@@ -19,7 +19,7 @@ use Rattle.page_hash.specs.ArrayRelinking.{IsOldTable}
 use Rattle.page_hash.specs.Doubling.{IsDue}
 use Rattle.page_hash.proofs.ChainTurns.{LinksFrom-kept, held_kept, both_hold}
 use Rattle.page_hash.proofs.ChainsApart.{pairwise_left, pairwise_right}
-use Rattle.page_hash.proofs.AddingArray.{DueFacts, due_facts, due_arrays}
+use Rattle.page_hash.proofs.AddingArray.{due_facts, due_arrays}
 
 -- a chain of a place is one from the word there
 pub links_from : (memory : FlatMemory) (place : ℕ) (blocks : List ℕ) → Links memory place blocks

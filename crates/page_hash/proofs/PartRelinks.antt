@@ -1,22 +1,19 @@
 -- Parts of an array that are linked anew, one behind another.
-use Rattle.std.proofs.Common.{◌≡◌, ℕ, zero, suc, ◌+◌, ◌-◌, ◌*◌, ◌/◌, ◌%◌, ◌^◌, ◌<◌, ◌≤◌, ◌⊎◌, List, [], ◌∷◌, ◌++◌, length, map, refl, sym, ◌∙◌, ap, subst, arith, inl, inr, Contains, append-nil}
-use Rattle.std.specs.Prelude.{slice_index, is_some, IsSome}
+use Rattle.std.proofs.Common.{◌≡◌, ℕ, ◌+◌, ◌-◌, ◌*◌, ◌<◌, ◌≤◌, ◌⊎◌, List, [], length, refl, sym, ◌∙◌, ap, subst, arith, inl, inr, Contains, append-nil}
 use Rattle.std.specs.List.{AllByRecursion}
 use Rattle.std.proofs.lemmas.Bool.{cases_lt}
-use Rattle.byteorder.specs.Endian.{big_bytes, big_number}
+use Rattle.byteorder.specs.Endian.{big_number}
 use Rattle.vm_base.specs.FlatMemory.{FlatMemory, bytes_at}
-use Rattle.vm_base.specs.FlatLaws.{AreApart, AreFullPages}
-use Rattle.vm_base.proofs.FlatLaws.{bytes_at-with_bytes_apart}
-use Rattle.store_meaning.specs.Layout.{array_a, array_b, array_pages, store_area, heap_at, word_at}
+use Rattle.vm_base.specs.FlatLaws.{AreApart}
+use Rattle.store_meaning.specs.Layout.{array_a, array_pages, store_area, heap_at, word_at}
 use Rattle.store_meaning.specs.HashLayout.{Entry, Table, chain_of, entries_of}
 use Rattle.store_meaning.proofs.Lists.{all_mono, map_all}
-use Rattle.store_meaning.proofs.Words.{word_at-stored, word_at-apart}
-use Rattle.store_meaning.proofs.HeapSteps.{KeepsPages, storing_full}
+use Rattle.store_meaning.proofs.HeapSteps.{KeepsPages}
 use Rattle.page_hash.specs.declared.arrays.Arrays.{Arrays}
-use Rattle.page_hash.specs.Relinking.{with_word, IsHeldBlock, AreHeldBlocks, LinksFrom, IsChainOf, KeepsBeside, Splits, is_of_bucket, turned_for, places_of}
+use Rattle.page_hash.specs.Relinking.{IsHeldBlock, AreHeldBlocks, LinksFrom, IsChainOf, is_of_bucket, turned_for, places_of}
 use Rattle.page_hash.specs.ArrayRelinking.{AreArrays, IsOldTable, IsBesideChains, RelinksPart}
 use Rattle.page_hash.proofs.MapEntries.{chain_part, chain_few}
-use Rattle.page_hash.proofs.ChainTurns.{turned, turned_is, turned_all, LinksFrom-kept, held_kept, both_hold, first_low}
+use Rattle.page_hash.proofs.ChainTurns.{turned_is, turned_all, LinksFrom-kept, held_kept, both_hold}
 use Rattle.page_hash.proofs.ChainsApart.{chain_apart, chain_beside, all_behind, IsBesideFirst, IsWithinEntry}
 
 -- where the arrays lie
@@ -63,25 +60,32 @@ low_beside memory table from to other size are low bucket above below =
     all_mono (IsHeldBlock memory) (λ (entry : Entry). AreApart entry.at 8 other size) (chain_of table bucket)
     (λ entry is. inr (omega (arith, is.above, low))) (chain_part (IsHeldBlock memory) table.chains bucket are.held)
 
+-- what lies beside a part that was linked anew reads as before
+abbrev pub KeepsPart : FlatMemory → FlatMemory → Arrays → Table → ℕ → ℕ → Type 0
+KeepsPart old new arrays table from to = (other size : ℕ) → IsBesideChains table from to other size
+    → AreApart (arrays.new + 8 * from) (8 * (to - from)) other size
+    → AreApart (arrays.new + 8 * (arrays.buckets + from)) (8 * (to - from)) other size
+    → bytes_at new.present other size ≡ bytes_at old.present other size
+
 -- the first words of a chain's blocks read as before, where chains of other buckets were linked anew
-abbrev AreWordsSame : FlatMemory → FlatMemory → Entry → Type 0
+abbrev pub AreWordsSame : FlatMemory → FlatMemory → Entry → Type 0
 AreWordsSame old new entry = word_at new entry.at ≡ word_at old entry.at
 
-words_same : (old new : FlatMemory) (arrays : Arrays) (table : Table) (bucket from to : ℕ) → AreArrays arrays → from ≤ to
-    → to ≤ arrays.buckets → AreHeldBlocks old (entries_of table) → RelinksPart old new arrays table from to
+pub words_same : (old new : FlatMemory) (arrays : Arrays) (table : Table) (bucket from to : ℕ) → AreArrays arrays → from ≤ to
+    → to ≤ arrays.buckets → AreHeldBlocks old (entries_of table) → KeepsPart old new arrays table from to
     → (from ≤ bucket → bucket < to → ⊥)
     → AllByRecursion (AreWordsSame old new) (chain_of table bucket)
-words_same old new arrays table bucket from to regions rise high are part out =
+words_same old new arrays table bucket from to regions rise high are beside_part out =
     let low = arrays_low arrays regions in
     both_hold (IsHeldBlock old) (λ entry. (other size : ℕ) → IsWithinEntry entry other size → IsBesideChains table from to other size)
     (AreWordsSame old new) (chain_of table bucket)
-    (λ entry held beside. ap (big_number 8) (part.beside entry.at 8 (beside entry.at 8 (omega arith, omega arith))
+    (λ entry held beside. ap (big_number 8) (beside_part entry.at 8 (beside entry.at 8 (omega arith, omega arith))
     (inl (omega (arith, held.above, low.1.3, rise, high))) (inl (omega (arith, held.above, low.1.3, rise, high)))))
     (chain_part (IsHeldBlock old) table.chains bucket are.held)
     (chain_beside table bucket from to are.apart out)
 
 -- so a chain made of it is linked as before
-turned_kept : (old new : FlatMemory) (first count into : ℕ) (chain : List Entry) → AllByRecursion (AreWordsSame old new) chain
+pub turned_kept : (old new : FlatMemory) (first count into : ℕ) (chain : List Entry) → AllByRecursion (AreWordsSame old new) chain
     → LinksFrom old first (places_of (turned_for count into chain)) → LinksFrom new first (places_of (turned_for count into chain))
 turned_kept old new first count into chain same linked =
     LinksFrom-kept old new first (places_of (turned_for count into chain))
@@ -91,13 +95,13 @@ turned_kept old new first count into chain same linked =
 -- the blocks behind their first words are as before
 pub blocks_part : (old new : FlatMemory) (arrays : Arrays) (table : Table) (from to : ℕ) → AreArrays arrays → from ≤ to
     → to ≤ arrays.buckets
-    → AreHeldBlocks old (entries_of table) → KeepsPages old new → RelinksPart old new arrays table from to
+    → AreHeldBlocks old (entries_of table) → KeepsPages old new → KeepsPart old new arrays table from to
     → AreHeldBlocks new (entries_of table)
-blocks_part old new arrays table from to regions rise high are keeps part = record {
+blocks_part old new arrays table from to regions rise high are keeps beside_part = record {
   held = both_hold (IsHeldBlock old) (λ entry. AllByRecursion (IsBesideFirst entry) (entries_of table)) (IsHeldBlock new)
       (entries_of table)
       (λ entry held behind. held_kept old new entry
-      (part.beside (entry.at + 8) (8 + length entry.key + length entry.value)
+      (beside_part (entry.at + 8) (8 + length entry.key + length entry.value)
       (λ bucket above below. chain_part (IsBesideFirst entry) table.chains bucket behind)
       (inl (omega (arith, held.above, (arrays_low arrays regions).1.3, rise, high)))
       (inl (omega (arith, held.above, (arrays_low arrays regions).1.3, rise, high)))) keeps held)
@@ -106,10 +110,10 @@ blocks_part old new arrays table from to regions rise high are keeps part = reco
 }
 
 -- the table from a bucket on, where those in front of it are linked anew
-pub old_table_on : (old new : FlatMemory) (arrays : Arrays) (table : Table) (from : ℕ) → IsOldTable old arrays table 0
-    → from ≤ arrays.buckets → new.areas ≡ old.areas → KeepsPages old new → RelinksPart old new arrays table 0 from
+pub old_table_on : (old new : FlatMemory) (arrays : Arrays) (table : Table) (begin from : ℕ) → IsOldTable old arrays table begin
+    → begin ≤ from → from ≤ arrays.buckets → new.areas ≡ old.areas → KeepsPages old new → KeepsPart old new arrays table begin from
     → IsOldTable new arrays table from
-old_table_on old new arrays table from is high areas keeps part =
+old_table_on old new arrays table begin from is rise high areas keeps beside_part =
     let low = arrays_low arrays is.regions in
     record {
       regions = is.regions;
@@ -122,18 +126,18 @@ old_table_on old new arrays table from is high areas keeps part =
             | inr behind ↦ inl (omega (arith, behind, last))
           ] in
           let word : word_at new (arrays.old + 8 * bucket) ≡ word_at old (arrays.old + 8 * bucket) =
-          ap (big_number 8) (part.beside (arrays.old + 8 * bucket) 8
-          (low_beside old table 0 from (arrays.old + 8 * bucket) 8 is.blocks (omega (arith, low.1.2, below)))
-          (apart (from - 0) (omega arith) (arrays.new + 8 * 0) (omega arith) (omega (arith, high)))
-          (apart (from - 0) (omega arith) (arrays.new + 8 * (arrays.buckets + 0)) (omega arith) (omega (arith, high)))) in
+          ap (big_number 8) (beside_part (arrays.old + 8 * bucket) 8
+          (low_beside old table begin from (arrays.old + 8 * bucket) 8 is.blocks (omega (arith, low.1.2, below)))
+          (apart (from - begin) (omega arith) (arrays.new + 8 * begin) (omega arith) (omega (arith, rise, high)))
+          (apart (from - begin) (omega arith) (arrays.new + 8 * (arrays.buckets + begin)) (omega arith) (omega (arith, rise, high)))) in
           subst (λ w. LinksFrom new w (places_of (chain_of table bucket))) (sym word)
           (LinksFrom-kept old new (word_at old (arrays.old + 8 * bucket)) (places_of (chain_of table bucket))
           (map_all (λ at. word_at new at ≡ word_at old at) (λ (entry : Entry). entry.at) (chain_of table bucket)
-          (words_same old new arrays table bucket 0 from is.regions (omega arith) high is.blocks part
+          (words_same old new arrays table bucket begin from is.regions rise high is.blocks beside_part
           (λ start end. omega (arith, above, end))))
-          (is.linked bucket (omega arith) below));
+          (is.linked bucket (omega (arith, rise, above)) below));
       hashed = is.hashed;
-      blocks = blocks_part old new arrays table 0 from is.regions (omega arith) high is.blocks keeps part;
+      blocks = blocks_part old new arrays table begin from is.regions rise high is.blocks keeps beside_part;
       pairs = is.pairs;
     }
 
@@ -144,7 +148,7 @@ pub parts_join : (old mid new : FlatMemory) (arrays : Arrays) (table : Table) (f
     → RelinksPart old new arrays table 0 to
 parts_join old mid new arrays table from to is rise high keeps one two =
     let low = arrays_low arrays is.regions in
-    let are = blocks_part old mid arrays table 0 from is.regions (omega arith) (omega (arith, rise, high)) is.blocks keeps one in
+    let are = blocks_part old mid arrays table 0 from is.regions (omega arith) (omega (arith, rise, high)) is.blocks keeps one.beside in
     let new_word : (at : ℕ) → at + 8 ≤ heap_at → AreApart (arrays.new + 8 * from) (8 * (to - from)) at 8
     → AreApart (arrays.new + 8 * (arrays.buckets + from)) (8 * (to - from)) at 8 → word_at new at ≡ word_at mid at =
     λ at below first second. ap (big_number 8) (two.beside at 8 (low_beside mid table from to at 8 are below) first second) in
@@ -166,7 +170,7 @@ parts_join old mid new arrays table from to is rise high keeps one two =
             (sym (new_word (arrays.new + 8 * bucket) (omega (arith, low.1.3, below, high)) (inr (omega (arith, before)))
             (inr (omega (arith, before)))))
             (turned_kept mid new (word_at mid (arrays.new + 8 * bucket)) (2 * arrays.buckets) bucket (chain_of table bucket)
-            (words_same mid new arrays table bucket from to is.regions rise high are two (λ start end. omega (arith, start, before)))
+            (words_same mid new arrays table bucket from to is.regions rise high are two.beside (λ start end. omega (arith, start, before)))
             (one.lower bucket above before))
         | inr behind ↦ two.lower bucket behind below
       ];
@@ -177,7 +181,7 @@ parts_join old mid new arrays table from to is rise high keeps one two =
             (inl (omega (arith, rise, high))) (inr (omega (arith, before)))))
             (turned_kept mid new (word_at mid (arrays.new + 8 * (arrays.buckets + bucket))) (2 * arrays.buckets) (bucket + arrays.buckets)
             (chain_of table bucket)
-            (words_same mid new arrays table bucket from to is.regions rise high are two (λ start end. omega (arith, start, before)))
+            (words_same mid new arrays table bucket from to is.regions rise high are two.beside (λ start end. omega (arith, start, before)))
             (one.upper bucket above before))
         | inr behind ↦ two.upper bucket behind below
       ];
@@ -201,63 +205,6 @@ parts_join old mid new arrays table from to is rise high keeps one two =
 
     place_1 : (at n : ℕ) → at + 8 * n + 8 * 0 ≡ at + 8 * (n + 0)
     place_1 at n = omega arith
-
--- ---- one bucket
-
--- the two words of the new array are stored behind the chain
-pub bucket_relinks : (old mid : FlatMemory) (arrays : Arrays) (table : Table) (bucket : ℕ) (heads : List ℕ)
-    → IsOldTable old arrays table bucket → bucket < arrays.buckets → Splits old mid heads arrays.buckets bucket (chain_of table bucket)
-    → AreFullPages mid.present (arrays.new + 8 * bucket) 8 → AreFullPages mid.present (arrays.new + 8 * (arrays.buckets + bucket)) 8
-    → RelinksPart old (with_word (with_word mid (arrays.new + 8 * bucket) (slice_index heads 0))
-    (arrays.new + 8 * (arrays.buckets + bucket)) (slice_index heads 1)) arrays table bucket (bucket + 1)
-bucket_relinks old mid arrays table bucket heads is inside splits full_low full_high =
-    let a : ℕ = arrays.new + 8 * bucket in
-    let b : ℕ = arrays.new + 8 * (arrays.buckets + bucket) in
-    let h0 : ℕ = slice_index heads 0 in
-    let h1 : ℕ = slice_index heads 1 in
-    let m2 : FlatMemory = with_word mid a h0 in
-    let m3 : FlatMemory = with_word m2 b h1 in
-    let low = arrays_low arrays is.regions in
-    let chain = chain_of table bucket in
-    let held = chain_part (IsHeldBlock old) table.chains bucket is.blocks.held in
-    let same : AllByRecursion (AreWordsSame mid m3) chain =
-    all_mono (IsHeldBlock old) (AreWordsSame mid m3) chain
-    (λ entry held. word_at-apart m2 b h1 entry.at (inl (omega (arith, held.above, low.1.3, inside)))
-    ∙ word_at-apart mid a h0 entry.at (inl (omega (arith, held.above, low.1.3, inside)))) held in
-    let small : (into : ℕ) → AllByRecursion (λ at. at < 2 ^ 64) (places_of (turned_for (2 * arrays.buckets) into chain)) =
-    λ into. map_all (λ at. at < 2 ^ 64) (λ (entry : Entry). entry.at) (turned_for (2 * arrays.buckets) into chain)
-    (turned_for_all (λ (entry : Entry). entry.at < 2 ^ 64) (2 * arrays.buckets) into chain
-    (all_mono (IsHeldBlock old) (λ (entry : Entry). entry.at < 2 ^ 64) chain (λ entry held. omega (arith, held.below)) held)) in
-    let word0 : word_at m3 a ≡ h0 =
-    word_at-apart m2 b h1 a (inr (omega (arith, is.regions.some)))
-    ∙ word_at-stored mid a h0 full_low
-    (first_low mid h0 (2 ^ 64) (places_of (turned_for (2 * arrays.buckets) bucket chain)) (omega arith) splits.lower (small bucket)) in
-    let word1 : word_at m3 b ≡ h1 =
-    word_at-stored m2 b h1 (storing_full mid a h0 b 8 full_low full_high)
-    (first_low mid h1 (2 ^ 64) (places_of (turned_for (2 * arrays.buckets) (bucket + arrays.buckets) chain)) (omega arith) splits.upper
-    (small (bucket + arrays.buckets))) in
-    record {
-      beside = λ other size clear first second.
-          bytes_at-with_bytes_apart m2.present b (big_bytes 8 h1) other size (word_apart b other size second)
-          ∙ bytes_at-with_bytes_apart mid.present a (big_bytes 8 h0) other size (word_apart a other size first)
-          ∙ splits.beside other size (clear bucket (omega arith) (omega arith));
-      lower = λ k above below.
-          let here : k ≡ bucket = omega (arith, above, below) in
-          subst (λ q. LinksFrom m3 (word_at m3 (arrays.new + 8 * q)) (places_of (turned_for (2 * arrays.buckets) q (chain_of table q))))
-          (sym here)
-          (subst (λ w. LinksFrom m3 w (places_of (turned_for (2 * arrays.buckets) bucket chain))) (sym word0)
-          (turned_kept mid m3 h0 (2 * arrays.buckets) bucket chain same splits.lower));
-      upper = λ k above below.
-          let here : k ≡ bucket = omega (arith, above, below) in
-          subst (λ q. LinksFrom m3 (word_at m3 (arrays.new + 8 * (arrays.buckets + q)))
-          (places_of (turned_for (2 * arrays.buckets) (q + arrays.buckets) (chain_of table q)))) (sym here)
-          (subst (λ w. LinksFrom m3 w (places_of (turned_for (2 * arrays.buckets) (bucket + arrays.buckets) chain))) (sym word1)
-          (turned_kept mid m3 h1 (2 * arrays.buckets) (bucket + arrays.buckets) chain same splits.upper));
-    }
-  where
-    word_apart : (at other size : ℕ) → AreApart at (8 * (bucket + 1 - bucket)) other size → AreApart at 8 other size
-    word_apart at other size (inl below) = inl (omega (arith, below))
-    word_apart at other size (inr above) = inr above
 
 -- before the first bucket
 pub part_begin : (memory : FlatMemory) (arrays : Arrays) (table : Table) → RelinksPart memory memory arrays table 0 0

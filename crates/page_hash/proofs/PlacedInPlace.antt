@@ -1,21 +1,20 @@
 -- A put in the block that its key has: what its touch and its stores leave.
-use Rattle.std.proofs.Common.{◌≡◌, ℕ, ◌+◌, ◌*◌, ◌^◌, ◌<◌, ◌≤◌, ◌⊎◌, eqb, List, [], ◌∷◌, ◌++◌, length, map, Some, IsSome, refl, sym, ◌∙◌, ap, subst, arith, inl, inr}
-use Rattle.std.specs.Prelude.{IsNone}
+use Rattle.std.proofs.Common.{◌≡◌, ℕ, ◌+◌, ◌^◌, ◌≤◌, eqb, List, [], ◌∷◌, ◌++◌, length, map, Some, IsSome, sym, ◌∙◌, ap, subst, arith, inl, inr}
 use Rattle.std.specs.FinMap.{get, insert}
-use Rattle.std.specs.List.{AllByRecursion, AllZip}
-use Rattle.std.proofs.lemmas.Bool.{cond-true, eq-eqb, false≢true}
+use Rattle.std.specs.List.{AllZip}
+use Rattle.std.proofs.lemmas.Bool.{cond-true, eq-eqb}
 use Rattle.std.proofs.lemmas.List.Elements.{recursion_from_All}
 use Rattle.byteorder.specs.Endian.{big_number}
-use Rattle.vm_base.specs.FlatMemory.{FlatMemory, bytes_at}
+use Rattle.vm_base.specs.FlatMemory.{FlatMemory}
 use Rattle.vm_base.specs.MemoryState.{MemoryState, IsMemory}
-use Rattle.vm_base.specs.MemoryCalls.{IsInRange, IsReady}
-use Rattle.store_meaning.specs.Layout.{classes, heap_at, heap_end, number_at}
-use Rattle.store_meaning.specs.HeapLayout.{Block, ArePresent, block_bytes}
+use Rattle.vm_base.specs.MemoryCalls.{IsInRange}
+use Rattle.store_meaning.specs.Layout.{classes, heap_at, number_at}
+use Rattle.store_meaning.specs.HeapLayout.{ArePresent}
 use Rattle.store_meaning.specs.HashLayout.{Entry, Store, Pairs, Holds, IsStore, pair_size, pair_class, entry_block, entries_of, chain_of}
-use Rattle.store_meaning.specs.StoreSteps.{bucket_of, entry_for, put_by, put_in, with_value, with_moved}
+use Rattle.store_meaning.specs.StoreSteps.{bucket_of, entry_for, put_by, put_in, with_value}
 use Rattle.store_meaning.specs.Reach.{Place, At, reach_of}
 use Rattle.store_meaning.specs.Standing.{Stands, blocks_in}
-use Rattle.store_meaning.proofs.Lists.{all_left, all_map, all_both, all_permuted}
+use Rattle.store_meaning.proofs.Lists.{all_left, all_map, all_permuted}
 use Rattle.store_meaning.proofs.Blocks.{LiesIn}
 use Rattle.store_meaning.proofs.HeapSteps.{blocks_within}
 use Rattle.store_meaning.proofs.OwnedApart.{class_of-holds}
@@ -23,15 +22,15 @@ use Rattle.store_meaning.proofs.StoreKept.{both_hold}
 use Rattle.page_hash.specs.declared.chain.Located.{Located}
 use Rattle.page_hash.specs.PairStores.{value_stored}
 use Rattle.page_hash.specs.Touching.{IsOfStore, MakesPresent, LacksStorePage}
-use Rattle.page_hash.specs.Puts.{FitsPair, PutIsPresent, AddsOnly, MeetsBlock, MeetsPlace, Places, PlaceFails, IsFoundInPlace, put_at}
+use Rattle.page_hash.specs.Puts.{FitsPair, Places, PlaceFails, IsFoundInPlace, put_at}
 use Rattle.page_hash.proofs.MapEntries.{chain_part, entry_in-some}
-use Rattle.page_hash.proofs.NextReach.{bytes_of, top_within}
+use Rattle.page_hash.proofs.NextReach.{top_within}
 use Rattle.page_hash.proofs.StoreChanges.{find_spot, puts_in_place}
 use Rattle.page_hash.proofs.PutRanges.{heap_range}
 use Rattle.page_hash.proofs.Touched.{meets_range, absent_not}
-use Rattle.page_hash.proofs.PutStanding.{ReadsAlike, KeepsTo, IsAllowed, keeps_more, keeps_touched, keeps_lacking, allowed_block, alike_present, alike_same, store_alike, touched_page}
-use Rattle.page_hash.proofs.StoreParts.{StoresIn, HasValue, has_value, apart_part, keeps_then, length_most, value_pages}
-use Rattle.page_hash.proofs.PutAnswers.{places_by, fails_by, KeepsMore, KeepsBlocks, PutsStore}
+use Rattle.page_hash.proofs.PutStanding.{IsAllowed, keeps_more, keeps_touched, keeps_lacking, allowed_block, alike_present, alike_same, store_alike, touched_page}
+use Rattle.page_hash.proofs.StoreParts.{HasValue, has_value, apart_part, keeps_then, length_most, value_pages}
+use Rattle.page_hash.proofs.PutAnswers.{places_by, fails_by}
 
 -- the block of an entry that was found lies in the heap, and has the entry
 pub entry_lies : (memory : FlatMemory) (store : Store) (of : Pairs) (key : List ℕ) (entry : Entry) → IsStore memory store of

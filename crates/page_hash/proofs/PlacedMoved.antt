@@ -1,45 +1,43 @@
 -- A put into a block of another class: what its touches and its stores leave.
-use Rattle.std.proofs.Common.{◌≡◌, ℕ, suc, ◌+◌, ◌-◌, ◌*◌, ◌^◌, ◌<◌, ◌≤◌, ◌⊎◌, eqb, List, [], ◌∷◌, ◌++◌, length, map, Some, IsSome, is_some, refl, sym, ◌∙◌, ap, subst, arith, inl, inr, Contains}
-use Rattle.std.specs.Prelude.{IsNone}
-use Rattle.std.specs.FinMap.{get, insert, entries}
-use Rattle.std.specs.List.{AllByRecursion, AllZip}
+use Rattle.std.proofs.Common.{◌≡◌, ℕ, suc, ◌+◌, ◌-◌, ◌^◌, ◌<◌, ◌≤◌, eqb, List, [], ◌∷◌, ◌++◌, length, map, IsSome, refl, sym, ◌∙◌, ap, subst, arith, inl, Contains}
+use Rattle.std.specs.FinMap.{get, insert}
+use Rattle.std.specs.List.{AllZip}
 use Rattle.std.proofs.lemmas.Bool.{cond-false, ne_eqb}
-use Rattle.byteorder.specs.Endian.{big_bytes, big_number}
+use Rattle.byteorder.specs.Endian.{big_bytes}
 use Rattle.vm_base.specs.FlatMemory.{FlatMemory}
 use Rattle.vm_base.specs.FlatLaws.{AreFullPages}
-use Rattle.vm_base.specs.MemoryState.{MemoryState, IsMemory, IsIn}
-use Rattle.vm_base.specs.MemoryCalls.{IsInRange, IsReady, after_store}
+use Rattle.vm_base.specs.MemoryState.{MemoryState, IsMemory}
+use Rattle.vm_base.specs.MemoryCalls.{IsReady}
 use Rattle.vm_base.proofs.FlatLaws.{full_from_ready}
-use Rattle.store_meaning.specs.Layout.{classes, class_of, header_at, array_a, heap_at, heap_end, list_field, word_at}
-use Rattle.store_meaning.specs.HeapLayout.{Heap, IsHeap, Links, ArePresent, next_at, committed, freed}
-use Rattle.store_meaning.specs.HashLayout.{Entry, Store, Pairs, IsStore, pair_size, pair_class, entry_block, entry_pair, entries_of}
+use Rattle.store_meaning.specs.Layout.{classes, class_of, header_at, heap_end, list_field, word_at}
+use Rattle.store_meaning.specs.HeapLayout.{Heap, IsHeap, Links, next_at, committed, freed}
+use Rattle.store_meaning.specs.HashLayout.{Entry, Store, Pairs, IsStore, pair_size, pair_class, entry_block, entry_pair}
 use Rattle.store_meaning.specs.StoreSteps.{entry_for, put_by, put_in, with_moved}
 use Rattle.store_meaning.specs.Reach.{Place, At, reach_of, count_of}
 use Rattle.store_meaning.specs.Standing.{Stands, MayHoldStore, blocks_in}
 use Rattle.store_meaning.proofs.Lists.{all_mono, all_left, all_right, map_all, class_within}
 use Rattle.store_meaning.proofs.HeapSteps.{first_small}
 use Rattle.store_meaning.proofs.GivingBack.{gives_back}
-use Rattle.store_meaning.proofs.TableSteps.{Spot, link_at, link_of, others, addresses}
+use Rattle.store_meaning.proofs.TableSteps.{Spot, link_at, others, addresses}
 use Rattle.page_heap.specs.declared.planned.Plan.{Plan}
-use Rattle.page_heap.specs.HeapCalls.{IsInUse, IsPlanned, plan_for, commit_store, free_store}
+use Rattle.page_heap.specs.HeapCalls.{IsInUse, plan_for, commit_store}
 use Rattle.page_heap.proofs.Plans.{commits}
 use Rattle.page_hash.specs.declared.chain.Located.{Located}
 use Rattle.page_hash.specs.PairStores.{pair_bytes}
-use Rattle.page_hash.specs.Touching.{IsOfStore, MakesPresent, LacksStorePage}
-use Rattle.page_hash.specs.Puts.{FitsPair, AddsOnly, MeetsPlace, Places, IsFoundElsewhere, HasWords, MakesWordsReady, IsReadyForNew, IsReadyForMove, linked_stored, moved_stored, put_at}
+use Rattle.page_hash.specs.Touching.{MakesPresent}
+use Rattle.page_hash.specs.Puts.{FitsPair, Places, IsFoundElsewhere, HasWords, MakesWordsReady, IsReadyForMove, linked_stored, moved_stored, put_at}
 use Rattle.page_hash.proofs.NextReach.{committed_within, freed_same, zip_mono, count_moved}
 use Rattle.page_hash.proofs.StoreChanges.{IsSpot, class_of-entry, pairs_beside}
 use Rattle.page_hash.proofs.PutRanges.{ready_part}
-use Rattle.page_hash.proofs.Touched.{absent_not}
-use Rattle.page_hash.proofs.PutStanding.{ReadsAlike, KeepsTo, keeps_more, keeps_touched, counted_behind, alike_present, alike_same, alike_on, store_alike, touched_page}
+use Rattle.page_hash.proofs.PutStanding.{ReadsAlike, keeps_more, counted_behind, alike_present, alike_same, alike_on, store_alike}
 use Rattle.page_hash.proofs.StoreParts.{StoresIn, putting, stores_in, full_then}
 use Rattle.page_hash.proofs.NewParts.{CommitsIn, commits_in, commit_ready, word_stored, HoldsPair, holds_pair, pair_bytes-size, class_half}
 use Rattle.page_hash.proofs.NewSteps.{class_is_listed}
 use Rattle.page_hash.proofs.MovedSteps.{still_in_use, entry_in_use, linked_heap, moved_makes}
-use Rattle.page_hash.proofs.Unlinking.{IsEntryOf, entry_named, in_order, words_below, linked_at, CanTouch, can_touch, class_named, link_up}
+use Rattle.page_hash.proofs.Unlinking.{IsEntryOf, entry_named, in_order, words_below, linked_at, next_named, can_touch, class_named}
 use Rattle.page_hash.proofs.PlacedInPlace.{entry_lies}
 use Rattle.page_hash.proofs.PlacedNew.{IsPlanOf, plan_is, plan_room, size_few, keeps_first, adds_first}
-use Rattle.page_hash.proofs.PutAnswers.{places_by, KeepsMore}
+use Rattle.page_hash.proofs.PutAnswers.{places_by}
 
 -- ---- what a store says of the block that was found
 
@@ -151,8 +149,7 @@ ready_moved old one ready store of key value plan located touches fits is planne
         low = (omega (arith, planned.within.1, room), words.link.low);
       };
       block = touches.words.block;
-      part = record { area = words.block.area; listed = words.block.listed; has = words.block.has };
-      low = words.block.low;
+      next = next_named ready.mem store of key located then found.named;
     }
 
 -- ---- the stores

@@ -1,21 +1,20 @@
 -- A put of a new key: what its touches and its stores leave.
-use Rattle.std.proofs.Common.{◌≡◌, ℕ, suc, ◌+◌, ◌-◌, ◌*◌, ◌^◌, ◌<◌, ◌≤◌, ◌⊎◌, List, [], ◌∷◌, ◌++◌, length, map, IsSome, is_some, refl, sym, ◌∙◌, ap, subst, arith, inl, inr, Contains}
-use Rattle.std.specs.Prelude.{IsNone, None}
+use Rattle.std.proofs.Common.{◌≡◌, ℕ, suc, ◌+◌, ◌-◌, ◌^◌, ◌<◌, ◌≤◌, List, [], ◌∷◌, ◌++◌, length, map, IsSome, sym, ◌∙◌, ap, subst, arith, inl, inr, Contains}
+use Rattle.std.specs.Prelude.{None}
 use Rattle.std.specs.Option.{option_map}
 use Rattle.std.specs.FinMap.{get, insert, entries}
 use Rattle.std.specs.List.{AllZip}
 use Rattle.std.proofs.lemmas.List.Sorted.{IsPermutation-refl}
 use Rattle.byteorder.specs.Endian.{big_bytes, big_number}
-use Rattle.vm_base.specs.Counts.{Rose}
 use Rattle.vm_base.specs.FlatMemory.{FlatMemory}
 use Rattle.vm_base.specs.FlatLaws.{AreFullPages}
-use Rattle.vm_base.specs.MemoryState.{MemoryState, IsMemory, IsKept, IsIn}
-use Rattle.vm_base.specs.MemoryCalls.{IsInRange, IsReady, after_store}
+use Rattle.vm_base.specs.MemoryState.{MemoryState, IsMemory, IsKept}
+use Rattle.vm_base.specs.MemoryCalls.{IsInRange, IsReady}
 use Rattle.vm_base.proofs.FlatLaws.{full_from_ready}
 use Rattle.store_meaning.specs.Layout.{classes, class_of, header_at, heap_at, heap_end, pairs_field, store_cells, word_at}
 use Rattle.store_meaning.specs.HeapLayout.{Heap, IsHeap, ArePresent, next_at, committed}
 use Rattle.store_meaning.specs.HashLayout.{Entry, Store, Pairs, IsStore, pair_size, pair_class, entry_block, entries_of, chain_of}
-use Rattle.store_meaning.specs.StoreSteps.{bucket_of, entry_for, put_by, put_in, with_new}
+use Rattle.store_meaning.specs.StoreSteps.{bucket_of, entry_for, put_by, put_in}
 use Rattle.store_meaning.specs.Reach.{Place, At, reach_of, count_of}
 use Rattle.store_meaning.specs.Standing.{Stands, MayHoldStore, blocks_in}
 use Rattle.store_meaning.proofs.Lists.{all_mono, all_left, all_map, map_all, all_permuted}
@@ -29,17 +28,17 @@ use Rattle.page_hash.specs.declared.search.Search.{Search}
 use Rattle.page_hash.specs.PairStores.{pair_bytes}
 use Rattle.page_hash.specs.Touching.{IsOfStore, MakesPresent, LacksStorePage, MakesReady}
 use Rattle.page_hash.specs.Walks.{bucket_at, IsSearch}
-use Rattle.page_hash.specs.Puts.{FitsPair, PutIsPresent, AddsOnly, MeetsBlock, MeetsPlace, Places, PlaceFails, LacksKey, IsReadyForNew, new_stored, put_at}
+use Rattle.page_hash.specs.Puts.{FitsPair, AddsOnly, MeetsBlock, Places, PlaceFails, LacksKey, IsReadyForNew, new_stored, put_at}
 use Rattle.page_hash.proofs.MapEntries.{get_entry, chain_part}
-use Rattle.page_hash.proofs.NextReach.{bytes_of, committed_within, next_within, count_new}
+use Rattle.page_hash.proofs.NextReach.{committed_within, next_within, count_new}
 use Rattle.page_hash.proofs.StoreChanges.{bucket_inside}
-use Rattle.page_hash.proofs.PutRanges.{heap_range, header_range, bucket_range, ready_part}
+use Rattle.page_hash.proofs.PutRanges.{heap_range, bucket_range, ready_part}
 use Rattle.page_hash.proofs.Touched.{meets_range, absent_not}
-use Rattle.page_hash.proofs.PutStanding.{ReadsAlike, KeepsTo, IsAllowed, keeps_more, keeps_touched, keeps_lacking, keeps_ready, counted_behind, allowed_block, allowed_below, alike_present, alike_same, alike_on, store_alike, touched_page}
-use Rattle.page_hash.proofs.StoreParts.{StoresIn, putting, stores_in, full_then, keeps_then}
+use Rattle.page_hash.proofs.PutStanding.{ReadsAlike, IsAllowed, keeps_more, keeps_touched, keeps_lacking, keeps_ready, counted_behind, allowed_block, allowed_below, alike_present, alike_same, alike_on, store_alike, touched_page}
+use Rattle.page_hash.proofs.StoreParts.{StoresIn, putting, stores_in, full_then}
 use Rattle.page_hash.proofs.NewParts.{planned_at, CommitsIn, commits_in, commit_ready, word_stored, HoldsPair, holds_pair, pair_bytes-size, entries_few, class_half}
 use Rattle.page_hash.proofs.NewSteps.{class_is_listed, bucket_between, new_makes}
-use Rattle.page_hash.proofs.PutAnswers.{places_by, fails_by, KeepsMore, KeepsBlocks, PutsStore}
+use Rattle.page_hash.proofs.PutAnswers.{places_by, fails_by, KeepsMore}
 
 -- the plan is that of each heap for so many bytes, and lies in the heap
 pub record IsPlanOf (memory : FlatMemory) (plan : Plan) (size : ℕ) : Type 0 where

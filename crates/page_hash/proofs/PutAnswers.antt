@@ -1,21 +1,16 @@
 -- What a put answers, put together from its touches and its stores.
-use Rattle.std.proofs.Common.{◌≡◌, ℕ, ◌+◌, ◌≤◌, ◌⊎◌, max, eqb, cond, Bool, true, false, List, [], ◌∷◌, ◌++◌, length, map, Option, Some, None, IsSome, is_some, refl, sym, ◌∙◌, ap, subst, arith, inl, inr}
-use Rattle.std.specs.Prelude.{IsNone}
+use Rattle.std.proofs.Common.{◌≡◌, ℕ, ◌≤◌, eqb, cond, Bool, true, false, List, [], ◌∷◌, ◌++◌, length, Option, Some, None, is_some, sym, ◌∙◌}
 use Rattle.std.specs.FinMap.{get, insert}
-use Rattle.std.specs.List.{AllByRecursion, AllZip}
-use Rattle.std.proofs.lemmas.Bool.{cases_Bool, cases_eq, cond-true, cond-false, false≢true}
+use Rattle.std.specs.List.{AllZip}
 use Rattle.std.proofs.lemmas.List.{length-set}
 use Rattle.vm_base.specs.Counts.{Rose}
-use Rattle.vm_base.specs.FlatMemory.{FlatMemory}
-use Rattle.vm_base.specs.MemoryState.{MemoryState, IsMemory}
-use Rattle.vm_base.specs.MemoryCalls.{IsInRange}
+use Rattle.vm_base.specs.MemoryState.{MemoryState}
 use Rattle.store_meaning.specs.Layout.{classes}
-use Rattle.store_meaning.specs.HeapLayout.{ArePresent}
-use Rattle.store_meaning.specs.HashLayout.{Entry, Store, Pairs, IsStore, StandsForMap, pair_class}
+use Rattle.store_meaning.specs.HashLayout.{Entry, Store, Pairs, IsStore, pair_class}
 use Rattle.store_meaning.specs.StoreSteps.{entry_for, put_by, put_in, with_value, with_moved}
 use Rattle.store_meaning.specs.Reach.{Place, At, reach_of}
 use Rattle.store_meaning.specs.Standing.{Stands, blocks_in}
-use Rattle.page_hash.specs.Puts.{PutIsPresent, AddsOnly, MeetsBlock, MeetsPlace, Places, PutFails, PlaceFails}
+use Rattle.page_hash.specs.Puts.{PutIsPresent, AddsOnly, MeetsBlock, MeetsPlace, Places, PlaceFails}
 use Rattle.page_hash.proofs.PutStanding.{ReadsAlike, KeepsTo, keeps_stored, stands_by, store_alike, present_alike}
 
 -- a put changes no count of buckets

@@ -1,8 +1,8 @@
 -- The ranges that a put touches and stores to.
-use Rattle.std.proofs.Common.{◌≡◌, ℕ, zero, suc, ◌+◌, ◌-◌, ◌*◌, ◌^◌, ◌<◌, ◌≤◌, Bool, true, false, List, [], ◌∷◌, ◌++◌, length, eqb, refl, sym, ◌∙◌, ap, subst, arith, inl, inr, Contains}
+use Rattle.std.proofs.Common.{◌≡◌, ℕ, ◌+◌, ◌*◌, ◌<◌, ◌≤◌, Bool, true, false, List, [], ◌∷◌, ◌++◌, length, eqb, refl, sym, ap, subst, arith, inl, inr, Contains}
 use Rattle.std.specs.Prelude.{◌||◌, ◌==◌}
 use Rattle.std.specs.List.{list_any, range_with_len}
-use Rattle.std.proofs.lemmas.Bool.{cases_eq, cond-true, cond-false, eq-eqb, ne_eqb, or_cases, false≢true}
+use Rattle.std.proofs.lemmas.Bool.{cases_eq, cond-true, eq-eqb, or_cases, false≢true}
 use Rattle.vm_base.specs.Places.{page_count, cells_of_range}
 use Rattle.vm_base.specs.FlatMemory.{FlatMemory}
 use Rattle.vm_base.specs.MemoryState.{MemoryState, IsListed}
@@ -11,9 +11,8 @@ use Rattle.vm_base.proofs.FlatAreas.{listed-range, cells-of_pages}
 use Rattle.store_meaning.specs.Layout.{store_cells, store_area, array_pages, header_area, heap_area, header_at, heap_at, heap_end}
 use Rattle.store_meaning.specs.HashLayout.{Store, Pairs, IsStore}
 use Rattle.page_heap.proofs.Flat.{in_range}
-use Rattle.page_hash.specs.HashCalls.{IsOfArea}
 use Rattle.page_hash.specs.Touching.{IsOfStore}
-use Rattle.page_hash.proofs.StoreReads.{array_region, bucket_count, bucket_part}
+use Rattle.page_hash.proofs.StoreReads.{array_region, bucket_count}
 use Rattle.page_hash.proofs.Touched.{meets_range}
 
 listed_front : (cell : ℕ) (xs ys : List ℕ) → IsListed cell xs → IsListed cell (xs ++ ys)

@@ -1,15 +1,12 @@
 -- A memory that stands within its reach does so behind the touches of a put, made or refused.
-use Rattle.std.proofs.Common.{◌≡◌, ℕ, zero, suc, ◌+◌, ◌*◌, ◌^◌, ◌<◌, ◌≤◌, ◌⊎◌, max, List, [], ◌∷◌, ◌++◌, length, IsSome, Option, Some, None, refl, sym, ◌∙◌, ap, subst, arith, inl, inr, Contains, All, is_some}
-use Rattle.std.specs.Prelude.{IsNone}
-use Rattle.std.specs.FinMap.{get, insert}
+use Rattle.std.proofs.Common.{◌≡◌, ℕ, ◌+◌, ◌*◌, ◌<◌, ◌≤◌, ◌⊎◌, max, List, [], ◌∷◌, ◌++◌, length, IsSome, Option, Some, None, refl, sym, ◌∙◌, ap, subst, arith, inl, inr, All, is_some}
+use Rattle.std.specs.FinMap.{get}
 use Rattle.std.specs.List.{AllByRecursion, AllZip}
-use Rattle.std.proofs.lemmas.Bool.{cases_Bool, cases_eq, false≢true}
 use Rattle.std.proofs.lemmas.List.{length-replicate}
 use Rattle.std.proofs.lemmas.List.Elements.{All-replicate}
 use Rattle.vm_base.specs.Places.{page_of, page_count}
-use Rattle.vm_base.specs.FlatMemory.{FlatMemory, PageMap, IsFlat, area_of, bytes_at, zero_page}
-use Rattle.vm_base.specs.FlatStep.{with_pages}
-use Rattle.vm_base.specs.MemoryState.{MemoryState, IsMemory, IsKept, own_of}
+use Rattle.vm_base.specs.FlatMemory.{FlatMemory, IsFlat, bytes_at, zero_page}
+use Rattle.vm_base.specs.MemoryState.{MemoryState, IsMemory, own_of}
 use Rattle.vm_base.specs.MemoryCalls.{IsInRange, touched}
 use Rattle.vm_base.proofs.FlatLaws.{bytes_at-with_pages, get-with_pages_there, get-with_pages_beyond, get-with_pages_absent}
 use Rattle.vm_base.proofs.FlatAreas.{area_of-found}

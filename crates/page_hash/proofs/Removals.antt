@@ -1,6 +1,6 @@
 -- A pair is taken out, for each map and each store that the memory stands for by it.
-use Rattle.std.proofs.Common.{◌≡◌, ℕ, ◌+◌, ◌-◌, ◌⊎◌, max, ◌^◌, ◌<◌, ◌≤◌, List, [], ◌∷◌, ◌++◌, length, length-set, append-nil, Option, Some, None, is_some, IsSome, refl, sym, ◌∙◌, ap, subst, arith, inl, Contains}
-use Rattle.std.specs.Prelude.{true, false, IsNone, unwrap_or, zip, sum, map, ◌*◌}
+use Rattle.std.proofs.Common.{◌≡◌, ℕ, ◌+◌, ◌-◌, ◌⊎◌, max, ◌^◌, ◌<◌, ◌≤◌, List, [], ◌∷◌, length, length-set, append-nil, Option, Some, None, is_some, IsSome, refl, sym, ◌∙◌, ap, subst, arith, inl, Contains}
+use Rattle.std.specs.Prelude.{true, false, unwrap_or, ◌*◌}
 use Rattle.std.specs.Option.{option_map}
 use Rattle.std.specs.List.{AllZip}
 use Rattle.std.specs.FinMap.{get, remove, contains_key}
@@ -10,10 +10,10 @@ use Rattle.vm_base.specs.FlatMemory.{FlatMemory}
 use Rattle.vm_base.specs.FlatLaws.{AreFullPages}
 use Rattle.vm_base.specs.MemoryState.{MemoryState, IsMemory, IsKept}
 use Rattle.vm_base.proofs.FlatLaws.{is_some-with_bytes, full_from_ready}
-use Rattle.store_meaning.specs.Layout.{header_at, heap_at, pairs_field, list_field, classes, class_of, word_at, store_cells}
-use Rattle.store_meaning.specs.HeapLayout.{Heap, IsHeap}
+use Rattle.store_meaning.specs.Layout.{header_at, pairs_field, list_field, classes, class_of, word_at, store_cells}
+use Rattle.store_meaning.specs.HeapLayout.{Heap}
 use Rattle.store_meaning.specs.HashLayout.{Entry, Store, Pairs, IsStore, pair_class, chain_of}
-use Rattle.store_meaning.specs.StoreSteps.{bucket_of, entry_for, with_chain, without_key, removed_by, removed_from}
+use Rattle.store_meaning.specs.StoreSteps.{bucket_of, entry_for, without_key, removed_by, removed_from}
 use Rattle.store_meaning.specs.Reach.{Place, Reach, reach_of}
 use Rattle.store_meaning.specs.Standing.{KeepsWithin, Stands, IsStanding, StaysStanding, blocks_in}
 use Rattle.store_meaning.proofs.Lists.{class_within}
@@ -30,7 +30,7 @@ use Rattle.page_hash.proofs.MapEntries.{get_entry}
 use Rattle.page_hash.proofs.MapSteps.{remove_none}
 use Rattle.page_hash.proofs.Cleared.{may_kept}
 use Rattle.page_hash.proofs.StoreChanges.{find_spot, class_of-entry}
-use Rattle.page_hash.proofs.Unlinking.{taken_out, entry_named, located_behind, located_none, chain_at, in_order, entries_used, class_named, unlinked_store}
+use Rattle.page_hash.proofs.Unlinking.{taken_out, entry_named, located_behind, chain_at, in_order, entries_used, class_named, unlinked_store}
 
 -- ---- pages and blocks
 

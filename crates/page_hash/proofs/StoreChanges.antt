@@ -1,29 +1,28 @@
 -- What a remove and each kind of put make of a store: one entry less, one more in front, and another one in the place of one.
-use Rattle.std.proofs.Common.{◌≡◌, ℕ, zero, suc, ◌+◌, ◌*◌, ◌%◌, ◌^◌, ◌<◌, ◌≤◌, Bool, true, false, cond, not, List, [], ◌∷◌, ◌++◌, length, map, filter, get_or, set, Option, Some, None, is_some, refl, sym, ◌∙◌, ap, ap₂, subst, arith, inl, inr, IsPermutation, Contains, pow_pos, mod-lt}
+use Rattle.std.proofs.Common.{◌≡◌, ℕ, zero, suc, ◌+◌, ◌*◌, ◌%◌, ◌^◌, ◌<◌, ◌≤◌, false, cond, not, List, [], ◌∷◌, ◌++◌, length, map, get_or, set, Some, None, is_some, refl, sym, ◌∙◌, ap, ap₂, subst, arith, inl, inr, IsPermutation, Contains, pow_pos, mod-lt}
 use Rattle.std.specs.Prelude.{unwrap_or}
 use Rattle.std.specs.Option.{option_map}
 use Rattle.std.specs.Str.{bytes_eq}
 use Rattle.std.specs.List.{AllByRecursion, flat_map}
-use Rattle.std.specs.FinMap.{entries, get, insert, remove}
+use Rattle.std.specs.FinMap.{entries, insert, remove}
 use Rattle.std.proofs.lemmas.Bool.{cases_Bool, cond-true, cond-false, false≢true}
-use Rattle.std.proofs.lemmas.List.{map-append}
 use Rattle.std.proofs.lemmas.List.Elements.{recursion_from_All}
 use Rattle.std.proofs.lemmas.List.Sorted.{IsPermutation-refl, IsPermutation-sym, IsPermutation-trans, IsPermutation-cons, IsPermutation-middle, IsPermutation-map, IsPermutation-append_left, Contains-permutation, length_permutation}
 use Rattle.std.proofs.lemmas.Slice.Eq.{bytes_eq-Decides}
 use Rattle.byteorder.specs.Endian.{big_number}
 use Rattle.vm_base.specs.FlatMemory.{FlatMemory}
 use Rattle.vm_base.specs.FlatLaws.{AreApart}
-use Rattle.store_meaning.specs.Layout.{header_at, array_field, pairs_field, list_field, heap_at, classes, word_at}
-use Rattle.store_meaning.specs.HeapLayout.{Block, Heap, IsHeap, Links, block_bytes, free_of, next_at, committed, freed}
-use Rattle.store_meaning.specs.HashLayout.{Entry, Table, Store, Pairs, Holds, IsStore, hash_of, pair_size, pair_class, entry_block, entry_pair, chain_of, entries_of}
+use Rattle.store_meaning.specs.Layout.{header_at, pairs_field, list_field, classes, word_at}
+use Rattle.store_meaning.specs.HeapLayout.{Block, IsHeap, Links, block_bytes, free_of, next_at, committed, freed}
+use Rattle.store_meaning.specs.HashLayout.{Entry, Store, Pairs, Holds, IsStore, hash_of, pair_size, pair_class, entry_block, entry_pair, chain_of, entries_of}
 use Rattle.store_meaning.specs.StoreSteps.{bucket_of, entry_in, entry_for, with_entry, without_key, with_chain, next_entry, with_new, with_value, with_moved, removed_by}
 use Rattle.store_meaning.specs.Owned.{Range, word_range, entry_range}
-use Rattle.store_meaning.proofs.Lists.{all_mono, all_left, all_right, all_both, all_map, map_all, all_permuted, class_within}
+use Rattle.store_meaning.proofs.Lists.{all_left, all_right, all_map, all_permuted, class_within}
 use Rattle.store_meaning.proofs.HeapSteps.{KeepsPages, class_bytes}
 use Rattle.store_meaning.proofs.OwnedApart.{class_of-holds}
-use Rattle.store_meaning.proofs.TableSteps.{Spot, chains_with, others, entries_at, entries_above, link_at, link_of, AreSameBeside, IsAside, addresses, store_with, changes}
+use Rattle.store_meaning.proofs.TableSteps.{Spot, chains_with, others, entries_at, entries_above, link_at, link_of, AreSameBeside, IsAside, addresses, changes}
 use Rattle.store_meaning.proofs.HeapBeside.{heap_beside, in_use_beside, aside_of_middle, aside_of_next, next_off, link_off_middle, used_in_store, freed_used, committed_used}
-use Rattle.page_hash.proofs.MapEntries.{entry_in-some, entry_in-none, get_entry}
+use Rattle.page_hash.proofs.MapEntries.{get_entry}
 use Rattle.page_hash.proofs.MapSteps.{insert_new, removed_one, replaced_one, other_keys}
 
 -- ---- the place of an entry

@@ -1,17 +1,17 @@
 -- What is left beside the bytes that were stored.
-use Rattle.std.proofs.Common.{◌≡◌, ℕ, zero, suc, ◌+◌, ◌*◌, ◌^◌, ◌<◌, ◌≤◌, ◌⊎◌, List, [], ◌∷◌, ◌++◌, length, take, drop, eqb, Option, Some, None, IsSome, is_some, refl, sym, ◌∙◌, ap, ap₂, subst, arith, inl, inr, append-nil, length-append}
+use Rattle.std.proofs.Common.{◌≡◌, ℕ, ◌+◌, ◌^◌, ◌<◌, ◌≤◌, List, [], length, eqb, Option, Some, None, IsSome, is_some, refl, sym, ◌∙◌, ap, subst, arith, inl, inr, append-nil}
 use Rattle.std.specs.Prelude.{unwrap_or}
 use Rattle.std.specs.FinMap.{get}
 use Rattle.std.proofs.lemmas.Bool.{cases_eq, cond-true, cond-false, eq-eqb, ne_eqb}
 use Rattle.byteorder.specs.Endian.{big_bytes, big_number}
 use Rattle.byteorder.specs.Numbers.{big_number-reads_back}
-use Rattle.vm_base.specs.FlatMemory.{FlatMemory, PageMap, bytes_at}
+use Rattle.vm_base.specs.FlatMemory.{FlatMemory, bytes_at}
 use Rattle.vm_base.specs.FlatStep.{with_bytes}
 use Rattle.vm_base.specs.FlatLaws.{AreApart, AreFullPages}
-use Rattle.vm_base.specs.MemoryState.{MemoryState, IsMemory, own_of}
-use Rattle.vm_base.specs.MemoryCalls.{IsInRange, IsReady, after_store}
+use Rattle.vm_base.specs.MemoryState.{MemoryState, IsMemory}
+use Rattle.vm_base.specs.MemoryCalls.{IsReady}
 use Rattle.vm_base.proofs.FlatLaws.{bytes_at-with_bytes, bytes_at-with_bytes_apart, is_some-with_bytes, length-with_bytes, full_from_ready}
-use Rattle.store_meaning.specs.Layout.{number_at, word_at}
+use Rattle.store_meaning.specs.Layout.{number_at}
 use Rattle.store_meaning.proofs.HeapSteps.{KeepsPages}
 use Rattle.page_hash.specs.PairStores.{length_stored, value_stored}
 use Rattle.page_hash.proofs.PutRanges.{ready_part, range_part}

@@ -1,12 +1,12 @@
 -- Ranges of a store that a touch may ask for: parts of the header, of the heap and of the array.
-use Rattle.std.proofs.Common.{◌≡◌, ℕ, ◌+◌, ◌*◌, ◌<◌, ◌≤◌, eqb, [], List, refl, sym, ◌∙◌, ap, subst, arith, inl, inr, Contains, length}
+use Rattle.std.proofs.Common.{ℕ, ◌+◌, ◌*◌, ◌<◌, ◌≤◌, eqb, [], refl, sym, subst, arith, inl, inr, Contains, length}
 use Rattle.std.proofs.lemmas.Bool.{cases_eq, cond-true, cond-false, eq-eqb, ne_eqb, false≢true}
 use Rattle.vm_base.specs.Places.{page_of, cell_of, cells_of_range}
 use Rattle.vm_base.specs.FlatMemory.{FlatMemory}
 use Rattle.vm_base.specs.MemoryState.{IsListed}
 use Rattle.vm_base.proofs.FlatAreas.{range-listed}
 use Rattle.store_meaning.specs.Layout.{header_at, header_area, heap_area, heap_at, heap_end, array_pages, store_area, store_cells}
-use Rattle.store_meaning.specs.HashLayout.{Table, Store, Pairs, IsStore, IsTable}
+use Rattle.store_meaning.specs.HashLayout.{Store, Pairs, IsStore}
 use Rattle.page_hash.specs.Touching.{IsOfStore}
 use Rattle.page_hash.proofs.StoreReads.{array_region, bucket_count, bucket_low}
 use Rattle.page_hash.proofs.PresentTouch.{IsOfRegions, region_listed}

@@ -1,11 +1,10 @@
 -- What the stores of a pair leave.
-use Rattle.std.proofs.Common.{◌≡◌, ℕ, ◌+◌, ◌≤◌, List, [], ◌∷◌, ◌++◌, length, take, drop, refl, sym, ◌∙◌, ap, ap₂, subst, arith, length-append, inl}
+use Rattle.std.proofs.Common.{◌≡◌, ℕ, ◌+◌, List, [], ◌++◌, length, take, refl, sym, ◌∙◌, ap, arith, length-append, inl}
 use Rattle.std.proofs.Math.Seq.{take-append_seam}
-use Rattle.byteorder.specs.Endian.{big_bytes}
 use Rattle.vm_base.specs.MemoryState.{MemoryState, IsMemory, IsKept}
 use Rattle.vm_base.specs.MemoryCalls.{after_store}
 use Rattle.vm_base.proofs.FlatPages.{with_bytes-append}
-use Rattle.page_hash.specs.PairStores.{head_bytes, front_bytes, pair_bytes}
+use Rattle.page_hash.specs.PairStores.{head_bytes}
 
 -- of two stores the one behind the other, both are one
 pub stores_join : (state : MemoryState) (address : ℕ) (front back : List ℕ)

@@ -1,18 +1,15 @@
 -- Touches of ranges of a store: what they leave, and that only a frame can be wanting.
-use Rattle.std.proofs.Common.{◌≡◌, ℕ, zero, suc, ◌+◌, ◌*◌, ◌^◌, ◌<◌, ◌≤◌, Bool, true, false, List, [], ◌∷◌, ◌++◌, length, map, Result, Ok, Err, IsOk, OnOk, IfErr, is_ok, IsSome, is_some, refl, sym, ◌∙◌, ap, subst, arith, inl, inr, eqb, Some, None, max}
+use Rattle.std.proofs.Common.{◌≡◌, ℕ, zero, suc, ◌+◌, ◌*◌, ◌<◌, ◌≤◌, List, [], Result, Ok, Err, OnOk, IfErr, is_ok, IsSome, refl, sym, ◌∙◌, ap, arith, inl, inr, eqb, max}
 use Rattle.std.specs.Prelude.{◌-◌, Option, IsNone}
 use Rattle.std.specs.FinMap.{get}
-use Rattle.std.specs.List.{list_any, range_with_len, flat_map}
-use Rattle.std.proofs.lemmas.Bool.{cases_Bool, cases_eq, cond-true, cond-false, false≢true, eq-eqb, ne_eqb}
+use Rattle.std.proofs.lemmas.Bool.{cases_eq, cond-true, cond-false, false≢true, eq-eqb, ne_eqb}
 use Rattle.vm_base.specs.declared.faults.Fault.{Fault}
 use Rattle.vm_base.specs.declared.faults.Fault.TheVariants.{NoArea, NoWrite, NoFrame, Overlap, AreasFull, CellsFull}
 use Rattle.vm_base.specs.Places.{page_of, page_count, cells_of_range}
-use Rattle.vm_base.specs.FlatMemory.{FlatMemory, PageMap, IsFlat, bytes_at, zero_page}
-use Rattle.vm_base.specs.FlatStep.{with_page, with_pages}
-use Rattle.vm_base.specs.MemoryState.{MemoryState, IsMemory, IsKept, IsIn, IsListed, own_of}
-use Rattle.vm_base.specs.MemoryCalls.{IsInRange, IsReady, Touches, TouchFails, Refuses, faulted, touch_answer, touched}
-use Rattle.vm_base.specs.FlatLaws.{IsAmong, IsBeyond}
-use Rattle.vm_base.proofs.FlatLaws.{get-with_pages_there, get-with_pages_absent, get-with_pages_beyond}
+use Rattle.vm_base.specs.FlatMemory.{FlatMemory, PageMap}
+use Rattle.vm_base.specs.FlatStep.{with_pages}
+use Rattle.vm_base.specs.MemoryState.{MemoryState, IsMemory, IsKept, own_of}
+use Rattle.vm_base.specs.MemoryCalls.{IsInRange, Touches, TouchFails, Refuses, faulted, touch_answer, touched}
 use Rattle.vm_base.proofs.FlatAreas.{touch_of-in_area}
 use Rattle.vm_base.proofs.FlatSlots.{slots-among, touch_answer-areas}
 use Rattle.vm_base.proofs.FlatPages.{with_page_there}

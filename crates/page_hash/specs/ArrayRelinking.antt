@@ -1,6 +1,7 @@
--- An array whose chains are linked anew from another one, bucket by bucket.
-use Rattle.std.specs.Prelude.{◌≡◌, ◌⊎◌, ℕ, ◌+◌, ◌-◌, ◌*◌, ◌%◌, ◌^◌, ◌≤◌, ◌<◌, length, Contains}
+-- An array whose chains are linked anew from another one, page by page of buckets.
+use Rattle.std.specs.Prelude.{◌≡◌, ◌⊎◌, ℕ, ◌+◌, ◌-◌, ◌*◌, ◌%◌, ◌^◌, ◌≤◌, ◌<◌, List, length, take, drop, Contains}
 use Rattle.std.specs.List.{AllByRecursion}
+use Rattle.byteorder.specs.Endian.{big_number}
 use Rattle.vm_base.specs.FlatMemory.{FlatMemory, bytes_at}
 use Rattle.vm_base.specs.FlatLaws.{AreApart}
 use Rattle.store_meaning.specs.Layout.{array_a, array_b, array_pages, store_area, word_at}
@@ -14,6 +15,8 @@ pub record AreArrays (arrays : Arrays) : Type 0 where
       ⊎ ((arrays.old ≡ array_b) × (arrays.new ≡ array_a))
   pub some : 0 < arrays.buckets
   pub few : arrays.buckets ≤ 2 ^ 23
+  pub pages : ℕ
+  pub whole : arrays.buckets ≡ 512 * pages
 
 -- the chains of the old array may be linked anew, from a bucket on
 pub record IsOldTable (memory : FlatMemory) (arrays : Arrays) (table : Table)
@@ -35,6 +38,24 @@ abbrev pub IsBesideChains : Table → ℕ → ℕ → ℕ → ℕ → Type 0
 IsBesideChains table from to other size =
     (bucket : ℕ) → from ≤ bucket → bucket < to
     → AllByRecursion (λ entry. AreApart entry.at 8 other size) (chain_of table bucket)
+
+-- a word among bytes, by its place
+abbrev pub word_of : List ℕ → ℕ → ℕ
+word_of bytes place = big_number 8 (take 8 (drop (8 * place) bytes))
+
+-- the chains of these buckets are linked anew, each as those of two buckets whose first blocks
+-- stand in two buffers, and nothing else was changed
+pub record SplitsPart (old new : FlatMemory) (arrays : Arrays) (table : Table) (from to : ℕ)
+    (lows highs : List ℕ) : Type 0 where
+  pub beside : (other size : ℕ) → IsBesideChains table from to other size
+      → bytes_at new.present other size ≡ bytes_at old.present other size
+  pub lower : (bucket : ℕ) → from ≤ bucket → bucket < to
+      → LinksFrom new (word_of lows (bucket - from))
+      (places_of (turned_for (2 * arrays.buckets) bucket (chain_of table bucket)))
+  pub upper : (bucket : ℕ) → from ≤ bucket → bucket < to
+      → LinksFrom new (word_of highs (bucket - from))
+      (places_of (turned_for (2 * arrays.buckets) (bucket + arrays.buckets)
+      (chain_of table bucket)))
 
 -- the chains of these buckets are linked anew, each as those of two buckets, and nothing else was
 -- changed

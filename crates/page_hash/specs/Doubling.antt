@@ -4,7 +4,7 @@ use Rattle.std.specs.FinMap.{get}
 use Rattle.byteorder.specs.Endian.{big_bytes}
 use Rattle.vm_base.specs.Counts.{Rose}
 use Rattle.vm_base.specs.Places.{cells_of_range}
-use Rattle.vm_base.specs.FlatMemory.{Area, FlatMemory, bytes_at}
+use Rattle.vm_base.specs.FlatMemory.{Area, FlatMemory}
 use Rattle.vm_base.specs.FlatStep.{with_bytes}
 use Rattle.vm_base.specs.FlatLaws.{HasNumbersOf, unmapped}
 use Rattle.vm_base.specs.MemoryState.{MemoryState, IsMemory, own_of}

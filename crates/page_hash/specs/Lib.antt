@@ -11,4 +11,5 @@ pub mod Doubling
 pub mod Touching
 pub mod PairStores
 pub mod Puts
+pub mod Putting
 pub mod Removing

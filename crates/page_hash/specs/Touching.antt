@@ -11,7 +11,6 @@ use Rattle.vm_base.specs.FlatStep.{is_writable}
 use Rattle.vm_base.specs.MemoryState.{MemoryState, IsListed, KeepsReady}
 use Rattle.vm_base.specs.MemoryCalls.{IsInRange, IsReady, Reaches, touched}
 use Rattle.store_meaning.specs.Layout.{store_cells}
-use Rattle.store_meaning.specs.HeapLayout.{ArePresent}
 
 -- one area that may be written has each byte of the range, whose cells are a store's
 pub record IsOfStore (memory : FlatMemory) (address n : ℕ) : Type 0 where

@@ -1,5 +1,4 @@
-use Rattle.std.proofs.Common.{◌≡◌, ℕ, ◌+◌, ◌-◌, ◌≤◌, ◌∙◌, ◌++◌, min, length, take, drop, fold, replicate, sym, ap, subst, arith}
-use Rattle.byteorder.specs.Endian.{big_number}
+use Rattle.std.proofs.Common.{◌≡◌, ℕ, ◌+◌, ◌-◌, ◌≤◌, ◌∙◌, ◌++◌, length, take, drop, fold, replicate, ap, arith}
 use Rattle.vm_base.specs.FlatMemory.{bytes_at}
 use Rattle.vm_base.proofs.FlatBytes.{length-bytes_at}
 use Rattle.store_meaning.specs.HashLayout.{hash_step}

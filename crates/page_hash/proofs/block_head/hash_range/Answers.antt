@@ -1,4 +1,4 @@
-use Rattle.std.proofs.Common.{◌≡◌, ◌+◌, ◌-◌, ◌≤◌, ◌∙◌, ◌++◌, length, take, drop, fold, sym, ap, arith}
+use Rattle.std.proofs.Common.{◌≡◌, ◌+◌, ◌≤◌, ◌∙◌, ◌++◌, length, take, drop, fold, ap, arith}
 use Rattle.vm_base.specs.FlatMemory.{bytes_at}
 use Rattle.vm_base.proofs.FlatBytes.{length-bytes_at}
 use Rattle.store_meaning.specs.HashLayout.{hash_step}

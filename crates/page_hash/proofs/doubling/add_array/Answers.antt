@@ -1,4 +1,4 @@
-use Rattle.std.proofs.Common.{◌≤◌, [], inl, inr, arith}
+use Rattle.std.proofs.Common.{[], inl, inr, arith}
 use Rattle.std.proofs.lemmas.Bool.{false≢true}
 use Rattle.vm_base.proofs.IsKeptOn.{IsKept-on}
 use Rattle.store_meaning.specs.Layout.{store_cells}

@@ -1,5 +1,5 @@
-use Rattle.std.proofs.Common.{◌≡◌, ◌∙◌, ap}
-use Rattle.store_meaning.specs.Layout.{word_at, array_field, buckets_field, pairs_field}
+use Rattle.std.proofs.Common.{◌∙◌, ap}
+use Rattle.store_meaning.specs.Layout.{word_at, buckets_field, pairs_field}
 use Rattle.store_meaning.specs.HashLayout.{other_array}
 use Rattle.vm_base.specs.MemoryState.{MemoryState}
 use Rattle.page_hash.proofs.doubling.arrays_of.Goals as goal

@@ -4,7 +4,6 @@ use Rattle.vm_base.specs.MemoryState.{MemoryState, IsMemory, IsKept, own_of}
 use Rattle.vm_base.specs.MemoryCalls.{touched}
 use Rattle.vm_base.proofs.IsKeptOn.{IsKept-on}
 use Rattle.store_meaning.specs.Layout.{store_cells}
-use Rattle.store_meaning.specs.HashLayout.{Store, Pairs, IsStore}
 use Rattle.store_meaning.specs.Standing.{IsStanding}
 use Rattle.page_hash.specs.Doubling.{IsDue, AddsArray, LacksArray}
 use Rattle.page_hash.proofs.BlockLinks.{may_on}

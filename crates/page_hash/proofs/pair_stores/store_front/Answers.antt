@@ -1,6 +1,6 @@
-use Rattle.std.proofs.Common.{◌≡◌, ◌+◌, ◌++◌, length, sym, ◌∙◌, ap, arith}
+use Rattle.std.proofs.Common.{◌+◌, ◌++◌, length, sym, ◌∙◌, ap}
 use Rattle.vm_base.specs.MemoryCalls.{after_store}
-use Rattle.page_hash.specs.PairStores.{head_bytes, front_bytes}
+use Rattle.page_hash.specs.PairStores.{head_bytes}
 use Rattle.page_hash.proofs.StoredPairs.{stores_join, head_size, front_taken}
 use Rattle.page_hash.proofs.pair_stores.store_front.Goals as goal
 

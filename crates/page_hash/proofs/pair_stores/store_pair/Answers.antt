@@ -1,4 +1,4 @@
-use Rattle.std.proofs.Common.{◌≡◌, ◌+◌, ◌++◌, length, sym, ◌∙◌, ap, arith, length-append}
+use Rattle.std.proofs.Common.{◌≡◌, ◌+◌, length, ◌∙◌, ap, arith, length-append}
 use Rattle.vm_base.specs.MemoryCalls.{after_store}
 use Rattle.page_hash.specs.PairStores.{head_bytes, front_bytes}
 use Rattle.page_hash.proofs.StoredPairs.{stores_join, head_size}

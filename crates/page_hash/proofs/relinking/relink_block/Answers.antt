@@ -1,4 +1,3 @@
-use Rattle.std.proofs.Common.{◌≡◌, ◌∙◌, ap, subst}
 use Rattle.page_hash.proofs.BlockLinks.{block_touch, relinks_block}
 use Rattle.page_hash.proofs.relinking.relink_block.Goals as goal
 

@@ -2,8 +2,7 @@ use Rattle.std.proofs.Common.{◌≡◌, ◌-◌, ◌∙◌, ap, sym, subst, ari
 use Rattle.std.specs.Prelude.{slice_index, slice_set}
 use Rattle.store_meaning.specs.HeapLayout.{ArePresent}
 use Rattle.vm_base.specs.MemoryState.{MemoryState}
-use Rattle.store_meaning.specs.HashLayout.{Entry}
-use Rattle.page_hash.specs.Relinking.{KeepsPlace, MayRelink, IsHeldBlock, with_word, Splits}
+use Rattle.page_hash.specs.Relinking.{KeepsPlace, MayRelink, with_word}
 use Rattle.page_hash.proofs.BlockLinks.{keeps_on, may_on}
 use Rattle.page_hash.proofs.ChainTurns.{Halfway, halfway_block, halfway_step, halfway_end}
 use Rattle.page_hash.proofs.relinking.relink_chain.Goals as goal

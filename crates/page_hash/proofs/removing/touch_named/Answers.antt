@@ -1,9 +1,8 @@
-use Rattle.std.proofs.Common.{◌≡◌, ℕ, sym, ◌∙◌, subst, arith}
+use Rattle.std.proofs.Common.{ℕ, sym, ◌∙◌, subst, arith}
 use Rattle.vm_base.specs.FlatMemory.{FlatMemory}
 use Rattle.vm_base.proofs.IsKeptOn.{IsKept-on}
 use Rattle.store_meaning.specs.Layout.{header_at, store_cells}
 use Rattle.store_meaning.specs.HeapLayout.{ArePresent}
-use Rattle.store_meaning.specs.Standing.{IsStanding}
 use Rattle.page_hash.specs.Touching.{IsOfStore}
 use Rattle.page_hash.specs.Removing.{IsNamedBlock}
 use Rattle.page_hash.specs.declared.chain.Located.{Located}
