@@ -13,7 +13,8 @@ ghost use Rattle.leaf_cell.specs.States.{state_of, nth_number, snapshot_part};
 use crate::frame_places::FramePlaces;
 use crate::leaf_table::{CELL_PAGES, LeafTable};
 use crate::lookups::{
-    count_own, count_table, covers_in, leaf_state, place_in, read_place, snapshot_place,
+    count_own, count_table, covers_in, leaf_state, may_write_in, place_in, read_place,
+    snapshot_place,
 };
 use crate::snapshot::{LeafState, Snapshot};
 use std::alloc::Global;
@@ -162,6 +163,19 @@ impl Cell {
         ensures account { (account : CellAccount) → StandsFor self.now account → result ≡ has_present account.state.leaves.parent first pages }
     {
         covers_in(&self.parent, first, pages)
+    }
+
+    /// Whether the entry of the parent's page tells that it may be written to. It is one look at
+    /// the entry.
+    pub fn may_write(&self, page: u16) -> bool
+        requires page { page < CELL_PAGES }
+        ensures writable { result ≡ writable_at self.now.writable page }
+
+        // Where no leaf is joined such a page is present, and the parent's alone.
+        ensures alone { AreUnjoined self.now.leaves.kept → result ≡ true
+            → IsAlone self.now.leaves page }
+    {
+        may_write_in(&self.parent, page)
     }
 
     /// The number of the nth snapshot here, counted from 0 in rising order.

@@ -10,7 +10,7 @@ use Rattle.store_meaning.specs.Layout.{word_at}
 use Rattle.store_meaning.specs.HashLayout.{Entry}
 use Rattle.store_meaning.specs.StoreSteps.{entry_in}
 use Rattle.page_hash.specs.declared.chain.Located.{Located}
-use Rattle.page_hash.specs.Walks.{IsBlockOf, IsChainFrom, HasChain, value_seen, located_in}
+use Rattle.page_hash.specs.Walks.{IsBlockOf, IsChainFrom, HasChain, value_seen, first_of, located_at, located_in}
 
 -- a chain that goes on at a block has one, and the count is above 0
 pub has_block : (memory : FlatMemory) (at left : ℕ) → HasChain memory at left → (at ≡ 0 → ⊥)
@@ -29,20 +29,27 @@ pub located_at-end : (memory : FlatMemory) (link : ℕ) (chain : List Entry) (ke
 located_at-end memory link [] key is = refl
 located_at-end memory link (entry ∷ rest) key is = absurd (omega (arith, is.0))
 
+-- a chain begins at its first block, or at 0
+first_is : (memory : FlatMemory) (at : ℕ) (chain : List Entry) → IsChainFrom memory at chain → first_of chain ≡ at
+first_is memory at [] is = sym is
+first_is memory at (entry ∷ rest) is = is.1.here
+
 -- the block has the key: it is found
-pub located_at-here : (memory : FlatMemory) (link at length_seen : ℕ) (chain : List Entry) (key : List ℕ) → (at ≡ 0 → ⊥)
-    → IsChainFrom memory at chain
+pub located_at-here : (memory : FlatMemory) (link at next length_seen : ℕ) (chain : List Entry) (key : List ℕ) → (at ≡ 0 → ⊥)
+    → IsChainFrom memory at chain → next ≡ word_at memory at
     → ((entry : Entry) → IsBlockOf memory at entry → Some length_seen ≡ value_seen entry key)
-    → Some (record { link = link; at = at; length = length_seen }) ≡ located_in link chain key
-located_at-here memory link at size [] key some is seen = absurd (some is)
-located_at-here memory link at size (entry ∷ rest) key some is seen = elim (cases_Bool (bytes_eq entry.key key)) [
+    → Some (record { link = link; at = at; next = next; length = length_seen }) ≡ located_in link chain key
+located_at-here memory link at next size [] key some is read seen = absurd (some is)
+located_at-here memory link at next size (entry ∷ rest) key some is read seen = elim (cases_Bool (bytes_eq entry.key key)) [
   | inl here ↦
       let told : size ≡ length entry.value =
       ap (λ o. unwrap_or o size)
       (seen entry is.1 ∙ cond-true (bytes_eq entry.key key) (Some (length entry.value)) None here) in
-      ap (λ (s : ℕ). Some (record { link = link; at = at; length = s })) told
-      ∙ ap (λ (a : ℕ). Some (record { link = link; at = a; length = length entry.value })) (sym is.1.here)
-      ∙ sym (cond-true (bytes_eq entry.key key) (Some (record { link = link; at = entry.at; length = length entry.value }))
+      ap (λ (s : ℕ). Some (record { link = link; at = at; next = next; length = s })) told
+      ∙ ap (λ (n : ℕ). Some (record { link = link; at = at; next = n; length = length entry.value }))
+      (read ∙ sym (first_is memory (word_at memory at) rest is.2))
+      ∙ ap (λ (a : ℕ). Some (record { link = link; at = a; next = first_of rest; length = length entry.value })) (sym is.1.here)
+      ∙ sym (cond-true (bytes_eq entry.key key) (Some (located_at link entry rest))
       (located_in entry.at rest key) here)
   | inr past ↦ absurd (false≢true (sym (ap is_some
       (seen entry is.1 ∙ cond-false (bytes_eq entry.key key) (Some (length entry.value)) None past))))
@@ -60,7 +67,7 @@ located_at-past memory link at (entry ∷ rest) key some is seen = elim (cases_B
     rest,
     (
       is.2,
-      cond-false (bytes_eq entry.key key) (Some (record { link = link; at = entry.at; length = length entry.value }))
+      cond-false (bytes_eq entry.key key) (Some (located_at link entry rest))
           (located_in entry.at rest key) past
           ∙ ap (λ a. located_in a rest key) is.1.here,
     ),
@@ -80,7 +87,7 @@ pub record IsLocated (link : ℕ) (chain : List Entry) (key : List ℕ) (located
   pub parts : chain ≡ front ++ entry ∷ back
   pub others : AllByRecursion (λ (other : Entry). bytes_eq other.key key ≡ false) front
   pub has : entry.key ≡ key
-  pub is : located ≡ record { link = link_behind link front; at = entry.at; length = length entry.value }
+  pub is : located ≡ located_at (link_behind link front) entry back
 
 pub is_located : (link : ℕ) (chain : List Entry) (key : List ℕ) (located : Located) → located_in link chain key ≡ Some located
     → IsLocated link chain key located
@@ -94,12 +101,12 @@ is_located link (entry ∷ rest) key located found = elim (cases_Bool (bytes_eq 
     others = tt;
     has = (bytes_eq-Decides entry.key key).0 here;
     is = ap (λ o. unwrap_or o located)
-        (sym found ∙ cond-true (bytes_eq entry.key key) (Some (record { link = link; at = entry.at; length = length entry.value }))
+        (sym found ∙ cond-true (bytes_eq entry.key key) (Some (located_at link entry rest))
         (located_in entry.at rest key) here);
   }
   | inr past ↦
       let behind = is_located entry.at rest key located
-      (sym (cond-false (bytes_eq entry.key key) (Some (record { link = link; at = entry.at; length = length entry.value }))
+      (sym (cond-false (bytes_eq entry.key key) (Some (located_at link entry rest))
       (located_in entry.at rest key) past) ∙ found) in
       record {
         front = entry ∷ behind.front;
@@ -131,11 +138,11 @@ pub entry_in-lost : (link : ℕ) (chain : List Entry) (key : List ℕ) → locat
 entry_in-lost link [] key none = refl
 entry_in-lost link (entry ∷ rest) key none = elim (cases_Bool (bytes_eq entry.key key)) [
   | inl here ↦ absurd (false≢true (ap is_some
-      (sym none ∙ cond-true (bytes_eq entry.key key) (Some (record { link = link; at = entry.at; length = length entry.value }))
+      (sym none ∙ cond-true (bytes_eq entry.key key) (Some (located_at link entry rest))
       (located_in entry.at rest key) here)))
   | inr past ↦
       cond-false (bytes_eq entry.key key) (Some entry) (entry_in rest key) past
       ∙ entry_in-lost entry.at rest key
-      (sym (cond-false (bytes_eq entry.key key) (Some (record { link = link; at = entry.at; length = length entry.value }))
+      (sym (cond-false (bytes_eq entry.key key) (Some (located_at link entry rest))
       (located_in entry.at rest key) past) ∙ none)
 ]

@@ -10,6 +10,11 @@ pub mod Filled
 pub mod FrontReads
 pub mod Fronts
 pub mod FrozenReads
+pub mod ListedChains
+pub mod ListedParts
+pub mod ListedStore
+pub mod SortedPairs
+pub mod ListedPairs
 pub mod Pieces
 pub mod WalkLemmas
 pub mod Touched
@@ -47,3 +52,5 @@ pub mod DoublingDone
 pub mod Removals
 pub mod MovedSteps
 pub mod PlacedMoved
+pub mod PlacedPairs
+pub mod PutDoubled

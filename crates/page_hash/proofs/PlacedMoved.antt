@@ -36,7 +36,7 @@ use Rattle.page_hash.proofs.StoreParts.{StoresIn, putting, stores_in, full_then}
 use Rattle.page_hash.proofs.NewParts.{CommitsIn, commits_in, commit_ready, word_stored, HoldsPair, holds_pair, pair_bytes-size, class_half}
 use Rattle.page_hash.proofs.NewSteps.{class_is_listed}
 use Rattle.page_hash.proofs.MovedSteps.{still_in_use, entry_in_use, linked_heap, moved_makes}
-use Rattle.page_hash.proofs.Unlinking.{IsEntryOf, entry_named, in_order, words_below, linked_at, CanTouch, can_touch, class_named, link_up}
+use Rattle.page_hash.proofs.Unlinking.{IsEntryOf, entry_named, in_order, words_below, linked_at, next_named, CanTouch, can_touch, class_named, link_up}
 use Rattle.page_hash.proofs.PlacedInPlace.{entry_lies}
 use Rattle.page_hash.proofs.PlacedNew.{IsPlanOf, plan_is, plan_room, size_few, keeps_first, adds_first}
 use Rattle.page_hash.proofs.PutAnswers.{places_by, KeepsMore}
@@ -151,8 +151,7 @@ ready_moved old one ready store of key value plan located touches fits is planne
         low = (omega (arith, planned.within.1, room), words.link.low);
       };
       block = touches.words.block;
-      part = record { area = words.block.area; listed = words.block.listed; has = words.block.has };
-      low = words.block.low;
+      next = next_named ready.mem store of key located then found.named;
     }
 
 -- ---- the stores

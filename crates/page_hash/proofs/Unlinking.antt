@@ -31,7 +31,7 @@ use Rattle.store_meaning.proofs.HeapBeside.{IsBesideHeap, heap_beside, in_use_be
 use Rattle.page_heap.specs.HeapCalls.{IsInUse}
 use Rattle.page_heap.proofs.Flat.{ready_field}
 use Rattle.page_heap.proofs.Plans.{use_within, half_class}
-use Rattle.page_hash.specs.Walks.{bucket_at, located_in}
+use Rattle.page_hash.specs.Walks.{bucket_at, first_of, located_at, located_in}
 use Rattle.page_hash.specs.Removing.{IsNamed, MayUnlink, unlinked}
 use Rattle.page_hash.specs.declared.chain.Located.{Located}
 use Rattle.page_hash.specs.Touching.{IsOfStore}
@@ -43,7 +43,7 @@ use Rattle.page_hash.proofs.StoreChanges.{Lack, IsSpot, find_spot, class_of-entr
 
 -- a search that finds an entry behind others says so
 pub located_behind : (link : ℕ) (key : List ℕ) (front : List Entry) (entry : Entry) (back : List Entry) → Lack key front → entry.key ≡ key
-    → located_in link (front ++ entry ∷ back) key ≡ Some (record { link = link_of link front; at = entry.at; length = length entry.value })
+    → located_in link (front ++ entry ∷ back) key ≡ Some (located_at (link_of link front) entry back)
 located_behind link key [] entry back lack named =
     cond-true (bytes_eq entry.key key) _ _ ((bytes_eq-Decides entry.key key).1 named)
 located_behind link key (first ∷ front) entry back lack named = elim (cases_Bool (bytes_eq first.key key)) [
@@ -69,6 +69,7 @@ pub record IsEntryOf (store : Store) (key : List ℕ) (located : Located) : Type
   pub place : IsSpot store key entry spot
   pub link : located.link ≡ link_at store.table.array spot
   pub at : located.at ≡ entry.at
+  pub next : located.next ≡ first_of spot.back
   pub size : located.length ≡ length entry.value
 
 -- the chain of a place
@@ -88,11 +89,11 @@ entry_named memory store of key located is named = by (entry_for store key) refl
         (named ∙ located_none (bucket_at store.table key) key (chain_of store.table (bucket_of store.table key)) none))))
     by (Some entry) found =
         let spot = find_spot memory store of key entry is found in
-        let told : Some located ≡ Some (record { link = link_at store.table.array spot.0; at = entry.at; length = length entry.value }) =
+        let told : Some located ≡ Some (located_at (link_at store.table.array spot.0) entry spot.0.back) =
         named
         ∙ ap (λ (c : List Entry). located_in (bucket_at store.table key) c key) (chain_at store key entry spot.0 spot.1)
         ∙ located_behind (bucket_at store.table key) key spot.0.front entry spot.0.back spot.1.front spot.1.named
-        ∙ ap (λ b. Some (record { link = link_of (store.table.array + 8 * b) spot.0.front; at = entry.at; length = length entry.value }))
+        ∙ ap (λ b. Some (located_at (link_of (store.table.array + 8 * b) spot.0.front) entry spot.0.back))
         (sym spot.1.bucket) in
         let same = ap (λ o. unwrap_or o located) told in
         record {
@@ -102,6 +103,7 @@ entry_named memory store of key located is named = by (entry_for store key) refl
           place = spot.1;
           link = ap (λ (l : Located). l.link) same;
           at = ap (λ (l : Located). l.at) same;
+          next = ap (λ (l : Located). l.next) same;
           size = ap (λ (l : Located). l.length) same;
         }
 
@@ -235,6 +237,21 @@ links_behind : (memory : FlatMemory) (place : ℕ) (front : List Entry) (entry :
     → Links memory place (addresses (front ++ entry ∷ back)) → Links memory entry.at (addresses back)
 links_behind memory place [] entry back linked = linked.2
 links_behind memory place (first ∷ front) entry back linked = links_behind memory first.at front entry back linked.2
+
+-- the next block's address stands in front of it
+pub next_named : (memory : FlatMemory) (store : Store) (of : Pairs) (key : List ℕ) (located : Located) → IsStore memory store of
+    → IsNamed store key located → located.next ≡ word_at memory located.at
+next_named memory store of key located is named =
+    let facts = entry_named memory store of key located is named in
+    facts.next
+    ∙ sym (first_named facts.entry.at facts.spot.back
+    (links_behind memory _ facts.spot.front facts.entry facts.spot.back
+        (linked_at memory store of key facts.entry facts.spot is facts.place)))
+    ∙ ap (word_at memory) (sym facts.at)
+  where
+    first_named : (place : ℕ) (back : List Entry) → Links memory place (addresses back) → word_at memory place ≡ first_of back
+    first_named place [] linked = linked
+    first_named place (entry ∷ back) linked = linked.0
 
 -- so the link is present
 pub link_there : (memory : FlatMemory) (store : Store) (of : Pairs) (key : List ℕ) (entry : Entry) (spot : Spot) → IsStore memory store of

@@ -1,6 +1,7 @@
 pub mod Blocks
 pub mod HashCalls
 pub mod Listing
+pub mod Chains
 pub mod Lookups
 pub mod Walks
 pub mod Clears
@@ -10,4 +11,5 @@ pub mod Doubling
 pub mod Touching
 pub mod PairStores
 pub mod Puts
+pub mod Putting
 pub mod Removing

@@ -1,5 +1,5 @@
 -- What a put needs, answers and leaves.
-use Rattle.std.specs.Prelude.{◌≡◌, ◌⊎◌, ℕ, ◌+◌, ◌-◌, ◌*◌, ◌^◌, ◌≤◌, IsSome, IsNone, ◌==◌, if◌then◌else◌, IsTrue, IsFalse, Bool, List, [], ◌∷◌, length, Option, Some, None}
+use Rattle.std.specs.Prelude.{◌≡◌, ◌⊎◌, ℕ, ◌+◌, ◌-◌, ◌*◌, ◌^◌, ◌≤◌, IsSome, IsNone, ◌==◌, if◌then◌else◌, List, [], ◌∷◌, length, Option, Some, None}
 use Rattle.std.specs.FinMap.{get, insert}
 use Rattle.byteorder.specs.Endian.{big_bytes}
 use Rattle.vm_base.specs.Counts.{Rose}
@@ -9,12 +9,11 @@ use Rattle.vm_base.specs.MemoryCalls.{IsInRange, IsReady, after_store}
 use Rattle.store_meaning.specs.Layout.{class_of, header_at, pairs_field, word_at}
 use Rattle.store_meaning.specs.HeapLayout.{ArePresent, next_at}
 use Rattle.store_meaning.specs.HashLayout.{Pairs, Store, Entry, IsStore, pair_size, pair_class, chain_of}
-use Rattle.store_meaning.specs.StoreSteps.{bucket_of, entry_for, put_in, IsCrowded}
+use Rattle.store_meaning.specs.StoreSteps.{bucket_of, entry_for, put_in}
 use Rattle.store_meaning.specs.Reach.{At}
 use Rattle.store_meaning.specs.Standing.{Follows}
 use Rattle.page_heap.specs.declared.planned.Plan.{Plan}
 use Rattle.page_heap.specs.HeapCalls.{commit_store, free_store}
-use Rattle.page_hash.specs.HashCalls.{IsOfArea}
 use Rattle.page_hash.specs.Touching.{IsOfStore}
 use Rattle.page_hash.specs.PairStores.{pair_bytes}
 use Rattle.page_hash.specs.Walks.{bucket_at, located_in, IsSearch}
@@ -148,19 +147,9 @@ abbrev pub moved_stored : MemoryState → Plan → Located → ℕ → List ℕ 
 moved_stored state plan located class key value =
     free_store (linked_stored state plan located key value) located.at class
 
--- what a pair in another block stores to may be stored to
+-- what a pair in another block stores to may be stored to, and the old one's next block is told
 pub record IsReadyForMove (state : MemoryState) (plan : Plan) (located : Located) (size : ℕ)
     : Type 0 where
   pub new : IsReadyForNew state plan located.link size
   pub block : IsReady state located.at 8
-  pub part : IsOfArea state.mem located.at 8
-  pub low : located.at + 8 ≤ 2 ^ 48
-
--- a doubling is due in the store exactly where the answer says so
-abbrev pub SaysDue : Store → Bool → Type 0
-SaysDue store due = (IsTrue due → IsCrowded store) × (IsFalse due → IsCrowded store → ⊥)
-
--- the block is the one that a search names for the key
-abbrev pub IsNamedFor : Store → List ℕ → Located → Type 0
-IsNamedFor store key located = Some located
-    ≡ located_in (bucket_at store.table key) (chain_of store.table (bucket_of store.table key)) key
+  pub next : located.next ≡ word_at state.mem located.at

@@ -44,13 +44,28 @@ pub record IsFrontOf (memory : FlatMemory) (at key_length : ℕ) (front : List �
 abbrev pub value_seen : Entry → List ℕ → Option ℕ
 value_seen entry key = if bytes_eq entry.key key then Some (length entry.value) else None
 
--- the block of a key in a chain that is linked from the address: the address of the word that names
--- it, its own, and the length of its value
+-- the address of the first of these blocks, or 0
+abbrev pub first_of : List Entry → ℕ
+first_of [] = 0
+first_of (entry ∷ entries) = entry.at
+
+-- the block of an entry in front of these: the addresses of the word that names it, of itself and
+-- of
+-- the next one, and the length of its value
+abbrev pub located_at : ℕ → Entry → List Entry → Located
+located_at link entry entries = record {
+  link = link;
+  at = entry.at;
+  next = first_of entries;
+  length = length entry.value;
+}
+
+-- the block of a key in a chain that is linked from the address
 abbrev pub located_in : ℕ → List Entry → List ℕ → Option Located
 located_in link [] key = None
 located_in link (entry ∷ entries) key =
     if bytes_eq entry.key key
-    then Some (record { link = link; at = entry.at; length = length entry.value })
+    then Some (located_at link entry entries)
     else located_in entry.at entries key
 
 -- the bucket of a key in the memory

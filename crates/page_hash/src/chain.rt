@@ -22,11 +22,13 @@ pub struct Seen {
     pub value: Option<u32>,
 }
 
-/// The block of a key: the address of the word that names it, its own, and its value's length.
+/// The block of a key: the addresses of the word that names it, of itself and of the next block, 0
+/// where none follows, and its value's length.
 #[derive(Clone, Copy, Debug)]
 pub struct Located {
     pub link: u64,
     pub at: u64,
+    pub next: u64,
     pub length: u32,
 }
 
@@ -54,7 +56,12 @@ pub fn walk<M: Memory>(
     while at != 0 {
         let seen = look_at(m, at, key);
         if let Some(length) = seen.value {
-            return Some(Located { link, at, length });
+            return Some(Located {
+                link,
+                at,
+                next: seen.next,
+                length,
+            });
         }
         link = at;
         at = seen.next;

@@ -11,7 +11,7 @@ use crate::chain::Located;
 use crate::layout::{HEAD, PAIRS_FIELD};
 use crate::search::locate;
 use crate::touching::touch_present;
-use crate::words::{read_word, store_word};
+use crate::words::store_word;
 use page_heap::{class_for, free};
 use vm_base::Memory;
 
@@ -71,8 +71,7 @@ fn unlink<M: Memory>(m: &mut M, block: &Located, class: u8, pairs: u64)
     ensures aside { M.aside m.new ≡ M.aside m.old }
     ensures went { M.went m.old m.new }
 {
-    let next = read_word(m, block.at);
-    store_word(m, block.link, next);
+    store_word(m, block.link, block.next);
     free(m, block.at, class);
     store_word(m, PAIRS_FIELD, pairs - 1);
 }

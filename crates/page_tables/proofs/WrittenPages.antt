@@ -42,13 +42,14 @@ bit-known tables c s slot known here q same = ap (λ cell. bit_in cell (q % 512)
 
 -- a page that may be written to may be stored to, where its cell is so
 pub written-ready : (tables : PageTables) (sides : Sides) → TablesStandFor tables sides → (page s : ℕ) (slot : Slot) → get tables.directory (cell_of page) ≡ Some s → slice_get tables.slots.items s ≡ Some slot
-    → (AreUnjoined slot.cell.leaves.kept → (p : ℕ) → writable_at slot.cell.writable p ≡ true → IsAlone slot.cell.leaves p) → may_write tables page ≡ true → IsPageReady sides.leaves page
+    → (AreUnjoined slot.cell.leaves.kept → writable_at slot.cell.writable (page % 512) ≡ true → IsAlone slot.cell.leaves (page % 512))
+        → may_write tables page ≡ true → IsPageReady sides.leaves page
 written-ready tables sides st page s slot known here alone may =
     let bit : writable_at slot.cell.writable (page % 512) ≡ true = sym (bit-known tables (cell_of page) s slot known here page refl) ∙ may in
     subst (λ cell. IsAlone cell (page % 512)) (st.each.leaves (cell_of page))
     (alone-meant slot.cell (account_at tables.directory tables.snapshot tables.slots.items sides st (cell_of page))
     (slot-stands tables.directory tables.snapshot tables.slots.items sides st (cell_of page) s slot here (st.named (cell_of page) s known)) (page % 512)
-    (alone (slot-unjoined tables.directory tables.snapshot tables.slots.items sides st s slot here) (page % 512) bit))
+    (alone (slot-unjoined tables.directory tables.snapshot tables.slots.items sides st s slot here) bit))
 
 -- a page is the parent's alone in its cell where it may be stored to
 pub alone-ready : (tables : PageTables) (sides : Sides) → TablesStandFor tables sides → (page : ℕ) → (is_alone tables page ≡ true) ↔ IsPageReady sides.leaves page

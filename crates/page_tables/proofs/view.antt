@@ -5,3 +5,4 @@ pub mod ViewSides
 pub mod PageShares
 pub mod TouchCells
 pub mod RefusalPages
+pub mod ReadyPages

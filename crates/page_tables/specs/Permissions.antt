@@ -15,7 +15,7 @@ use Rattle.page_tables.specs.declared.tables.PageTables.{PageTables}
 use Rattle.page_tables.specs.declared.range.FrameRefused.{FrameRefused}
 use Rattle.page_tables.specs.Sides.{Sides}
 use Rattle.page_tables.specs.Standing.{TablesStandFor, slot_count}
-use Rattle.page_tables.specs.Held.{frames_of, frames_in, shares_in}
+use Rattle.page_tables.specs.Held.{frames_of, frames_in, shares_in, HoldAlike}
 use Rattle.page_tables.specs.Forking.{is_forked}
 
 -- a cell of the parent as it lies in its slot, if the parent's directory has it
@@ -48,6 +48,15 @@ pub record LetsWrite (first n : ℕ) (old new : PageTables) : Type 0 where
 -- just those pages may be written to that might before
 abbrev pub KeepsWriting : PageTables → PageTables → Type 0
 KeepsWriting old new = (page : ℕ) → may_write new page ≡ may_write old page
+
+-- nothing but bytes of pages has changed: the frames, the slots and the snapshot's cells are as
+-- before, and each page may be written to where it might
+pub record KeepsAllButBytes (old new : PageTables) : Type 0 where
+  pub held : frames_of new ≡ frames_of old
+  pub cells : HoldAlike old.slots.items new.slots.items
+  pub writable : KeepsWriting old new
+  pub snapshot : new.snapshot ≡ old.snapshot
+  pub slots : slot_count new ≡ slot_count old
 
 -- no page may be written to
 abbrev pub LetsNoneWrite : PageTables → Type 0

@@ -1,5 +1,6 @@
 //! Reading both sides, and storing.
-ghost use Rattle.std.specs.Prelude.{◌≡◌, ◌+◌, ◌*◌, ◌/◌, ◌%◌, ◌^◌, ◌<◌, ◌≤◌, ℕ, Some, length};
+ghost use Rattle.std.specs.Prelude.{◌≡◌, ◌+◌, ◌*◌, ◌/◌, ◌%◌, ◌^◌, ◌<◌, ◌≤◌, ℕ, Some, IfSome, length, is_some, true, false};
+ghost use Rattle.std.specs.FinMap.{get};
 ghost use Rattle.vm_base.specs.Places.{page_of, offset_of, cell_of};
 ghost use Rattle.vm_base.specs.FlatMemory.{bytes_at};
 ghost use Rattle.vm_base.specs.FlatStep.{with_bytes};
@@ -9,11 +10,11 @@ ghost use Rattle.leaf_cell.specs.States.{state_of};
 ghost use Rattle.page_tables.specs.Sides.{Sides};
 ghost use Rattle.page_tables.specs.Standing.{TablesStandFor, slot_in, slot_count};
 ghost use Rattle.page_tables.specs.Held.{frames_of, HoldAlike};
-ghost use Rattle.page_tables.specs.Permissions.{KeepsWriting};
+ghost use Rattle.page_tables.specs.Permissions.{KeepsWriting, KeepsAllButBytes, may_write};
 ghost use Rattle.page_tables.specs.Accesses.{IsPageReady, IsSnapshotRead, IsLowestLoss};
 
 use crate::loss::{LostCell, lowest_lost};
-use crate::pieces::{location_of, piece_of_cell, piece_of_page};
+use crate::pieces::{PAGE_BYTES, cell_and_index, location_of, piece_of_cell, piece_of_page};
 use crate::tables::PageTables;
 use leaf_cell::LeafState;
 use vm_base::Lost;
@@ -80,19 +81,75 @@ impl PageTables {
         requires room { offset_of addr + length bytes.now ≤ 4096 }
         requires stands { ∥ ((sides : Sides) × (TablesStandFor self.old sides × IsPageReady sides.leaves (page_of addr))) ∥₁ }
         ensures stored { (sides : Sides) → TablesStandFor self.old sides → TablesStandFor self.new (record sides { pages = with_bytes sides.pages addr bytes.now }) }
-        ensures held { frames_of self.new ≡ frames_of self.old }
-        ensures cells { HoldAlike self.old.slots.items self.new.slots.items }
-        ensures writable { KeepsWriting self.old self.new }
-        ensures snapshot { self.new.snapshot ≡ self.old.snapshot }
-        ensures slots { slot_count self.new ≡ slot_count self.old }
+        ensures kept { KeepsAllButBytes self.old self.new }
+    {
+        match self.directory.find(location_of(addr).cell) {
+            Some(slot) => self.store_in_slot(slot, addr, bytes),
+            None => unreachable!("the directory has the cell of a page that is ready"),
+        }
+    }
+
+    /// Stores bytes within one page of the cell in a slot.
+    fn store_in_slot(&mut self, slot: u32, addr: u64, bytes: &[u8])
+        requires inside { addr < 2 ^ 48 }
+        requires room { offset_of addr + length bytes.now ≤ 4096 }
+        requires known { get self.old.directory (cell_of (page_of addr)) ≡ Some slot }
+        requires stands { ∥ ((sides : Sides) × (TablesStandFor self.old sides
+            × IsPageReady sides.leaves (page_of addr))) ∥₁ }
+        ensures stored { (sides : Sides) → TablesStandFor self.old sides
+            → TablesStandFor self.new (record sides
+            { pages = with_bytes sides.pages addr bytes.now }) }
+        ensures kept { KeepsAllButBytes self.old self.new }
     {
         let location = location_of(addr);
-        match self.directory.find(location.cell) {
+        let cell = &mut self.slots[slot as usize].cell;
+        cell.store(location.page, location.at, bytes);
+    }
+
+    /// Stores bytes within one page where its entry tells that it may be written to, and tells
+    /// whether that is so. It is one look-up, and asks for no frame: no touch has to come before.
+    pub fn store_ready(&mut self, addr: u64, bytes: &[u8]) -> bool
+        requires inside { addr < 2 ^ 48 }
+        requires room { offset_of addr + length bytes.now ≤ 4096 }
+        requires stands { ∥ ((sides : Sides) × TablesStandFor self.old sides) ∥₁ }
+        ensures ready { result ≡ may_write self.old (page_of addr) }
+        ensures alone { result ≡ true → (sides : Sides) → TablesStandFor self.old sides
+            → IsPageReady sides.leaves (page_of addr) }
+        ensures stored { result ≡ true → (sides : Sides) → TablesStandFor self.old sides
+            → TablesStandFor self.new (record sides
+            { pages = with_bytes sides.pages addr bytes.now }) }
+        ensures unstored { result ≡ false → self.new ≡ self.old }
+        ensures kept { KeepsAllButBytes self.old self.new }
+    {
+        match self.ready_slot(addr / PAGE_BYTES) {
             Some(slot) => {
-                let cell = &mut self.slots[slot as usize].cell;
-                cell.store(location.page, location.at, bytes);
+                self.store_in_slot(slot, addr, bytes);
+                true
             }
-            None => unreachable!("the directory has the cell of a page that is ready"),
+            None => false,
+        }
+    }
+
+    /// The slot of a page's cell, where the page's entry tells that it may be written to.
+    fn ready_slot(&self, page: u64) -> Option<u32>
+        requires page { page < 2 ^ 36 }
+        requires stands { ∥ ((sides : Sides) × TablesStandFor self.now sides) ∥₁ }
+        ensures known { IfSome result (λ slot. get self.now.directory (cell_of page) ≡ Some slot) }
+        ensures ready { is_some result ≡ may_write self.now page }
+        ensures alone { is_some result ≡ true → (sides : Sides) → TablesStandFor self.now sides
+            → IsPageReady sides.leaves page }
+    {
+        let (cell, index) = cell_and_index(page);
+        match self.directory.find(cell) {
+            Some(slot) => {
+                let cell = &self.slots[slot as usize].cell;
+                if cell.may_write(index) {
+                    Some(slot)
+                } else {
+                    None
+                }
+            }
+            None => None,
         }
     }
 

@@ -11,3 +11,4 @@ pub mod Drops
 pub mod Forks
 pub mod KernelFacts
 pub mod LastRefusals
+pub mod ReadyWrites

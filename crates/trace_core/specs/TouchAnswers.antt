@@ -1,17 +1,19 @@
 -- What a touch of the parent answers and leaves, and what a store leaves.
-use Rattle.std.specs.Prelude.{◌≡◌, ℕ, List, None, Result, Ok, Err, OnOk}
+use Rattle.std.specs.Prelude.{◌≡◌, ℕ, if◌then◌else◌, List, Option, Some, None, Result, Ok, Err, OnOk}
 use Rattle.std.specs.FinMap.{get}
 use Rattle.vm_base.specs.declared.faults.Fault.{Fault}
 use Rattle.vm_base.specs.declared.faults.Fault.TheVariants as fault
-use Rattle.vm_base.specs.FlatMemory.{FlatMemory}
-use Rattle.vm_base.specs.FlatStep.{with_bytes}
+use Rattle.vm_base.specs.declared.permission.Perm.{Perm}
+use Rattle.vm_base.specs.Places.{page_of, page_count}
+use Rattle.vm_base.specs.FlatMemory.{Area, FlatMemory}
+use Rattle.vm_base.specs.FlatStep.{is_writable, outside, unwritable, with_bytes}
 use Rattle.vm_base.specs.MemoryCalls.{IsInRange}
 use Rattle.kernel_meaning.specs.FrameLaw.{Leaves}
 use Rattle.page_tables.specs.Accesses.{IsPageReady}
 use Rattle.trace_events.specs.declared.outcome.Outcome.{Outcome}
 use Rattle.trace_events.specs.declared.outcome.Outcome.TheVariants.{Done, NoArea, NoWrite, Overlap, AreasFull, CellsFull, NoFrame}
 use Rattle.trace_core.specs.KernelState.{Machine, KernelState}
-use Rattle.trace_core.specs.KernelStanding.{KernelParts, KernelStands}
+use Rattle.trace_core.specs.KernelStanding.{KernelParts, KernelStands, IsKernel}
 
 -- what an event answers where this fault refuses it
 abbrev pub fault_outcome : Fault → Outcome
@@ -26,6 +28,28 @@ fault_outcome fault.CellsFull = CellsFull
 abbrev pub touch_outcome : Result (Unit {0}) Fault → Outcome
 touch_outcome (Ok done) = Done
 touch_outcome (Err refused) = fault_outcome refused
+
+-- the areas let n pages be touched: each lies in an area and may be written
+abbrev pub AreasAllow : List Area → ℕ → ℕ → Type 0
+AreasAllow areas first n = (outside areas first n ≡ None) × (unwritable areas first n ≡ None)
+
+-- the parts stand, and their areas let n bytes be touched
+abbrev pub LetsTouch : KernelParts → ℕ → ℕ → Type 0
+LetsTouch parts address n =
+    ∥ IsKernel parts ∥₁ × AreasAllow parts.areas (page_of address) (page_count address n)
+
+-- they refuse it by this fault: for the lowest page that lies in no area, or else the lowest that
+-- may only be read
+abbrev pub AreasRefuse : List Area → ℕ → ℕ → Fault → Type 0
+AreasRefuse areas first n (fault.NoArea page) = outside areas first n ≡ Some page
+AreasRefuse areas first n (fault.NoWrite page) = (outside areas first n ≡ None)
+    × (unwritable areas first n ≡ Some page)
+AreasRefuse areas first n other = ⊥
+
+-- the lowest page so far that may only be read, where the next one has this permission
+abbrev pub or_read_only : Option ℕ → ℕ → Perm → Option ℕ
+or_read_only None page perm = if is_writable perm then None else Some page
+or_read_only (Some lowest) page perm = Some lowest
 
 -- each page of a range of bytes may be stored to
 abbrev pub AreReady : Leaves → ℕ → ℕ → Type 0

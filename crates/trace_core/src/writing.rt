@@ -1,14 +1,16 @@
 //! The calls of the parent: an area mapped, and bytes read, touched, stored and written.
-ghost use Rattle.std.specs.Prelude.{◌≡◌, ◌+◌, ◌<◌, ◌≤◌, ◌^◌, not, length, IfErr, replicate, IfOk, OnErr};
+ghost use Rattle.std.specs.Prelude.{◌≡◌, ◌+◌, ◌<◌, ◌≤◌, ◌^◌, not, length, true, false, IfErr, replicate, IfOk, OnErr, OnOk};
 ghost use Rattle.vm_base.specs.Places.{page_of, page_count};
-ghost use Rattle.vm_base.specs.FlatStep.{is_writable, outside, unwritable, read_of, touch_of};
+ghost use Rattle.vm_base.specs.FlatStep.{is_writable, outside, read_of, touch_of};
 ghost use Rattle.trace_core.specs.KernelState.{Machine, KernelState};
 ghost use Rattle.trace_core.specs.EventMeaning.{mapped, touch_judged, written};
 ghost use Rattle.trace_core.specs.KernelStanding.{IsKernel, KernelStands, EventRan, buffer_answer};
 ghost use Rattle.trace_core.specs.CallAnswers.{area_outcome};
 ghost use Rattle.page_tables.specs.Permissions.{KeepsWriting};
 ghost use Rattle.trace_core.specs.Writing.{WritesAfterTouch, WritesAfterWrite};
+ghost use Rattle.trace_events.specs.declared.outcome.Outcome.TheVariants.{Done};
 ghost use Rattle.trace_core.specs.TouchAnswers.{fault_outcome, touch_outcome, IsReadyKernel, LeavesReady, LacksPage, with_stored};
+ghost use Rattle.trace_core.specs.TouchAnswers.{AreasAllow, AreasRefuse, LetsTouch, or_read_only};
 
 use crate::parts::{MOST_BYTES, Parts, Standing};
 use area_list::{AreaFault, Areas};
@@ -70,14 +72,42 @@ impl Parts {
             × ((⟦<Parts as Standing>⟧.parts self.new).snapshot ≡ (⟦<Parts as Standing>⟧.parts self.old).snapshot)
             × ((⟦<Parts as Standing>⟧.parts self.new).last ≡ (⟦<Parts as Standing>⟧.parts self.old).last) }
     {
+        match check_areas(&self.areas, addr / PAGE_BYTES, page_count(addr, len)) {
+            Ok(()) => self.touch_allowed(addr, len),
+            Err(fault) => Err(fault),
+        }
+    }
+
+    /// Touches a range where the areas allow it.
+    fn touch_allowed(&mut self, addr: u64, len: u64) -> Result<(), Fault>
+        requires some { 0 < len }
+        requires few { len ≤ MOST_BYTES }
+        requires range { addr + len ≤ 2 ^ 48 }
+        requires stands { LetsTouch (⟦<Parts as Standing>⟧.parts self.old) addr len }
+        ensures ran { (machine : Machine) (state : KernelState)
+            → KernelStands (⟦<Parts as Standing>⟧.parts self.old) machine state
+            → EventRan (⟦<Parts as Standing>⟧.parts self.old) (⟦<Parts as Standing>⟧.parts self.new)
+                machine
+            (λ answers. touch_judged machine state answers addr len
+                (touch_of state.world.parent addr len)) (touch_outcome result) }
+        ensures ready { (machine : Machine) (state : KernelState)
+            → KernelStands (⟦<Parts as Standing>⟧.parts self.old) machine state
+            → LeavesReady (⟦<Parts as Standing>⟧.parts self.new) machine state.leaves addr len
+                result }
+        ensures page { IfErr result (λ fault. (machine : Machine) (state : KernelState)
+            → KernelStands (⟦<Parts as Standing>⟧.parts self.old) machine state
+            → LacksPage state.world.parent addr len fault) }
+        ensures beside { (((⟦<Parts as Standing>⟧.parts self.new).areas
+            ≡ (⟦<Parts as Standing>⟧.parts self.old).areas)
+            × WritesAfterTouch addr len result (⟦<Parts as Standing>⟧.parts self.old).tables
+                (⟦<Parts as Standing>⟧.parts self.new).tables)
+            × ((⟦<Parts as Standing>⟧.parts self.new).snapshot
+                ≡ (⟦<Parts as Standing>⟧.parts self.old).snapshot)
+            × ((⟦<Parts as Standing>⟧.parts self.new).last
+                ≡ (⟦<Parts as Standing>⟧.parts self.old).last) }
+    {
         let first = addr / PAGE_BYTES;
         let count = page_count(addr, len);
-        if let Some(page) = first_outside(&self.areas, first, count) {
-            return Err(Fault::NoArea(page));
-        }
-        if let Some(page) = first_read_only(&self.areas, first, count) {
-            return Err(Fault::NoWrite(page));
-        }
         if self.tables.lacks_slots(first, count) {
             return Err(Fault::CellsFull);
         }
@@ -122,7 +152,73 @@ impl Parts {
             → EventRan (⟦<Parts as Standing>⟧.parts self.old) (⟦<Parts as Standing>⟧.parts self.new) machine (λ answers. written machine state answers addr bytes.now) result }
         ensures writable { WritesAfterWrite addr (length bytes.now) result (⟦<Parts as Standing>⟧.parts self.old).tables (⟦<Parts as Standing>⟧.parts self.new).tables }
     {
-        match self.touch(addr, bytes.len() as u64) {
+        let len = bytes.len() as u64;
+        match check_areas(&self.areas, addr / PAGE_BYTES, page_count(addr, len)) {
+            Ok(()) => self.write_allowed(addr, bytes),
+            Err(fault) => refused_by(fault),
+        }
+    }
+
+    /// Writes bytes where the areas allow it. Bytes of one page that may be written to are stored
+    /// at once, by one look-up.
+    fn write_allowed(&mut self, addr: u64, bytes: &[u8]) -> Outcome
+        requires some { 0 < length bytes.now }
+        requires few { length bytes.now ≤ MOST_BYTES }
+        requires range { addr + length bytes.now ≤ 2 ^ 48 }
+        requires stands { LetsTouch (⟦<Parts as Standing>⟧.parts self.old) addr (length bytes.now) }
+        ensures ran { (machine : Machine) (state : KernelState)
+            → KernelStands (⟦<Parts as Standing>⟧.parts self.old) machine state
+            → EventRan (⟦<Parts as Standing>⟧.parts self.old) (⟦<Parts as Standing>⟧.parts self.new)
+                machine (λ answers. written machine state answers addr bytes.now) result }
+        ensures writable { WritesAfterWrite addr (length bytes.now) result
+            (⟦<Parts as Standing>⟧.parts self.old).tables
+            (⟦<Parts as Standing>⟧.parts self.new).tables }
+    {
+        if self.store_ready(addr, bytes) {
+            Outcome::Done
+        } else {
+            self.touch_and_store(addr, bytes)
+        }
+    }
+
+    /// Stores bytes where they lie in one page that may be written to, and tells whether that is
+    /// so. A touch of such a page makes no request and changes nothing, so none is made.
+    fn store_ready(&mut self, addr: u64, bytes: &[u8]) -> bool
+        requires some { 0 < length bytes.now }
+        requires range { addr + length bytes.now ≤ 2 ^ 48 }
+        requires stands { LetsTouch (⟦<Parts as Standing>⟧.parts self.old) addr (length bytes.now) }
+        ensures ran { result ≡ true → (machine : Machine) (state : KernelState)
+            → KernelStands (⟦<Parts as Standing>⟧.parts self.old) machine state
+            → EventRan (⟦<Parts as Standing>⟧.parts self.old) (⟦<Parts as Standing>⟧.parts self.new)
+                machine (λ answers. written machine state answers addr bytes.now) Done }
+        ensures writable { result ≡ true
+            → WritesAfterWrite addr (length bytes.now) Done
+                (⟦<Parts as Standing>⟧.parts self.old).tables
+                (⟦<Parts as Standing>⟧.parts self.new).tables }
+        ensures kept { result ≡ false
+            → ⟦<Parts as Standing>⟧.parts self.new ≡ ⟦<Parts as Standing>⟧.parts self.old }
+    {
+        if bytes.len() as u64 > PAGE_BYTES - addr % PAGE_BYTES {
+            return false;
+        }
+        self.tables.store_ready(addr, bytes)
+    }
+
+    /// Touches the range of the bytes, and then stores them.
+    fn touch_and_store(&mut self, addr: u64, bytes: &[u8]) -> Outcome
+        requires some { 0 < length bytes.now }
+        requires few { length bytes.now ≤ MOST_BYTES }
+        requires range { addr + length bytes.now ≤ 2 ^ 48 }
+        requires stands { LetsTouch (⟦<Parts as Standing>⟧.parts self.old) addr (length bytes.now) }
+        ensures ran { (machine : Machine) (state : KernelState)
+            → KernelStands (⟦<Parts as Standing>⟧.parts self.old) machine state
+            → EventRan (⟦<Parts as Standing>⟧.parts self.old) (⟦<Parts as Standing>⟧.parts self.new)
+                machine (λ answers. written machine state answers addr bytes.now) result }
+        ensures writable { WritesAfterWrite addr (length bytes.now) result
+            (⟦<Parts as Standing>⟧.parts self.old).tables
+            (⟦<Parts as Standing>⟧.parts self.new).tables }
+    {
+        match self.touch_allowed(addr, bytes.len() as u64) {
             Ok(()) => {
                 self.store(addr, bytes);
                 Outcome::Done
@@ -201,26 +297,45 @@ pub(crate) fn first_outside(areas: &Areas, first: u64, count: u64) -> Option<u64
     None
 }
 
-/// The lowest page of a range that may only be read. It goes from area to area, and page by page
-/// only where there is none: whoever calls has looked for such pages before.
-pub(crate) fn first_read_only(areas: &Areas, first: u64, count: u64) -> Option<u64>
+/// Whether the areas let a range be touched: the lowest page that lies in no area refuses it, or
+/// else the lowest that may only be read. It goes once from area to area.
+fn check_areas(areas: &Areas, first: u64, count: u64) -> Result<(), Fault>
     requires { first + count ≤ 2 ^ 36 }
-    ensures { result ≡ unwritable areas.now first count }
+    ensures allowed { OnOk result (AreasAllow areas.now first count) }
+    ensures refused { IfErr result (AreasRefuse areas.now first count) }
 {
     let end = first + count;
     let mut page = first;
+    let mut lowest = None;
     while page < end {
         match areas.find(page) {
             Some(area) => {
-                if is_read_only(area.perm) {
-                    return Some(page);
-                }
+                lowest = lowest_read_only(lowest, page, area.perm);
                 page = area.first + area.pages;
             }
-            None => page += 1,
+            None => return Err(Fault::NoArea(page)),
         }
     }
-    None
+    match lowest {
+        Some(page) => Err(Fault::NoWrite(page)),
+        None => Ok(()),
+    }
+}
+
+/// The lowest page that may only be read, where the next page of a range has this permission.
+fn lowest_read_only(lowest: Option<u64>, page: u64, perm: Perm) -> Option<u64>
+    ensures { result ≡ or_read_only lowest page perm }
+{
+    match lowest {
+        Some(page) => Some(page),
+        None => {
+            if is_read_only(perm) {
+                Some(page)
+            } else {
+                None
+            }
+        }
+    }
 }
 
 fn is_read_only(perm: Perm) -> bool

@@ -31,7 +31,8 @@ use Rattle.trace_core.specs.KernelState.{Machine, KernelState, opening_state}
 use Rattle.trace_core.specs.EventMeaning.{EventEnd, begun, only_answers, refusal_outcome, touch_judged, touch_answered}
 use Rattle.trace_core.specs.Supplied.{IsSupplied}
 use Rattle.trace_core.specs.KernelStanding.{KernelParts, KernelStands, EventRan, sides_of, kept_number}
-use Rattle.trace_core.specs.TouchAnswers.{fault_outcome, touch_outcome, AreReady, LeavesReady}
+use Rattle.trace_core.specs.TouchAnswers.{fault_outcome, touch_outcome, AreReady, LeavesReady, LacksPage, AreasRefuse}
+use Rattle.trace_core.specs.Writing.{WritesAfterFault}
 use Rattle.trace_core.proofs.runs.EventCounts.{HasCounted, counted-touch}
 use Rattle.trace_core.proofs.runs.SupplyRuns.{supplied-end, supplied-opening}
 use Rattle.page_tables.specs.TablesView.{snapshot_number, HasSameSnapshot}
@@ -296,6 +297,36 @@ module _ (parts : KernelParts) (machine : Machine) (state : KernelState) (st : K
             ran-no_frame parts machine state st addr n some granted (slots-asked false room) mid deals to led
             (moved-alike _ _ _ _ held st.out) (same-number parts.tables mid snapshot ∙ st.number) (slots ∙ st.slots)
             refusal page (subst (λ count. FollowsRange (page_of addr) count mid deals (Some refusal) (sides_of state st.pages)) whole range)
+
+  -- they refuse by a fault
+  pub touched-refused : (why : Fault) → AreasRefuse parts.areas (page_of addr) count why
+      → TouchRan parts parts machine state addr n (Err why)
+  touched-refused (fault.NoArea page) h = touched-outside page h
+  touched-refused (fault.NoWrite page) h = touched-read_only h.0 page h.1
+  touched-refused (fault.NoFrame at page) h = absurd h
+  touched-refused (fault.Overlap page) h = absurd h
+  touched-refused fault.AreasFull h = absurd h
+  touched-refused fault.CellsFull h = absurd h
+
+-- where the areas refuse a touch no page lacks a frame
+pub refused-lacks : (areas : List Area) (addr n count : ℕ) (memory : FlatMemory) (why : Fault) → AreasRefuse areas (page_of addr) count why
+    → LacksPage memory addr n why
+refused-lacks areas addr n count memory (fault.NoArea page) h = tt
+refused-lacks areas addr n count memory (fault.NoWrite page) h = tt
+refused-lacks areas addr n count memory (fault.NoFrame at page) h = absurd h
+refused-lacks areas addr n count memory (fault.Overlap page) h = absurd h
+refused-lacks areas addr n count memory fault.AreasFull h = absurd h
+refused-lacks areas addr n count memory fault.CellsFull h = absurd h
+
+-- and just those pages may be written to that might before
+pub refused-writes : (areas : List Area) (addr count : ℕ) (tables : PageTables) (why : Fault) → AreasRefuse areas (page_of addr) count why
+    → WritesAfterFault addr why tables tables
+refused-writes areas addr count tables (fault.NoArea page) h = λ q. refl
+refused-writes areas addr count tables (fault.NoWrite page) h = λ q. refl
+refused-writes areas addr count tables (fault.NoFrame at page) h = absurd h
+refused-writes areas addr count tables (fault.Overlap page) h = absurd h
+refused-writes areas addr count tables fault.AreasFull h = absurd h
+refused-writes areas addr count tables fault.CellsFull h = absurd h
 
 -- ---- reading, and the start
 

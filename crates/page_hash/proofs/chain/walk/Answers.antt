@@ -11,9 +11,12 @@ look_at-seen-requires-clause-block g c =
 
 pub returns-in-Some-clause-located : goal.returns-in-Some-clause-located
 returns-in-Some-clause-located g c chain is =
+    let mem = (g.M.Memory.state c.args.m.now).mem in
     let here = c.loop-at.invariant.rest chain is in
-    located_at-here (g.M.Memory.state c.args.m.now).mem c.loop-at.link c.loop-at.at c.in-Some.length here.0 c.args.key.now
-    c.loop-at-test.true here.1.0
+    let next : c.look_at-seen.result.next ≡ word_at mem c.loop-at.at =
+    c.look_at-seen.ensures.next ∙ ap (λ s. word_at s.mem c.loop-at.at) c.loop-at.invariant.same in
+    located_at-here mem c.loop-at.link c.loop-at.at c.look_at-seen.result.next c.in-Some.length here.0 c.args.key.now
+    c.loop-at-test.true here.1.0 next
     (λ entry block. sym c.in-Some.is
     ∙ c.look_at-seen.ensures.value entry
     (subst (λ s. IsBlockOf s.mem c.loop-at.at entry) (sym c.loop-at.invariant.same) block))

@@ -48,7 +48,9 @@ pub returns-in-Some-clause-ready : goal.returns-in-Some-clause-ready
 returns-in-Some-clause-ready c = λ may sides st.
     let known : get c.args.self.now.directory (cell_of c.args.page) ≡ Some c.in-Some.slot = sym c.requires.known ∙ c.in-Some.is in
     written-ready c.args.self.now sides st c.args.page c.in-Some.slot c.index.result.now known
-    (owned-here c.args.self.now.slots.items c.in-Some.slot (cell_of c.args.page) c.index.result.now (st.named (cell_of c.args.page) c.in-Some.slot known) c.index.ensures) c.covers.ensures.alone may
+    (owned-here c.args.self.now.slots.items c.in-Some.slot (cell_of c.args.page) c.index.result.now
+        (st.named (cell_of c.args.page) c.in-Some.slot known) c.index.ensures)
+        (λ unjoined. c.covers.ensures.alone unjoined (c.args.page % 512)) may
 
 pub returns-in-None-clause-ready : goal.returns-in-None-clause-ready
 returns-in-None-clause-ready c = λ may sides st.

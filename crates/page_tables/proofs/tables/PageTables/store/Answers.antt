@@ -27,11 +27,11 @@ loop-done-preserved c =
       stored = λ sides st. subst (λ pages. TablesStandFor c.store_piece.new.self (record sides { pages = pages }))
           (store-more sides.pages c.args.addr c.loop-done.done c.piece_of_page-piece.result c.args.bytes.now fits)
           (c.store_piece.ensures.stored (record sides { pages = with_bytes sides.pages c.args.addr (take c.loop-done.done c.args.bytes.now) }) (c.loop-done.invariant.stored sides st));
-      held = c.store_piece.ensures.held ∙ c.loop-done.invariant.held;
-      cells = record { frames = c.store_piece.ensures.cells.frames ∙ c.loop-done.invariant.cells.frames; shares = c.store_piece.ensures.cells.shares ∙ c.loop-done.invariant.cells.shares };
-      writable = λ page. c.store_piece.ensures.writable page ∙ c.loop-done.invariant.writable page;
-      snapshot = c.store_piece.ensures.snapshot ∙ c.loop-done.invariant.snapshot;
-      slots = c.store_piece.ensures.slots ∙ c.loop-done.invariant.slots;
+      held = c.store_piece.ensures.kept.held ∙ c.loop-done.invariant.held;
+      cells = record { frames = c.store_piece.ensures.kept.cells.frames ∙ c.loop-done.invariant.cells.frames; shares = c.store_piece.ensures.kept.cells.shares ∙ c.loop-done.invariant.cells.shares };
+      writable = λ page. c.store_piece.ensures.kept.writable page ∙ c.loop-done.invariant.writable page;
+      snapshot = c.store_piece.ensures.kept.snapshot ∙ c.loop-done.invariant.snapshot;
+      slots = c.store_piece.ensures.kept.slots ∙ c.loop-done.invariant.slots;
     }
 
 pub returns-clause-stored : goal.returns-clause-stored

@@ -1,92 +1,22 @@
-use Rattle.std.proofs.Common.{Some, refl, sym, ◌∙◌, subst}
-use Rattle.page_tables.specs.Permissions.{LetsWrite}
+-- The areas judge, and then the pages are touched.
+use Rattle.std.proofs.Common.{refl, sym, subst}
 use Rattle.vm_base.specs.Places.{page_of}
-use Rattle.page_tables.specs.Ranges.{cells_of_pages}
-use Rattle.trace_core.specs.KernelStanding.{sides_of}
-use Rattle.std.proofs.Math.Logic.{∥∥₁_map}
-use Rattle.trace_core.proofs.events.Writes.{touch-leaves, touched-outside, touched-read_only, touched-full, touched-done, touched-no_frame, room-there}
-use Rattle.page_tables.proofs.view.RefusalPages.{page-lacks}
-use Rattle.trace_core.proofs.events.KernelFacts.{known-tables, known-lent}
+use Rattle.trace_core.specs.TouchAnswers.{AreasAllow, AreasRefuse}
+use Rattle.trace_core.proofs.events.Writes.{touch-leaves, touched-refused, refused-lacks, refused-writes}
 use Rattle.trace_core.proofs.parts.Parts.touch.Goals as goal
 
-pub lacks_slots-requires-clause-stands : goal.lacks_slots-requires-clause-stands
-lacks_slots-requires-clause-stands g c = known-tables _ c.requires.stands
+pub touch_allowed-requires-clause-stands : goal.touch_allowed-requires-clause-stands
+touch_allowed-requires-clause-stands g c =
+    (c.requires.stands, subst (AreasAllow c.args.self.now.areas (page_of c.args.addr)) c.page_count.ensures.count c.in-Ok.ensures.allowed)
 
-pub touch-requires-clause-lent : goal.touch-requires-clause-lent
-touch-requires-clause-lent g c = known-lent _ c.requires.stands
-
-pub returns-in-Some-clause-ran : goal.returns-in-Some-clause-ran
-returns-in-Some-clause-ran g c = λ machine state st.
-    (touched-outside _ machine state st c.args.addr c.args.len _ c.page_count-count.ensures.count c.in-Some.page (sym c.first_outside.ensures ∙ c.in-Some.is)).ran
-
-pub returns-in-Some-first_read_only-clause-ran : goal.returns-in-Some-first_read_only-clause-ran
-returns-in-Some-first_read_only-clause-ran g c = λ machine state st.
-    (touched-read_only _ machine state st c.args.addr c.args.len _ c.page_count-count.ensures.count
-    (sym c.first_outside.ensures ∙ c.in_default.is) c.in-Some-first_read_only.page (sym c.first_read_only.ensures ∙ c.in-Some-first_read_only.is)).ran
-
-pub returns-then-lacks_slots-clause-ran : goal.returns-then-lacks_slots-clause-ran
-returns-then-lacks_slots-clause-ran g c = λ machine state st.
-    (touched-full _ machine state st c.args.addr c.args.len _ c.page_count-count.ensures.count
-    (sym c.first_outside.ensures ∙ c.in_default.is) c.requires.some (sym c.first_read_only.ensures ∙ c.in_default-first_read_only.is)
-    (sym (c.lacks_slots.ensures (sides_of state st.pages) st.tables) ∙ c.if-lacks_slots.true)).ran
-
-pub touch-requires-clause-stands : goal.touch-requires-clause-stands
-touch-requires-clause-stands g c =
-    ∥∥₁_map c.requires.stands (λ it.
-    let state = it.1.0 in
-    let st = it.1.1 in (
-      sides_of state st.pages,
-      (
-        st.tables,
-        room-there c.args.self.now.tables (sides_of state st.pages) (cells_of_pages (page_of c.args.addr) c.page_count-count.result) st.tables
-            (sym (c.lacks_slots.ensures (sides_of state st.pages) st.tables) ∙ c.if-lacks_slots.false),
-      ),
-    ))
-
--- src/writing.rt:57:5
-pub returns-in-Ok : goal.returns-in-Ok
-returns-in-Ok g c = record {
-  ran = λ machine state st.
-      (touched-done _ machine state st c.args.addr c.args.len _ c.page_count-count.ensures.count
-      (sym c.first_outside.ensures ∙ c.in_default.is) c.requires.some (sym c.first_read_only.ensures ∙ c.in_default-first_read_only.is)
-      (sym (c.lacks_slots.ensures (sides_of state st.pages) st.tables) ∙ c.if-lacks_slots.false)
-      c.touch.new.self c.in-Ok.ensures.made.deals _ c.in-Ok.ensures.made.led c.touch.ensures.held c.touch.ensures.snapshot
-      c.touch.ensures.slots
-      (c.in-Ok.ensures.made.follows (sides_of state st.pages) st.tables)).ran;
-  ready = λ machine state st.
-      touch-leaves _ _ machine state c.args.addr c.args.len _
-      (touched-done _ machine state st c.args.addr c.args.len _ c.page_count-count.ensures.count
-      (sym c.first_outside.ensures ∙ c.in_default.is) c.requires.some (sym c.first_read_only.ensures ∙ c.in_default-first_read_only.is)
-      (sym (c.lacks_slots.ensures (sides_of state st.pages) st.tables) ∙ c.if-lacks_slots.false)
-      c.touch.new.self c.in-Ok.ensures.made.deals _ c.in-Ok.ensures.made.led c.touch.ensures.held c.touch.ensures.snapshot
-      c.touch.ensures.slots
-      (c.in-Ok.ensures.made.follows (sides_of state st.pages) st.tables));
-  page = tt;
-  beside = ((refl, subst (λ n. LetsWrite (page_of c.args.addr) n c.args.self.now.tables c.touch.new.self) c.page_count-count.ensures.count c.in-Ok.ensures.writable), refl, refl);
-}
-
--- src/writing.rt:57:5
 pub returns-in-Err : goal.returns-in-Err
 returns-in-Err g c = record {
-  ran = λ machine state st.
-      (touched-no_frame _ machine state st c.args.addr c.args.len _ c.page_count-count.ensures.count
-      (sym c.first_outside.ensures ∙ c.in_default.is) c.requires.some (sym c.first_read_only.ensures ∙ c.in_default-first_read_only.is)
-      (sym (c.lacks_slots.ensures (sides_of state st.pages) st.tables) ∙ c.if-lacks_slots.false)
-      c.touch.new.self c.in-Err.ensures.made.deals _ c.in-Err.ensures.made.led c.touch.ensures.held c.touch.ensures.snapshot
-      c.touch.ensures.slots
-      (record { at = c.in-Err.refused.at; page = Some c.in-Err.refused.page }) c.in-Err.refused.page
-      (c.in-Err.ensures.made.follows (sides_of state st.pages) st.tables)).ran;
-  ready = λ machine state st.
-      touch-leaves _ _ machine state c.args.addr c.args.len _
-      (touched-no_frame _ machine state st c.args.addr c.args.len _ c.page_count-count.ensures.count
-      (sym c.first_outside.ensures ∙ c.in_default.is) c.requires.some (sym c.first_read_only.ensures ∙ c.in_default-first_read_only.is)
-      (sym (c.lacks_slots.ensures (sides_of state st.pages) st.tables) ∙ c.if-lacks_slots.false)
-      c.touch.new.self c.in-Err.ensures.made.deals _ c.in-Err.ensures.made.led c.touch.ensures.held c.touch.ensures.snapshot
-      c.touch.ensures.slots
-      (record { at = c.in-Err.refused.at; page = Some c.in-Err.refused.page }) c.in-Err.refused.page
-      (c.in-Err.ensures.made.follows (sides_of state st.pages) st.tables));
-  page = λ machine state st.
-      page-lacks c.args.self.now.tables (sides_of state st.pages) st.tables c.args.addr c.args.len _ c.page_count-count.ensures.count
-      c.touch.new.self c.in-Err.ensures.made.deals c.in-Err.refused.at c.in-Err.refused.page (c.in-Err.ensures.made.follows (sides_of state st.pages) st.tables);
-  beside = ((refl, c.in-Err.ensures.writable), refl, refl);
+  ran = λ machine state st. (touched-refused _ machine state st c.args.addr c.args.len _ c.page_count.ensures.count c.in-Err.fault
+      c.in-Err.ensures.refused).ran;
+  ready = λ machine state st. touch-leaves _ _ machine state c.args.addr c.args.len _
+      (touched-refused _ machine state st c.args.addr c.args.len _ c.page_count.ensures.count c.in-Err.fault c.in-Err.ensures.refused);
+  page = λ machine state st. refused-lacks c.args.self.now.areas c.args.addr c.args.len _ state.world.parent c.in-Err.fault
+      c.in-Err.ensures.refused;
+  beside = ((refl, refused-writes c.args.self.now.areas c.args.addr _ c.args.self.now.tables c.in-Err.fault
+      c.in-Err.ensures.refused), refl, refl);
 }

@@ -1,27 +1,21 @@
-use Rattle.std.proofs.Common.{Ok, Err, refl, sym, subst}
+-- The areas judge, and then the bytes are written.
+use Rattle.std.proofs.Common.{Err, sym, subst}
+use Rattle.vm_base.specs.Places.{page_of}
 use Rattle.trace_core.specs.KernelStanding.{EventRan}
-use Rattle.std.proofs.Math.Logic.{∥∥₁_map}
-use Rattle.trace_core.proofs.events.Stores.{ran-stored, ran-unstored, lets-kept}
+use Rattle.trace_core.specs.TouchAnswers.{AreasAllow}
+use Rattle.trace_core.proofs.events.Writes.{touched-refused, refused-writes}
+use Rattle.trace_core.proofs.events.Stores.{ran-unstored}
 use Rattle.trace_core.proofs.parts.Parts.write.Goals as goal
 
--- src/writing.rt:122:17
-pub store-requires-clause-ready : goal.store-requires-clause-ready
-store-requires-clause-ready g c = ∥∥₁_map c.requires.stands (λ it.
-    let leaves = c.in-Ok.ensures.ready it.0 it.1.0 it.1.1 in (it.0, (leaves.after, (leaves.stands, leaves.ready))))
+pub write_allowed-requires-clause-stands : goal.write_allowed-requires-clause-stands
+write_allowed-requires-clause-stands g c =
+    (c.requires.stands, subst (AreasAllow c.args.self.now.areas (page_of c.args.addr)) c.page_count.ensures.count c.in-Ok.ensures.allowed)
 
--- src/writing.rt:112:5
-pub returns-in-Ok : goal.returns-in-Ok
-returns-in-Ok g c = record {
-  ran = λ machine state st.
-      let ran = c.in-Ok.ensures.ran machine state st in
-      ran-stored _ _ machine state c.args.addr c.args.bytes.now _ c.store.ensures.others ran (c.store.ensures.stored machine ran.after ran.stands);
-  writable = (Ok tt, (refl, lets-kept _ _ _ _ _ c.in-Ok.ensures.beside.0.1 c.store.ensures.writable));
-}
-
--- src/writing.rt:112:5
 pub returns-in-Err : goal.returns-in-Err
 returns-in-Err g c = record {
   ran = λ machine state st. subst (EventRan _ _ machine _) (sym c.refused_by.ensures)
-      (ran-unstored _ _ machine state c.args.addr c.args.bytes.now c.in-Err.fault (c.in-Err.ensures.ran machine state st));
-  writable = (Err c.in-Err.fault, (c.refused_by.ensures, c.in-Err.ensures.beside.0.1));
+      (ran-unstored _ _ machine state c.args.addr c.args.bytes.now c.in-Err.fault
+      (touched-refused _ machine state st c.args.addr _ _ c.page_count.ensures.count c.in-Err.fault c.in-Err.ensures.refused).ran);
+  writable = (Err c.in-Err.fault, (c.refused_by.ensures, refused-writes c.args.self.now.areas c.args.addr _ c.args.self.now.tables
+      c.in-Err.fault c.in-Err.ensures.refused));
 }
