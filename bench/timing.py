@@ -81,3 +81,33 @@ def least_of(runs, words, text, status=0):
         file.flush()
         done = [run_on(words, file.name, status) for _ in range(runs)]
     return Run(min(it.seconds for it in done), min(it.memory for it in done))
+
+
+class Table:
+    """Rows of ratios with their bounds, and the bounds that were broken so far."""
+
+    def __init__(self):
+        self.broken = []
+
+    def tell(self, what, one, other, unit, most=None):
+        """Prints a row, of a figure and the one that it is measured by, and its bound if any."""
+        ratio = one / other
+        is_broken = most is not None and ratio > most
+        told = "none" if most is None else f"{most:.4g}"
+        bound = f"{told} (broken)" if is_broken else told
+        print(f"| {what} | {one:,.1f} {unit} | {other:,.1f} {unit} | {ratio:.2f} | {bound} |")
+        sys.stdout.flush()
+        if is_broken:
+            self.broken.append(what)
+
+    def status(self):
+        """Names the broken bounds, and tells the status to end with."""
+        for it in self.broken:
+            print(f"{sys.argv[0]}: above its bound: {it}", file=sys.stderr)
+        return 1 if self.broken else 0
+
+
+def print_columns():
+    """The head of the rows that a `Table` prints."""
+    print("\n| What, and what it is measured by | First | Second | Ratio | At most |")
+    print("|---|---|---|---|---|")
