@@ -2,7 +2,8 @@
 ghost use Rattle.std.specs.Prelude.{◌≡◌, ◌≤◌, length};
 ghost use Rattle.store_meaning.specs.Standing.{IsStanding};
 
-use crate::stores::{fill, flat_store, list_of, pair_of};
+use crate::fills::{fill, pair_of};
+use crate::{flat_store, list_of};
 use memory_views::{CallCounts, Counted};
 use page_hash::{get, put};
 use std::test::Fail;

@@ -1,10 +1,12 @@
 //! Where the first pairs lie, and what a doubling leaves.
 ghost use Rattle.store_meaning.specs.Standing.{IsStanding};
 
-use crate::stores::{fill, flat_store, has_pairs, list_of, word_at};
+use crate::fills::{fill, has_pairs};
+use crate::{flat_store, kernel_store, list_of, word_at};
+use flat_memory::Flat;
 use page_hash::{put, remove};
 use std::test::Fail;
-use vm_base::{Fault, Memory};
+use vm_base::{Fault, Memory, Perm};
 
 const TOP: u64 = 0x20_0000;
 
@@ -67,5 +69,37 @@ fn the_513th_pair_doubles_the_array(rt: HostRuntime) -> Result<(), Fail> {
     let mut flat = flat_store(rt.alloc(), 64)?;
     assert_eq!(rt; array_behind_513(&mut flat)?, doubled);
     assert!(rt; has_pairs(&list_of(rt.alloc(), &mut flat)?, 513));
+    let mut kernel = kernel_store(rt.alloc(), 64, Vec::new(rt.alloc()))?;
+    assert_eq!(rt; array_behind_513(&mut kernel)?, doubled);
+    assert!(rt; has_pairs(&list_of(rt.alloc(), &mut kernel)?, 513));
+    Ok(())
+}
+
+#[test]
+fn a_block_is_used_again_in_a_kernel(rt: HostRuntime) -> Result<(), Fail> {
+    let mut kernel = kernel_store(rt.alloc(), 64, Vec::new(rt.alloc()))?;
+    // A page of the header, and the four tables above it.
+    assert_eq!(rt; kernel.held(), 5);
+    put(&mut kernel, b"a", b"1")?;
+    assert_eq!(rt; words(&mut kernel)?, [HEAP + 32, 0, HEAP, 0, 1]);
+    // A page of buckets and one of blocks, with a middle and a leaf table above each.
+    assert_eq!(rt; kernel.held(), 11);
+    assert!(rt; remove(&mut kernel, b"a"));
+    assert_eq!(rt; words(&mut kernel)?, [HEAP + 32, HEAP, 0, 0, 0]);
+    put(&mut kernel, b"b", b"1")?;
+    assert_eq!(rt; words(&mut kernel)?, [HEAP + 32, 0, 0, HEAP, 1]);
+    assert_eq!(rt; kernel.held(), 11);
+    Ok(())
+}
+
+#[test]
+fn a_flat_memory_of_one_page_refuses_a_second(rt: HostRuntime) -> Result<(), Fail> {
+    let mut flat = Flat::new(rt.alloc(), 1, 0)?;
+    flat.map(7, 2, Perm::ReadWrite)?;
+    flat.touch(0x7000, 4096)?;
+    assert_eq!(rt;
+        flat.touch(0x8000, 1),
+        Err(Fault::NoFrame { at: 1, page: 8 })
+    );
     Ok(())
 }
