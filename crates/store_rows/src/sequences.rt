@@ -177,16 +177,20 @@ fn frames_of(seed: u64) -> u16 {
     if size_of(seed).keys > 100 { 2048 } else { 96 }
 }
 
+// A sequence on a flat memory. It has no policy: every third one has few pages.
+fn run_on_flat(alloc: Global, seed: u64) -> Result<Option<u64>, Fail> {
+    let pages = if seed % 3 == 0 { 3 } else { frames_of(seed) };
+    let mut flat = flat_store(alloc, u32::from(pages))?;
+    run(alloc, &mut flat, seed)
+}
+
 #[test]
 fn sequences_on_flat_memories_do_what_they_do_to_an_ordered_map(
     rt: HostRuntime,
 ) -> Result<(), Fail> {
     let mut refused = 0u64;
     for seed in 0..SEQUENCES {
-        // A flat memory has no policy: every third one has few pages.
-        let pages = if seed % 3 == 0 { 3 } else { frames_of(seed) };
-        let mut flat = flat_store(rt.alloc(), u32::from(pages))?;
-        let Some(some) = run(rt.alloc(), &mut flat, seed)? else {
+        let Some(some) = run_on_flat(rt.alloc(), seed)? else {
             return Err(Fail::from(seed));
         };
         refused = refused.saturating_add(some);
@@ -207,13 +211,18 @@ fn policies_of(alloc: Global, seed: u64) -> Result<Vec<Box<dyn FramePolicy + Sen
     Ok(policies)
 }
 
+// A sequence on a kernel.
+fn run_on_kernel(alloc: Global, seed: u64) -> Result<Option<u64>, Fail> {
+    let policies = policies_of(alloc, seed)?;
+    let mut kernel = kernel_store(alloc, frames_of(seed), policies)?;
+    run(alloc, &mut kernel, seed)
+}
+
 #[test]
 fn sequences_on_kernels_do_what_they_do_to_an_ordered_map(rt: HostRuntime) -> Result<(), Fail> {
     let mut refused = 0u64;
     for seed in 0..SEQUENCES {
-        let policies = policies_of(rt.alloc(), seed)?;
-        let mut kernel = kernel_store(rt.alloc(), frames_of(seed), policies)?;
-        let Some(some) = run(rt.alloc(), &mut kernel, seed)? else {
+        let Some(some) = run_on_kernel(rt.alloc(), seed)? else {
             return Err(Fail::from(seed));
         };
         refused = refused.saturating_add(some);
