@@ -63,6 +63,16 @@ impl Areas {
         Areas { list }
     }
 
+    /// Becomes the same list as another one, in its own place: nothing as large as a list is made
+    /// or moved.
+    pub fn copy_from(&mut self, other: &Areas)
+        ensures { self.new ≡ other.now }
+    {
+        self.list.clear();
+        let copied = self.list.try_extend_from_slice(other.list.as_slice());
+        prove!(copied.is_ok());
+    }
+
     /// The areas in rising order.
     pub fn list(&self) -> &[Area]
         ensures areas { result.now ≡ self.now }

@@ -4,7 +4,7 @@ use Rattle.std.specs.Prelude.{true, false, not, is_some, count_by, zero, suc}
 use Rattle.std.specs.Ordering.{nat_cmp}
 use Rattle.std.specs.List.{slice_get}
 use Rattle.std.specs.Option.{option_and_then}
-use Rattle.std.specs.FinMap.{find}
+use Rattle.std.specs.FinMap.{get, find}
 use Rattle.std.proofs.lemmas.Bool.{false≢true}
 use Rattle.std.proofs.lemmas.Bool.Decides.{nat_tests}
 use Rattle.std.proofs.lemmas.List.{length-map}
@@ -13,7 +13,8 @@ use Rattle.kernel_meaning.specs.FrameLaw.{lacks_slots, used_cells, cells_without
 use Rattle.page_tables.specs.declared.slot.Slot.{Slot}
 use Rattle.page_tables.specs.declared.tables.PageTables.{PageTables}
 use Rattle.page_tables.specs.Sides.{Sides}
-use Rattle.page_tables.specs.Standing.{owner_at, TablesStandFor, IsSlotOf, IsSlotChosen, HasSlotFor, slot_count}
+use Rattle.page_tables.specs.Standing.{owner_at, slot_in, TablesStandFor, IsSlotOf, IsSlotChosen, HasSlotFor, slot_count}
+use Rattle.page_tables.proofs.Vacancies.{kept-found}
 
 -- one for a slot that has an owner
 abbrev one_if_owned : Option ℕ → ℕ
@@ -58,3 +59,28 @@ module _ (tables : PageTables) (sides : Sides) (st : TablesStandFor tables sides
       let more : length tables.slots.items - length (used_cells sides.leaves) < length (cells_without_slot sides.leaves (c ∷ [])) = omega arith in
       let told : nat_lt (length tables.slots.items - length (used_cells sides.leaves)) (length (cells_without_slot sides.leaves (c ∷ []))) ≡ true = grind (arith, nat_tests) in
       false≢true (sym room ∙ told)
+
+  -- the slot that the snapshot has for the cell is the cell's
+  pub kept-slot : (s : ℕ) → slot_in tables.snapshot c ≡ Some s → IsSlotOf tables.slots.items (Some c) (Some s)
+  kept-slot s kept = held (slice_get tables.slots.items s) refl (st.snapshot_of.named c s kept)
+    where
+      held : (o : Option Slot) → slice_get tables.slots.items s ≡ o
+          → option_and_then (λ it. it.owner) o ≡ Some c → IsSlotOf tables.slots.items (Some c) (Some s)
+      held None e owned = absurd (false≢true (ap is_some owned))
+      held (Some slot) e owned = (slot, (e, owned))
+
+  -- a cell that neither directory has lies in no slot
+  pub in-no-slot : get tables.directory c ≡ None → slot_in tables.snapshot c ≡ None → IsSlotOf tables.slots.items (Some c) None
+  in-no-slot new unkept s slot here mine =
+      let found : is_some (find nat_cmp c sides.leaves) ≡ true =
+      st.slots_of.used s c (ap (option_and_then (λ it. it.owner)) here ∙ mine) in
+      let missing : is_some (find nat_cmp c sides.leaves) ≡ false =
+      sym (kept-found tables sides st c (ap is_some new)) ∙ ap is_some unkept in
+      false≢true (sym missing ∙ found)
+
+  -- a free slot is the slot chosen where neither directory has the cell
+  pub chosen-free : (free : Option ℕ) → get tables.directory c ≡ None → slot_in tables.snapshot c ≡ None
+      → IsSlotOf tables.slots.items None free
+      → IsSlotChosen tables.slots.items c free
+  chosen-free (Some s) new unkept none = inr (in-no-slot new unkept, none)
+  chosen-free None new unkept none = (in-no-slot new unkept, none)

@@ -245,7 +245,7 @@ impl PageTables {
     }
 
     /// The slot of a cell that the snapshot has.
-    fn snapshot_slot(&self, cell: u32) -> Option<u32>
+    pub(crate) fn snapshot_slot(&self, cell: u32) -> Option<u32>
         requires { cell < 2 ^ 27 }
         ensures { result ≡ slot_in self.now.snapshot cell }
     {

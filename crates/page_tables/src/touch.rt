@@ -99,12 +99,16 @@ impl PageTables {
         }
     }
 
-    /// The slot that a cell has, or else a free one.
+    /// The slot of a cell that the directory lacks: the snapshot's, where it has the cell, or else
+    /// a free one. No other can be the cell's, so none is looked at behind the first free one.
     fn slot_for(&self, cell: u32) -> Option<u32>
-        requires { slot_count self.now ≤ 512 }
-        ensures { IsSlotChosen self.now.slots.items cell result }
+        requires cell { cell < 2 ^ 27 }
+        requires new { get self.now.directory cell ≡ None }
+        requires few { slot_count self.now ≤ 512 }
+        ensures { (sides : Sides) → TablesStandFor self.now sides
+            → IsSlotChosen self.now.slots.items cell result }
     {
-        match slot_of(&self.slots, Some(cell)) {
+        match self.snapshot_slot(cell) {
             Some(slot) => Some(slot),
             None => slot_of(&self.slots, None),
         }

@@ -2,7 +2,8 @@
 ghost use Rattle.std.specs.Prelude.{◌≡◌, ◌≤◌, length};
 ghost use Rattle.store_meaning.specs.Standing.{IsStanding};
 
-use crate::stores::{fill, flat_store, list_of, pair_of};
+use crate::fills::{fill, pair_of};
+use crate::{flat_store, list_of};
 use memory_views::{CallCounts, Counted};
 use page_hash::{get, put};
 use std::test::Fail;
@@ -45,6 +46,14 @@ fn calls_of_put<M: Memory>(
     let answer = put(m, key, value);
     let calls = m.take_calls();
     answer.map(|()| calls)
+}
+
+// The calls of a put of the pair of a number.
+fn calls_of_put_number<M: Memory>(m: &mut Counted<M>, number: u32) -> Result<CallCounts, Refused>
+    requires stands { IsStanding (M.state m.old.memory) }
+{
+    let (key, value) = pair_of(number);
+    calls_of_put(m, &key, &value)
 }
 
 // The calls of a get, into a buffer of 100 bytes.
@@ -104,8 +113,7 @@ fn a_list_reads_twice_for_each_pair(rt: HostRuntime) -> Result<(), Fail> {
 fn a_doubling_reads_touches_and_stores_each_block_once(rt: HostRuntime) -> Result<(), Fail> {
     let mut m = counted(flat_store(rt.alloc(), 64)?);
     fill(&mut m, 512)?;
-    let (key, value) = pair_of(512);
-    let calls = calls_of_put(&mut m, &key, &value)?;
+    let calls = calls_of_put_number(&mut m, 512)?;
     assert_eq!(rt; (calls.maps, calls.unmaps), (1, 1));
     // Those of the put, and of the header and the new array; each of 513 blocks once; and one read
     // and two stores for the one page of buckets.

@@ -3,7 +3,8 @@ ghost use Rattle.std.specs.Prelude.{◌<◌, ◌≤◌, length};
 ghost use Rattle.store_meaning.specs.Standing.{IsStanding};
 
 use crate::dice::{Dice, TEXT, key_of};
-use crate::stores::{flat_store, list_of};
+use crate::{flat_store, kernel_store, list_of};
+use frame_pool::{DenyNth, FramePolicy};
 use page_hash::{clear, get, len, put, remove};
 use std::alloc::Global;
 use std::collections::BTreeMap;
@@ -39,7 +40,16 @@ fn size_of(seed: u64) -> Size
     }
 }
 
-// Makes one call on a store and on a map. A put that is refused is none of the map.
+/// What a call on a store came to, beside the same one on a map.
+#[derive(Clone, Copy, Debug)]
+enum Called {
+    Same,
+    Other,
+    /// A put that was refused, and is none of the map.
+    Refused,
+}
+
+// Makes one call on a store and on a map.
 fn call_both<M: Memory>(
     alloc: Global,
     m: &mut M,
@@ -47,7 +57,7 @@ fn call_both<M: Memory>(
     dice: &mut Dice,
     text: &[u8; TEXT],
     keys: u64,
-) -> Result<bool, NoMemory>
+) -> Result<Called, NoMemory>
     requires stands { IsStanding (M.state m.old) }
     requires some { 0 < keys }
     requires few { keys ≤ 1024 }
@@ -57,19 +67,23 @@ fn call_both<M: Memory>(
     match dice.below(64) {
         0..40 => {
             let value = dice.value(text);
-            if put(m, key, value).is_ok() {
-                map.insert(Vec::from_slice(alloc, key)?, Vec::from_slice(alloc, value)?)?;
+            if put(m, key, value).is_err() {
+                return Ok(Called::Refused);
             }
-            Ok(true)
+            map.insert(Vec::from_slice(alloc, key)?, Vec::from_slice(alloc, value)?)?;
         }
-        40..60 => Ok(remove(m, key) == map.remove(key).is_some()),
+        40..60 => {
+            if remove(m, key) != map.remove(key).is_some() {
+                return Ok(Called::Other);
+            }
+        }
         60 => {
             clear(m);
             map.clear();
-            Ok(true)
         }
-        _ => Ok(true),
+        _ => {}
     }
+    Ok(Called::Same)
 }
 
 // Whether a store has for a key what a map has.
@@ -134,32 +148,86 @@ fn lists_same<M: Memory>(alloc: Global, m: &mut M, map: &Pairs) -> Result<bool, 
     Ok(place == list.len())
 }
 
-// Runs a sequence, and answers whether store and map agreed behind each call.
-fn run<M: Memory>(alloc: Global, m: &mut M, seed: u64) -> Result<bool, Fail>
+// Runs a sequence, and answers how many puts were refused, where store and map agreed behind each
+// call.
+fn run<M: Memory>(alloc: Global, m: &mut M, seed: u64) -> Result<Option<u64>, Fail>
     requires stands { IsStanding (M.state m.old) }
 {
     let size = size_of(seed);
     let mut dice = Dice::new(seed);
     let text = dice.text();
     let mut map = BTreeMap::new(alloc);
+    let mut refused = 0u64;
     for _ in 0..size.calls {
-        if !call_both(alloc, m, &mut map, &mut dice, &text, size.keys)?
-            || !agree(m, &map, &mut dice, &text, size.keys)
-        {
-            return Ok(false);
+        match call_both(alloc, m, &mut map, &mut dice, &text, size.keys)? {
+            Called::Same => {}
+            Called::Other => return Ok(None),
+            Called::Refused => refused = refused.saturating_add(1),
+        }
+        if !agree(m, &map, &mut dice, &text, size.keys) {
+            return Ok(None);
         }
     }
-    lists_same(alloc, m, &map)
+    let is_listed = lists_same(alloc, m, &map)?;
+    Ok(is_listed.then_some(refused))
+}
+
+// The frames that a sequence may have.
+fn frames_of(seed: u64) -> u16 {
+    if size_of(seed).keys > 100 { 2048 } else { 96 }
+}
+
+// A sequence on a flat memory. It has no policy: every third one has few pages.
+fn run_on_flat(alloc: Global, seed: u64) -> Result<Option<u64>, Fail> {
+    let pages = if seed % 3 == 0 { 3 } else { frames_of(seed) };
+    let mut flat = flat_store(alloc, u32::from(pages))?;
+    run(alloc, &mut flat, seed)
 }
 
 #[test]
-fn sequences_of_calls_do_what_they_do_to_an_ordered_map(rt: HostRuntime) -> Result<(), Fail> {
+fn sequences_on_flat_memories_do_what_they_do_to_an_ordered_map(
+    rt: HostRuntime,
+) -> Result<(), Fail> {
+    let mut refused = 0u64;
     for seed in 0..SEQUENCES {
-        let frames = if size_of(seed).keys > 100 { 2048 } else { 96 };
-        // A flat memory has no policy: every third one has few pages.
-        let pages = if seed % 3 == 0 { 8 } else { frames };
-        let mut flat = flat_store(rt.alloc(), pages)?;
-        assert!(rt; run(rt.alloc(), &mut flat, seed)?, "flat {seed}");
+        let Some(some) = run_on_flat(rt.alloc(), seed)? else {
+            return Err(Fail::from(seed));
+        };
+        refused = refused.saturating_add(some);
     }
+    // So many that most of those memories refused some.
+    assert!(rt; refused > SEQUENCES);
+    Ok(())
+}
+
+// For every third sequence three policies, each of which refuses a request behind the opening.
+fn policies_of(alloc: Global, seed: u64) -> Result<Vec<Box<dyn FramePolicy + Send>>, NoMemory> {
+    let mut policies: Vec<Box<dyn FramePolicy + Send>> = Vec::new(alloc);
+    if seed % 3 == 0 {
+        for nth in [6 + seed % 7, 10 + seed % 11, 14 + seed % 13] {
+            policies.push(Box::new(alloc, DenyNth::new(nth))?)?;
+        }
+    }
+    Ok(policies)
+}
+
+// A sequence on a kernel.
+fn run_on_kernel(alloc: Global, seed: u64) -> Result<Option<u64>, Fail> {
+    let policies = policies_of(alloc, seed)?;
+    let mut kernel = kernel_store(alloc, frames_of(seed), policies)?;
+    run(alloc, &mut kernel, seed)
+}
+
+#[test]
+fn sequences_on_kernels_do_what_they_do_to_an_ordered_map(rt: HostRuntime) -> Result<(), Fail> {
+    let mut refused = 0u64;
+    for seed in 0..SEQUENCES {
+        let Some(some) = run_on_kernel(rt.alloc(), seed)? else {
+            return Err(Fail::from(seed));
+        };
+        refused = refused.saturating_add(some);
+    }
+    // More than one in each of those sequences.
+    assert!(rt; refused > SEQUENCES / 3);
     Ok(())
 }

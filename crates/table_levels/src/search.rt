@@ -12,6 +12,10 @@ use vm_base::Frame;
 /// How many entries are looked at together.
 const BLOCK: usize = 8;
 
+/// How many entries are passed over together: most tables name little, so most of a walk is over
+/// zeros, and one compare of many bytes costs far less than one for each block.
+const STRETCH: usize = 64;
+
 /// How many middle tables there may be.
 const MIDDLES: u32 = 1 << 18;
 
@@ -28,12 +32,30 @@ pub(crate) fn first_entry(table: &Option<Frame>, from: usize) -> Option<(usize, 
     }
 }
 
-/// The first entry of a table that is there. It goes block after block.
+/// The first entry of a table that is there. It goes stretch after stretch.
 fn first_in(table: &Frame, from: usize) -> Option<(usize, u32)>
     ensures { IsFirst 512 (entry_at table.now.bytes) from result }
 {
-    for block in from / BLOCK..ENTRIES / BLOCK {
-        if let Some(found) = first_in_block(table, from, block) {
+    for stretch in from / STRETCH..ENTRIES / STRETCH {
+        if let Some(found) = first_in_stretch(table, from, stretch) {
+            return Some(found);
+        }
+    }
+    None
+}
+
+/// The first entry of a stretch that is not below an index. It goes block after block.
+fn first_in_stretch(table: &Frame, from: usize, stretch: usize) -> Option<(usize, u32)>
+    requires { stretch < 8 }
+    ensures { IsFirst (64 * stretch + 64) (entry_at table.now.bytes)
+        (max from (64 * stretch)) result }
+{
+    let begin = STRETCH * stretch;
+    if is_bare_stretch(table, begin) {
+        return None;
+    }
+    for block in from.max(begin) / BLOCK..(begin + STRETCH) / BLOCK {
+        if let Some(found) = first_in_block(table, from.max(begin), block) {
             return Some(found);
         }
     }
@@ -66,6 +88,17 @@ fn is_bare(table: &Frame, begin: usize) -> bool
     let bytes: &[u8] = table.bytes();
     let zeros: &[u8] = &[0; 8 * BLOCK];
     &bytes[8 * begin..8 * (begin + BLOCK)] == zeros
+}
+
+/// Whether the 64 entries from an index on are all zero, and so name nothing.
+fn is_bare_stretch(table: &Frame, begin: usize) -> bool
+    requires { begin + 64 ≤ 512 }
+    ensures { IsTrue result → (k : ℕ) → begin ≤ k → k < begin + 64
+        → entry_at table.now.bytes k ≡ None }
+{
+    let bytes: &[u8] = table.bytes();
+    let zeros: &[u8] = &[0; 8 * STRETCH];
+    &bytes[8 * begin..8 * (begin + STRETCH)] == zeros
 }
 
 /// The first middle table from an index on, by its index in all and its place.

@@ -3,8 +3,8 @@ use Rattle.std.proofs.Common.{◌≡◌, ◌*◌, ◌/◌, ◌<◌, ◌≤◌, �
 use Rattle.table_levels.specs.Tables.{entry_at}
 use Rattle.table_levels.proofs.search.first_in.Given as goal
 
-abbrev pub invariant-loop-block : goal.invariant-loop-block
-invariant-loop-block l = record {
-  from : l.from / 8 ≤ l.block;
-  none : (k : ℕ) → l.from ≤ k → k < 8 * l.block → entry_at l.table.bytes k ≡ None;
+abbrev pub invariant-loop-stretch : goal.invariant-loop-stretch
+invariant-loop-stretch l = record {
+  from : l.from / 64 ≤ l.stretch;
+  none : (k : ℕ) → l.from ≤ k → k < 64 * l.stretch → entry_at l.table.bytes k ≡ None;
 }

@@ -17,11 +17,11 @@ touch_new-requires-clause-stands g c =
       (
         it.1.0,
         slot-chosen c.args.self.now it.0 it.1.0 (cell_of c.args.page) c.in-Some-slot_for.slot
-            (subst (λ q. IsSlotChosen c.args.self.now.slots.items q (Some c.in-Some-slot_for.slot)) c.cell_and_index.ensures.cell c.in-Some-slot_for.ensures),
+            (subst (λ q. IsSlotChosen c.args.self.now.slots.items q (Some c.in-Some-slot_for.slot)) c.cell_and_index.ensures.cell (c.in-Some-slot_for.ensures it.0 it.1.0)),
       ),
     ))
 
 -- src/touch.rt:38:25
 pub unreachable-requires : goal.unreachable-requires
 unreachable-requires g c = known-impossible c.requires.stands (λ it. slot-left c.args.self.now it.0 it.1.0 (cell_of c.args.page) it.1.1
-    (subst (λ q. IsSlotChosen c.args.self.now.slots.items q None) c.cell_and_index.ensures.cell c.in-None-slot_for.ensures))
+    (subst (λ q. IsSlotChosen c.args.self.now.slots.items q None) c.cell_and_index.ensures.cell (c.in-None-slot_for.ensures it.0 it.1.0)))

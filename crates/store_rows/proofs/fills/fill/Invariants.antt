@@ -1,5 +1,5 @@
 use Rattle.store_meaning.specs.Standing.{IsStanding}
-use Rattle.store_rows.proofs.stores.fill.Given as goal
+use Rattle.store_rows.proofs.fills.fill.Given as goal
 
 -- the store stands behind each put
 abbrev pub invariant-loop-place : goal.invariant-loop-place
