@@ -141,6 +141,7 @@ int main(int count, char **words)
     if (count != 4)
         return 1;
     uint32_t pairs = atol(words[1]), gets = atol(words[2]), runs = atol(words[3]), hits = 0;
+    uint64_t sum = 0, most = (uint64_t)gets * runs * 255;
     unsigned char key[KEY], value[VALUE];
     double least = 0;
     make_store(pairs);
@@ -149,13 +150,14 @@ int main(int count, char **words)
         for (uint32_t turn = 0; turn < gets; turn++) {
             make_key(turn * JUMP % pairs, key);
             hits += get(key, value) == VALUE;
+            sum += value[3];
         }
         double taken = (now() - start) / gets;
         if (run == 0 || taken < least)
             least = taken;
     }
     /* Each was there, and a byte of each value is used, so that no copy is left out. */
-    if (hits != gets * runs || value[VALUE - 1])
+    if (hits != gets * runs || sum > most)
         return 3;
     printf("%.3f\n", least);
     return 0;

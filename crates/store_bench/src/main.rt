@@ -1,0 +1,74 @@
+//! The program `store_bench`: makes the calls of standard input on a store in a kernel's pages, so
+//! that they can be timed, and prints what each line counted.
+#![tactic(auto)]
+
+ghost use Rattle.store_meaning.specs.Standing.{IsStanding};
+
+mod calls;
+mod lines;
+mod pairs;
+
+use lines::run_line;
+use std::{fmt, io};
+use store_rows::{NoStore, kernel_store};
+use vm_base::{Fault, Memory};
+
+// The frames of the machine.
+const FRAMES: u16 = 16_384;
+
+/// Why the program ends early.
+#[derive(Debug, Drop)]
+enum NoRun {
+    NoMemory,
+    NoStore(Fault),
+    /// The line, counted from 1, is no call, or one of its calls was refused.
+    Line(u64),
+    Stream(io::Error),
+}
+
+impl fmt::Display for NoRun {
+    fn fmt<W: fmt::Write>(&self, f: &mut fmt::Formatter<W>) -> fmt::Result {
+        match self {
+            NoRun::NoMemory => write!(f, "no memory"),
+            NoRun::NoStore(fault) => write!(f, "no store: {fault:?}"),
+            NoRun::Line(line) => write!(f, "line {line} makes nothing"),
+            NoRun::Stream(error) => write!(f, "a stream failed: {error}"),
+        }
+    }
+}
+
+impl From<NoStore> for NoRun {
+    fn from(error: NoStore) -> NoRun {
+        match error {
+            NoStore::NoMemory => NoRun::NoMemory,
+            NoStore::Refused(fault) => NoRun::NoStore(fault),
+        }
+    }
+}
+
+impl From<io::Error> for NoRun {
+    fn from(error: io::Error) -> NoRun {
+        NoRun::Stream(error)
+    }
+}
+
+/// Its lines are those of `lines.rt`; for each it prints the count.
+fn main(rt: HostRuntime) -> Result<(), NoRun> {
+    let mut kernel = kernel_store(rt.alloc(), FRAMES, Vec::new(rt.alloc()))?;
+    run_lines(&rt, &mut kernel)
+}
+
+// Makes the calls of all lines.
+fn run_lines<M: Memory>(rt: &(impl Input + Print + AllocGlobal), m: &mut M) -> Result<(), NoRun>
+    requires stands { IsStanding (M.state m.old) }
+{
+    let mut number = 0u64;
+    for line in rt.lines(rt.alloc()) {
+        number = number.saturating_add(1);
+        match run_line(m, line?.as_str()) {
+            None => return Err(NoRun::Line(number)),
+            Some(count) => println!(rt; "{count}")?,
+        }
+    }
+    Ok(())
+}
