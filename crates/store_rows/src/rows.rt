@@ -122,8 +122,8 @@ fn a_block_that_is_used_again_takes_no_frame(rt: HostRuntime) -> Result<(), Fail
     Ok(())
 }
 
-/// What a store tells behind 513 puts: where its array lies, how many buckets it has, what the first
-/// region's first word is, and whether it lists just the pairs that were put.
+/// What a store tells behind 513 puts: where its array lies, how many buckets it has, what the
+/// first region's first word is, and whether it lists just the pairs that were put.
 #[derive(Clone, Copy, Debug, PartialEq, Eq)]
 struct Doubled {
     array: u64,
