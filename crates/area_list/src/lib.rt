@@ -12,8 +12,6 @@ mod fault;
 mod laws;
 mod lookup;
 mod pieces;
-#[cfg(test)]
-mod tests;
 
 pub use area::Area;
 pub use areas::{Areas, MOST_AREAS};

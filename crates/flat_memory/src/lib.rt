@@ -16,8 +16,6 @@ mod process;
 mod range;
 mod side;
 mod sides;
-#[cfg(test)]
-mod tests;
 
 pub use flat::Flat;
 pub use process::FlatChild;

@@ -14,8 +14,6 @@ mod laws;
 mod one_pool;
 mod policy;
 mod snap_quota;
-#[cfg(test)]
-mod tests;
 mod turns;
 
 pub use ask::Ask;

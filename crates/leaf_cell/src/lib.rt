@@ -18,8 +18,6 @@ mod pages;
 mod protect;
 mod release;
 mod snapshot;
-#[cfg(test)]
-mod tests;
 mod touch;
 mod unshare;
 

@@ -12,8 +12,6 @@ mod outcome;
 mod page;
 mod pages;
 mod range;
-#[cfg(test)]
-mod tests;
 
 pub use event::Event;
 pub use kernel::{Kernel, MOST_FRAMES};

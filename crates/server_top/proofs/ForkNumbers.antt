@@ -72,15 +72,3 @@ last-at-most (Fork n mode) outcome.NoSnap last above = omega (arith, above)
 
 pub at-most-behind : (event : Event) (told : Outcome) (last now : ℕ) → IsAboveLast last event → now ≡ last_behind event told last → now ≤ unwrap_or (fork_number event) last
 at-most-behind event told last now above is = omega (arith, last-at-most event told last above, is)
-
--- the event is not run, and the last number stays
-pub at-most-unrun : (number : Option ℕ) (last : ℕ) → IfSome number (λ n. last < n) → last ≤ unwrap_or number last
-at-most-unrun None last above = omega arith
-at-most-unrun (Some n) last above = omega (arith, above)
-
--- an event that forks nothing meets any last number, and leaves it where it was
-pub above-unforked : (number : Option ℕ) (last : ℕ) → number ≡ None → IfSome number (λ n. last < n)
-above-unforked number last none = subst (λ o. IfSome o (λ n. last < n)) (sym none) tt
-
-pub at-most-unforked : (number : Option ℕ) (last now start : ℕ) → number ≡ None → now ≤ unwrap_or number last → last ≤ start → now ≤ start
-at-most-unforked number last now start none most below = omega (arith, subst (λ o. now ≤ unwrap_or o last) none most, below)

@@ -12,8 +12,6 @@ mod plain;
 mod replay;
 mod run;
 mod status;
-#[cfg(test)]
-mod tests;
 mod words;
 
 pub use plain::run_plain;

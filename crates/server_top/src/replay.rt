@@ -12,8 +12,6 @@ mod book;
 mod pairs;
 mod save;
 mod serve;
-#[cfg(test)]
-mod tests;
 
 use crate::replay::book::{Book, Snapshot};
 use crate::replay::save::{report_line, save};

@@ -20,8 +20,6 @@ mod process;
 mod snapshots;
 mod step;
 mod supply;
-#[cfg(test)]
-mod tests;
 mod writing;
 
 pub use kernel::{Kernel, Noting};

@@ -3,8 +3,9 @@ use Rattle.std.specs.Prelude.{IsTrue}
 use Rattle.kernel_meaning.specs.Leaves.{holds_number}
 use Rattle.trace_core.specs.KernelStanding.{number_among}
 use Rattle.trace_core.specs.Housed.{lives_numbered}
-use Rattle.trace_core.proofs.tests.told_and_reaped.Goals as goal
+use Rattle.kernel_rows.proofs.kernels.told_and_reaped.Goals as goal
 
 pub read_child-read-requires-clause-lives : goal.read_child-read-requires-clause-lives
 read_child-read-requires-clause-lives g c =
-    subst (λ beside. IsTrue (holds_number (number_among beside.beside.snapshot) beside.number)) (sym c.child_copy-copied.ensures.beside) c.requires.lives
+    subst (λ beside. IsTrue (holds_number (number_among beside.beside.snapshot) beside.number))
+    (sym c.child_copy-copied.ensures.beside) c.requires.lives

@@ -1,48 +1,9 @@
 //! A cell over an allot that counts.
-ghost use Rattle.std.specs.Prelude.{⊤, ℕ};
-
-use crate::{Cell, LeafState};
+use crate::supply::Supply;
+use leaf_cell::{Cell, LeafState};
 use std::alloc::Global;
 use std::test::Fail;
-use vm_base::{Allot, Frame, Lost, Mode, NoMemory, Perm, Refused, Want};
-
-/// So many frames.
-#[derive(Drop)]
-struct Supply {
-    alloc: Global,
-    left: u32,
-    out: u64,
-    refused: u64,
-}
-
-impl Allot for Supply {
-    ghost State = { ℕ × ℕ };
-
-    ghost state = { λ s. (s.refused, s.out) };
-
-    ghost refused = { λ s. s.0 };
-
-    ghost out = { λ s. s.1 };
-
-    ghost goes = { λ old deal new. ⊤ };
-
-    fn take(&mut self, _want: Want) -> Result<Frame, Refused> {
-        if self.left > 0 && self.out < 1000 {
-            if let Ok(frame) = Frame::new(self.alloc, self.left) {
-                self.left -= 1;
-                self.out += 1;
-                return Ok(frame);
-            }
-        }
-        self.refused = self.refused.saturating_add(1);
-        Err(Refused { at: self.refused })
-    }
-
-    fn give(&mut self, _frame: Frame) {
-        self.left = self.left.saturating_add(1);
-        self.out -= 1;
-    }
-}
+use vm_base::{Allot, Lost, Mode, NoMemory, Perm, Want};
 
 #[test]
 fn a_new_cell_holds_nothing(rt: HostRuntime) -> Result<(), Fail> {
@@ -72,12 +33,7 @@ struct Trial {
 }
 
 fn write_around_a_fork(alloc: Global, left: u32) -> Result<Option<Trial>, NoMemory> {
-    let mut supply = Supply {
-        alloc,
-        left,
-        out: 0,
-        refused: 0,
-    };
+    let mut supply = Supply::new(alloc, left);
     let mut cell = Cell::new(alloc)?;
     let Ok(()) = cell.touch(0, &mut supply) else {
         return Ok(None);
@@ -158,12 +114,7 @@ struct Course {
 }
 
 fn lose_a_lazy_leaf(alloc: Global) -> Result<Option<Course>, NoMemory> {
-    let mut supply = Supply {
-        alloc,
-        left: 3,
-        out: 0,
-        refused: 0,
-    };
+    let mut supply = Supply::new(alloc, 3);
     let mut cell = Cell::new(alloc)?;
     let Ok(()) = cell.touch(3, &mut supply) else {
         return Ok(None);

@@ -1,6 +1,6 @@
 //! Sessions through the top call, over a source, a sink and a folder in memory.
-use crate::{Status, run_plain};
 use io_face::{Folder, MemFolder, MemSink, MemSource, Source};
+use server_top::{Status, run_plain};
 use std::alloc::Global;
 use std::test::Fail;
 use vm_base::{Bytes, NoMemory};

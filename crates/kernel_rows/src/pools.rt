@@ -1,7 +1,7 @@
 //! The pool and its policies at concrete values.
 ghost use Rattle.std.specs.Prelude.{◌&&◌, nat_lt, false, None, slice_index_or};
 
-use crate::{Ask, DenyNth, FramePolicy, Pool, SnapQuota, Why};
+use frame_pool::{Ask, DenyNth, FramePolicy, Pool, SnapQuota, Why};
 use std::test::Fail;
 use vm_base::{Asker, Frame, Want};
 
@@ -84,7 +84,8 @@ impl FramePolicy for Expects {
       left = None;
       spares = false;
       done = false;
-      answers = λ ask. nat_lt p.at 2 && ⟦<Ask as PartialEq>⟧.eq (slice_index_or p.asks p.at ask) ask;
+      answers = λ ask. nat_lt p.at 2
+          && ⟦<Ask as PartialEq>⟧.eq (slice_index_or p.asks p.at ask) ask;
     } };
 
     fn grant(&mut self, ask: Ask) -> bool {

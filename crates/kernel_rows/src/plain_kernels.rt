@@ -1,5 +1,5 @@
 //! Events that no script of the program has.
-use crate::{Event, Kernel, MOST_FRAMES, Outcome};
+use plain_kernel::{Event, Kernel, MOST_FRAMES, Outcome};
 use std::test::Fail;
 use vm_base::{Bytes, Perm};
 

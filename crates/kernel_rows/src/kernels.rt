@@ -3,10 +3,10 @@ ghost use Rattle.std.specs.Prelude.{IsTrue};
 ghost use Rattle.kernel_meaning.specs.Leaves.{holds_number};
 ghost use Rattle.trace_core.specs.KernelStanding.{kept_number};
 
-use crate::{Kernel, SoloChild, Supply};
 use frame_pool::{DenyNth, FramePolicy, SnapQuota};
 use memory_uses::{fork_and_write, read_child, reap_one, write_at};
 use std::test::Fail;
+use trace_core::{Kernel, SoloChild, Supply};
 use vm_base::{
     Allot, Asker, CopyFault, Fault, ForkFault, Frame, Memory, Mode, Nest, Perm, Process, Refused,
     SnapFault, Step, Want,

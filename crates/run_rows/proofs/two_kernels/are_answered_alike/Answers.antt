@@ -1,7 +1,7 @@
 -- An access is served in any world, and leaves the plain kernel's snapshots.
 use Rattle.std.proofs.Common.{refl, ◌∙◌, ap, arith}
-use Rattle.server_top.proofs.ForkNumbers.{above-unforked, at-most-unforked}
-use Rattle.server_top.proofs.tests.two_kernels.are_answered_alike.Goals as goal
+use Rattle.run_rows.proofs.UnforkedNumbers.{above-unforked, at-most-unforked}
+use Rattle.run_rows.proofs.two_kernels.are_answered_alike.Goals as goal
 
 pub loop-init : goal.loop-init
 loop-init g c = record { snapshots = refl; last = refl; given = omega arith }

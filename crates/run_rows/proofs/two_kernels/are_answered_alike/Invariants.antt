@@ -1,6 +1,6 @@
 -- The accesses so far left the plain kernel's snapshots, and gave no number.
 use Rattle.std.proofs.Common.{◌≡◌, ◌≤◌}
-use Rattle.server_top.proofs.tests.two_kernels.are_answered_alike.Given as goal
+use Rattle.run_rows.proofs.two_kernels.are_answered_alike.Given as goal
 
 abbrev pub invariant-loop : goal.invariant-loop
 invariant-loop g l = record {

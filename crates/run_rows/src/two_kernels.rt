@@ -137,8 +137,10 @@ fn are_answered_alike(
     framed: &mut Kernel,
     seed: u64,
 ) -> Result<bool, NoMemory>
-    ensures kept { OnOk result ((plain.new.snapshots ≡ plain.old.snapshots) × (plain.new.last ≡ plain.old.last)) }
-    ensures last { OnOk result ((⟦<Kernel as Standing>⟧.parts framed.new).last ≤ (⟦<Kernel as Standing>⟧.parts framed.old).last) }
+    ensures kept { OnOk result ((plain.new.snapshots ≡ plain.old.snapshots)
+        × (plain.new.last ≡ plain.old.last)) }
+    ensures last { OnOk result ((⟦<Kernel as Standing>⟧.parts framed.new).last
+        ≤ (⟦<Kernel as Standing>⟧.parts framed.old).last) }
 {
     let mut seed = seed;
     let mut alike = true;

@@ -3,7 +3,7 @@
 ghost use Rattle.std.specs.Prelude.{IsTrue};
 ghost use Rattle.flat_memory.specs.FlatSeen.{is_child};
 
-use crate::{Flat, FlatChild};
+use flat_memory::{Flat, FlatChild};
 use memory_uses::{
     begin, copy_child, double, fork_and_write, map_and_protect, read_child, reap_one, write_at,
     write_both,

@@ -1,5 +1,5 @@
 //! Lists of areas at their limit, and what each call leaves.
-use super::*;
+use area_list::{Area, AreaFault, Areas, MOST_AREAS};
 use std::test::Fail;
 use vm_base::Perm;
 

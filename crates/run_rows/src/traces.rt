@@ -1,11 +1,8 @@
 //! Whole runs through the top call, over a source and a sink in memory.
-mod rows;
-mod two_kernels;
-
-use crate::{Status, run_plain};
+use crate::rows::{FAULTY_TEXTS, ROWS};
 use frame_pool::{DenyNth, FramePolicy};
 use io_face::{MemFolder, MemSink, MemSource};
-use rows::{FAULTY_TEXTS, ROWS};
+use server_top::{Status, run_plain};
 use std::alloc::Global;
 use std::test::Fail;
 use vm_base::{Bytes, NoMemory};

@@ -1,8 +1,8 @@
 -- No fork was made before the one that comes.
 use Rattle.std.proofs.Common.{refl, arith}
 use Rattle.vm_base.specs.declared.permission.Perm.TheVariants.{ReadWrite}
-use Rattle.server_top.proofs.PlainForks.{forks_behind}
-use Rattle.server_top.proofs.tests.two_kernels.print_the_same.Goals as goal
+use Rattle.run_rows.proofs.PlainForks.{forks_behind}
+use Rattle.run_rows.proofs.two_kernels.print_the_same.Goals as goal
 
 pub is_answered_alike-requires-2 : goal.is_answered_alike-requires-2
 is_answered_alike-requires-2 c =

@@ -1,0 +1,2 @@
+pub mod PlainForks
+pub mod UnforkedNumbers
