@@ -16,12 +16,20 @@ pub fn run_line<M: Memory>(m: &mut M, line: &str) -> Option<u64>
     let count = digits.parse::<u32>().ok()?;
     let pairs = u32::try_from(len(m)).ok()?;
     match name {
-        "read" => return read_words(m, count),
-        "get" => return get_pairs(m, pairs, count),
-        "again" => put_again(m, pairs, count).ok()?,
-        "add" => add_pairs(m, pairs, count).ok()?,
-        "clear" => clear(m),
-        _ => return None,
+        "read" => read_words(m, count),
+        "get" => get_pairs(m, pairs, count),
+        "again" => {
+            put_again(m, pairs, count).ok()?;
+            Some(len(m))
+        }
+        "add" => {
+            add_pairs(m, pairs, count).ok()?;
+            Some(len(m))
+        }
+        "clear" => {
+            clear(m);
+            Some(len(m))
+        }
+        _ => None,
     }
-    Some(len(m))
 }

@@ -60,9 +60,7 @@ pub fn has_more(before: &PairList, behind: &PairList, key: &[u8], value: &[u8]) 
             has_key = behind.value(place) == value;
             continue;
         }
-        while others < before.len() && before.key(others) == key {
-            others += 1;
-        }
+        others = behind_key(before, others, key);
         if others >= before.len()
             || before.key(others) != behind.key(place)
             || before.value(others) != behind.value(place)
@@ -71,8 +69,14 @@ pub fn has_more(before: &PairList, behind: &PairList, key: &[u8], value: &[u8]) 
         }
         others += 1;
     }
-    while others < before.len() && before.key(others) == key {
-        others += 1;
+    has_key && behind_key(before, others, key) == before.len()
+}
+
+// The place itself, or the next one where the pair there has this key.
+fn behind_key(list: &PairList, place: usize, key: &[u8]) -> usize {
+    if place < list.len() && list.key(place) == key {
+        place + 1
+    } else {
+        place
     }
-    has_key && others == before.len()
 }
