@@ -10,11 +10,12 @@ mod pairs;
 
 use lines::run_line;
 use std::{fmt, io};
-use store_rows::{NoStore, kernel_store};
-use vm_base::{Fault, Memory};
+use store_rows::{STORE_CELLS, store_in};
+use trace_core::Kernel;
+use vm_base::{Fault, Memory, NoMemory};
 
 // The frames of the machine.
-const FRAMES: u16 = 16_384;
+const FRAMES: u32 = 16_384;
 
 /// Why the program ends early.
 #[derive(Debug, Drop)]
@@ -37,12 +38,15 @@ impl fmt::Display for NoRun {
     }
 }
 
-impl From<NoStore> for NoRun {
-    fn from(error: NoStore) -> NoRun {
-        match error {
-            NoStore::NoMemory => NoRun::NoMemory,
-            NoStore::Refused(fault) => NoRun::NoStore(fault),
-        }
+impl From<NoMemory> for NoRun {
+    fn from(_refused: NoMemory) -> NoRun {
+        NoRun::NoMemory
+    }
+}
+
+impl From<Fault> for NoRun {
+    fn from(fault: Fault) -> NoRun {
+        NoRun::NoStore(fault)
     }
 }
 
@@ -54,8 +58,9 @@ impl From<io::Error> for NoRun {
 
 /// Its lines are those of `lines.rt`; for each it prints the count.
 fn main(rt: HostRuntime) -> Result<(), NoRun> {
-    let mut kernel = kernel_store(rt.alloc(), FRAMES, Vec::new(rt.alloc()))?;
-    run_lines(&rt, &mut kernel)
+    let kernel = Kernel::new(rt.alloc(), FRAMES, STORE_CELLS, 0, Vec::new(rt.alloc()))?;
+    let mut store = store_in(kernel)?;
+    run_lines(&rt, &mut store)
 }
 
 // Makes the calls of all lines.

@@ -1,2 +1,2 @@
-mod Openings
+pub mod Openings
 mod WantedMemory

@@ -1,7 +1,7 @@
 //! Stores in pages that have begun, what is looked at in them, and tests of the store in pages.
 //!
-//! [`kernel_store`] is a store in the pages of a new kernel, [`flat_store`] one in a flat memory,
-//! and [`list_of`] lists the pairs of either. README.md says what the tests are of.
+//! [`store_in`] begins a store in any new memory, [`flat_store`] in a flat one, and [`list_of`] lists
+//! the pairs of a store. README.md says what the tests are of.
 #![tactic(auto)]
 
 #[cfg(test)]
@@ -10,6 +10,8 @@ mod counts;
 mod dice;
 #[cfg(test)]
 mod fills;
+#[cfg(test)]
+mod kernels;
 mod looks;
 mod opened;
 #[cfg(test)]
@@ -20,4 +22,4 @@ mod rows;
 mod sequences;
 
 pub use looks::{list_of, word_at};
-pub use opened::{NoStore, STORE_CELLS, flat_store, kernel_store};
+pub use opened::{NoStore, STORE_CELLS, flat_store, store_in};

@@ -3,7 +3,8 @@ ghost use Rattle.std.specs.Prelude.{◌≤◌, IfOk, length};
 ghost use Rattle.store_meaning.specs.Standing.{IsStanding};
 
 use crate::fills::{are_same, has_more, has_pairs, pair_of};
-use crate::{kernel_store, list_of, word_at};
+use crate::kernels::kernel_store;
+use crate::{list_of, word_at};
 use frame_pool::{DenyNth, FramePolicy};
 use page_hash::{get, put};
 use std::alloc::Global;
@@ -23,7 +24,7 @@ fn refusing(alloc: Global, nth: u64) -> Result<Kernel, Fail>
 {
     let mut policies: Vec<Box<dyn FramePolicy + Send>> = Vec::new(alloc);
     policies.push(Box::new(alloc, DenyNth::new(OPENING + nth))?)?;
-    Ok(kernel_store(alloc, 256, policies)?)
+    kernel_store(alloc, 256, policies)
 }
 
 /// What became of a put.

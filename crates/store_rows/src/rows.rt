@@ -2,7 +2,8 @@
 ghost use Rattle.store_meaning.specs.Standing.{IsStanding};
 
 use crate::fills::{fill, has_pairs};
-use crate::{flat_store, kernel_store, list_of, word_at};
+use crate::kernels::kernel_store;
+use crate::{flat_store, list_of, word_at};
 use flat_memory::Flat;
 use page_hash::{put, remove};
 use std::alloc::Global;

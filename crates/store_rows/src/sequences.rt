@@ -3,7 +3,8 @@ ghost use Rattle.std.specs.Prelude.{◌<◌, ◌≤◌, length};
 ghost use Rattle.store_meaning.specs.Standing.{IsStanding};
 
 use crate::dice::{Dice, TEXT, key_of};
-use crate::{flat_store, kernel_store, list_of};
+use crate::kernels::kernel_store;
+use crate::{flat_store, list_of};
 use frame_pool::{DenyNth, FramePolicy};
 use page_hash::{clear, get, len, put, remove};
 use std::alloc::Global;
