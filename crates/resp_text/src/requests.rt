@@ -211,12 +211,13 @@ impl Model for Requests {
 }
 
 impl Requests {
-    ghost use Rattle.resp_text.specs.Reading.{unfed_reading, StandsForBytes, FeedsOn};
+    ghost use Rattle.resp_text.specs.Reading.{unfed_reading, StandsForBytes, FeedsOn, WasFed, FeedsBehind};
 
     /// A reader that was fed nothing. It takes no memory yet.
     pub fn new(alloc: Global) -> Self
         ensures nothing { result ≡ unfed_reading }
         ensures stands { StandsForBytes result [] [] }
+        ensures unfed { WasFed result [] [] }
     {
         Requests {
             alloc,
@@ -238,6 +239,10 @@ impl Requests {
             FeedsOn self.old self.new (taken ++ piece.now) given result }
         ensures broken { IfSome self.old.fault (λ fault.
             (result ≡ Err fault) × (self.new ≡ self.old)) }
+        // Both at once, so that a caller's loop keeps one fact, whatever the pieces.
+        ensures pieces { (fed : List ℕ) (given : List (List (List ℕ))) →
+            WasFed self.old fed given →
+            FeedsBehind self.old self.new fed piece.now given result }
         ensures no_memory { IsErrOf result FeedFault.NoMemory → self.old.fault ≡ None →
             self.new ≡ self.old }
         ensures count { self.new.before + length self.new.rest
@@ -277,6 +282,8 @@ impl Requests {
         ensures given { (taken : List ℕ) (given : List (List (List ℕ))) →
             StandsForBytes self.old taken given →
             StandsForBytes self.new taken (given ++ option_to_list result) }
+        ensures pieces { (fed : List ℕ) (given : List (List (List ℕ))) →
+            WasFed self.old fed given → WasFed self.new fed (given ++ option_to_list result) }
     {
         self.waiting.pop_front()
     }
