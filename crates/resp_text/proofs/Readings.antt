@@ -194,11 +194,27 @@ feeds_on old new fed piece given (Err (Protocol place kind)) h = (
   ap answer_of (sym h.2),
 )
 
--- a request is given
+-- the first request that waits is given
+next_stands : (old new : Reading) (taken : List ℕ) (given more : List (List (List ℕ))) →
+    old.waiting ≡ more ++ new.waiting → old.rest ≡ new.rest → old.before ≡ new.before →
+    StandsForBytes old taken given → StandsForBytes new taken (given ++ more)
+next_stands old new taken given more waiting rest before s = record {
+  whole = s.whole;
+  is = s.is ∙ ap (λ (t : List ℕ). s.whole ++ t) rest;
+  stream = subst (IsStream s.whole) (ap (λ (rs : List (List (List ℕ))). given ++ rs) waiting
+      ∙ sym (append_assoc given more new.waiting)) s.stream;
+  before = sym before ∙ s.before;
+  unfinished = subst IsUnfinished rest s.unfinished;
+}
+
 pub gives : (fault : Option FeedFault) (old new : Reading) (fed : List ℕ)
-    (given more : List (List (List ℕ))) →
-    ((taken : List ℕ) → StandsForBytes old taken given → StandsForBytes new taken (given ++ more)) →
-    HasTaken fault old fed given → HasTaken fault new fed (given ++ more)
-gives None old new fed given more moves h = moves fed h
-gives (Some NoMemory) old new fed given more moves h = h
-gives (Some (Protocol place kind)) old new fed given more moves h = (h.0, moves (take place fed) h.1)
+    (given more : List (List (List ℕ))) → old.waiting ≡ more ++ new.waiting →
+    old.rest ≡ new.rest → old.before ≡ new.before → HasTaken fault old fed given →
+    HasTaken fault new fed (given ++ more)
+gives None old new fed given more waiting rest before h = next_stands old new fed given more
+    waiting rest before h
+gives (Some NoMemory) old new fed given more waiting rest before h = h
+gives (Some (Protocol place kind)) old new fed given more waiting rest before h = (
+  h.0,
+  next_stands old new (take place fed) given more waiting rest before h.1,
+)

@@ -14,3 +14,6 @@ returns-clause-stands c = record {
     (None, inl refl),
   );
 }
+
+pub returns-clause-unfed : goal.returns-clause-unfed
+returns-clause-unfed c = returns-clause-stands c
