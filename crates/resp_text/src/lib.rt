@@ -7,7 +7,9 @@
 #![tactic(auto)]
 
 mod fault;
+mod front;
 mod laws;
+mod queue;
 mod reply;
 mod request;
 mod requests;

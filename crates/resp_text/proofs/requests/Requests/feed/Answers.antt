@@ -10,14 +10,14 @@ pub returns-in-None-clause-fed : goal.returns-in-None-clause-fed
 returns-in-None-clause-fed c taken given sound stands =
     let inside = c.self.inside in
     let old : Reading = record {
-      waiting = inside.waiting.items;
+      waiting = inside.queue;
       rest = inside.rest.items;
       before =
           inside.before;
       fault = inside.fault;
     } in
     let new : Reading = record {
-      waiting = c.read_piece.new.waiting.items;
+      waiting = c.read_piece.new.queue;
       rest =
           c.read_piece.new.rest.items;
       before = inside.before + c.in-Ok.reached.whole;
@@ -40,14 +40,14 @@ returns-in-Some-kind-clause-fed c taken given sound stands =
     let inside = c.self.inside in
     let place = inside.before + c.in-Ok.reached.end in
     let old : Reading = record {
-      waiting = inside.waiting.items;
+      waiting = inside.queue;
       rest = inside.rest.items;
       before =
           inside.before;
       fault = inside.fault;
     } in
     let new : Reading = record {
-      waiting = c.read_piece.new.waiting.items;
+      waiting = c.read_piece.new.queue;
       rest =
           c.read_piece.new.rest.items;
       before = inside.before + c.in-Ok.reached.whole;
@@ -78,7 +78,7 @@ returns-in-None-clause-pieces c fed given was =
     let none : c.args.self.now.fault ≡ None =
     sym (ap (λ (r : Reading). r.fault) c.self.view_is) ∙ c.in_default.is in
     let new : Reading = record {
-      waiting = c.read_piece.new.waiting.items;
+      waiting = c.read_piece.new.queue;
       rest = c.read_piece.new.rest.items;
       before = c.self.inside.before + c.in-Ok.reached.whole;
       fault = c.self.inside.fault;
@@ -94,7 +94,7 @@ returns-in-Some-kind-clause-pieces c fed given was =
     let fault : FeedFault = Protocol (c.self.inside.before + c.in-Ok.reached.end)
     c.in-Some-kind.kind in
     let new : Reading = record {
-      waiting = c.read_piece.new.waiting.items;
+      waiting = c.read_piece.new.queue;
       rest = c.read_piece.new.rest.items;
       before = c.self.inside.before + c.in-Ok.reached.whole;
       fault = Some fault;

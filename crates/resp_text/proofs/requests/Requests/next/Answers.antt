@@ -7,17 +7,17 @@ pub returns-clause-pieces : goal.returns-clause-pieces
 returns-clause-pieces c fed given was =
     let inside = c.self.inside in
     let old : Reading = record {
-      waiting = inside.waiting.items;
+      waiting = inside.queue;
       rest = inside.rest.items;
       before = inside.before;
       fault = inside.fault;
     } in
     let new : Reading = record {
-      waiting = c.pop_front.new.self.items;
+      waiting = c.pop.new.self;
       rest = inside.rest.items;
       before = inside.before;
       fault = inside.fault;
     } in
-    gives inside.fault old new fed given (option_to_list c.pop_front.result)
-    c.pop_front.ensures.items refl refl
+    gives inside.fault old new fed given (option_to_list c.pop.result)
+    c.pop.ensures.first refl refl
     (subst (λ (r : Reading). WasFed r fed given) (sym c.self.view_is) was)
