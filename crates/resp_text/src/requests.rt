@@ -36,7 +36,8 @@ fn push_item(alloc: Global, queue: &mut Queue, text: &[u8]) -> Result<(), NoMemo
         return Ok(());
     }
     let request = request_of(alloc, text)?;
-    queue.push(request)
+    queue.push(request)?;
+    Ok(())
 }
 
 /// Reads items, of which the first begins with the first byte.

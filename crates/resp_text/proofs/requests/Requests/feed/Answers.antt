@@ -1,5 +1,5 @@
 use Rattle.std.proofs.Common.{◌+◌, refl, sym, ap, subst, ◌∙◌, None, Some, Option, Ok, Err, ◌≡◌}
-use Rattle.resp_text.specs.Reading.{Reading, StandsForBytes, HasTaken, WasFed}
+use Rattle.resp_text.specs.Reading.{Reading, StandsForBytes, HasTaken}
 use Rattle.resp_text.specs.declared.fault.FeedFault.{FeedFault}
 use Rattle.resp_text.specs.declared.fault.FeedFault.TheVariants.{Protocol}
 use Rattle.resp_text.proofs.Feeds.{Follows, stands_for, stands_for_all, breaks_at}

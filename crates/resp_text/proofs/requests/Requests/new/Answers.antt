@@ -6,7 +6,7 @@ pub returns-clause-stands : goal.returns-clause-stands
 returns-clause-stands c = record {
   whole = [];
   is = sym c.new-2.ensures.items;
-  stream = ([], refl, c.new.ensures.items);
+  stream = ([], refl, c.new.ensures);
   before = refl;
   unfinished = subst IsUnfinished (sym c.new-2.ensures.items) (
     42,
