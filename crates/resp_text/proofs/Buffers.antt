@@ -2,92 +2,92 @@
 use Rattle.std.proofs.Common.{◌≡◌, ℕ, ◌-◌, ◌<◌, ◌≤◌, zero, suc, List, [], ◌∷◌, ◌++◌, length, get_or, take, drop, refl, sym, ap, subst, ◌∙◌, arith, length-append}
 use Rattle.std.proofs.lemmas.List.{take_all, drop_at, drop-append-le, take-append-le, take-append-drop, length-drop, length-take-le}
 use Rattle.resp_text.specs.Words.{bytes_at, words_at, AreWithin}
-use Rattle.resp_text.specs.declared.request.Place.{Place}
+use Rattle.resp_text.specs.declared.request.Span.{Span}
 
 -- there are as many words as places
-pub length-words_at : (bytes : List ℕ) (places : List Place) →
-    length (words_at bytes places) ≡ length places
+pub length-words_at : (bytes : List ℕ) (spans : List Span) →
+    length (words_at bytes spans) ≡ length spans
 length-words_at bytes [] = refl
-length-words_at bytes (place ∷ places) = ap suc (length-words_at bytes places)
+length-words_at bytes (span ∷ spans) = ap suc (length-words_at bytes spans)
 
 -- places within fewer bytes are within more
-pub AreWithin-le : (places : List Place) (n m : ℕ) → n ≤ m → AreWithin places n → AreWithin places m
+pub AreWithin-le : (spans : List Span) (n m : ℕ) → n ≤ m → AreWithin spans n → AreWithin spans m
 AreWithin-le [] n m more h = tt
-AreWithin-le (place ∷ places) n m more h = (
+AreWithin-le (span ∷ spans) n m more h = (
   h.0,
   omega (arith, h.1, more),
-  AreWithin-le places n m more h.2,
+  AreWithin-le spans n m more h.2,
 )
 
 -- one more place
-pub AreWithin-push : (places : List Place) (place : Place) (n : ℕ) → place.start ≤ place.end →
-    place.end ≤ n → AreWithin places n → AreWithin (places ++ place ∷ []) n
-AreWithin-push [] place n order within h = (order, within, tt)
-AreWithin-push (first ∷ places) place n order within h = (
+pub AreWithin-push : (spans : List Span) (span : Span) (n : ℕ) → span.start ≤ span.end →
+    span.end ≤ n → AreWithin spans n → AreWithin (spans ++ span ∷ []) n
+AreWithin-push [] span n order within h = (order, within, tt)
+AreWithin-push (first ∷ spans) span n order within h = (
   h.0,
   h.1,
-  AreWithin-push places place n order within h.2,
+  AreWithin-push spans span n order within h.2,
 )
 
 -- a word's place is within
-pub AreWithin-at : (places : List Place) (n i : ℕ) (d : Place) → i < length places →
-    AreWithin places n → ((get_or places i d).start ≤ (get_or places i d).end)
-    × ((get_or places i d).end ≤ n)
+pub AreWithin-at : (spans : List Span) (n i : ℕ) (d : Span) → i < length spans →
+    AreWithin spans n → ((get_or spans i d).start ≤ (get_or spans i d).end)
+    × ((get_or spans i d).end ≤ n)
 AreWithin-at [] n i d lt h = absurd (omega (arith, lt))
-AreWithin-at (place ∷ places) n zero d lt h = (h.0, h.1)
-AreWithin-at (place ∷ places) n (suc i) d lt h = AreWithin-at places n i d (omega (arith, lt)) h.2
+AreWithin-at (span ∷ spans) n zero d lt h = (h.0, h.1)
+AreWithin-at (span ∷ spans) n (suc i) d lt h = AreWithin-at spans n i d (omega (arith, lt)) h.2
 
 -- bytes behind a buffer change no word of it
-bytes_at-append : (bytes more : List ℕ) (place : Place) → place.start ≤ place.end →
-    place.end ≤ length bytes → bytes_at (bytes ++ more) place ≡ bytes_at bytes place
-bytes_at-append bytes more place order within =
-    ap (take (place.end - place.start)) (drop-append-le place.start bytes more (omega
+bytes_at-append : (bytes more : List ℕ) (span : Span) → span.start ≤ span.end →
+    span.end ≤ length bytes → bytes_at (bytes ++ more) span ≡ bytes_at bytes span
+bytes_at-append bytes more span order within =
+    ap (take (span.end - span.start)) (drop-append-le span.start bytes more (omega
     (arith, order, within)))
-    ∙ take-append-le (place.end - place.start) (drop place.start bytes) more (omega
-    (arith, length-drop place.start bytes, order, within))
+    ∙ take-append-le (span.end - span.start) (drop span.start bytes) more (omega
+    (arith, length-drop span.start bytes, order, within))
 
-pub words_at-append : (bytes more : List ℕ) (places : List Place) →
-    AreWithin places (length bytes) → words_at (bytes ++ more) places ≡ words_at bytes places
+pub words_at-append : (bytes more : List ℕ) (spans : List Span) →
+    AreWithin spans (length bytes) → words_at (bytes ++ more) spans ≡ words_at bytes spans
 words_at-append bytes more [] h = refl
-words_at-append bytes more (place ∷ places) h =
-    ap (λ (w : List ℕ). w ∷ words_at (bytes ++ more) places) (bytes_at-append bytes more place h.0
-    h.1) ∙ ap (λ (ws : List (List ℕ)). bytes_at bytes place ∷ ws)
-    (words_at-append bytes more places h.2)
+words_at-append bytes more (span ∷ spans) h =
+    ap (λ (w : List ℕ). w ∷ words_at (bytes ++ more) spans) (bytes_at-append bytes more span h.0
+    h.1) ∙ ap (λ (ws : List (List ℕ)). bytes_at bytes span ∷ ws)
+    (words_at-append bytes more spans h.2)
 
 -- the words lie in the front that has all the places
-pub words_at-take : (bytes : List ℕ) (places : List Place) (n : ℕ) → n ≤ length bytes →
-    AreWithin places n → words_at (take n bytes) places ≡ words_at bytes places
-words_at-take bytes places n fits h =
+pub words_at-take : (bytes : List ℕ) (spans : List Span) (n : ℕ) → n ≤ length bytes →
+    AreWithin spans n → words_at (take n bytes) spans ≡ words_at bytes spans
+words_at-take bytes spans n fits h =
     let len : length (take n bytes) ≡ n = length-take-le n bytes fits in
-    sym (words_at-append (take n bytes) (drop n bytes) places (subst (AreWithin places) (sym len) h))
-    ∙ ap (λ (bs : List ℕ). words_at bs places) (take-append-drop n bytes)
+    sym (words_at-append (take n bytes) (drop n bytes) spans (subst (AreWithin spans) (sym len) h))
+    ∙ ap (λ (bs : List ℕ). words_at bs spans) (take-append-drop n bytes)
 
 -- the word of one more place
-pub words_at-push : (bytes : List ℕ) (places : List Place) (place : Place) →
-    words_at bytes (places ++ place ∷ []) ≡ words_at bytes places ++ bytes_at bytes place ∷ []
-words_at-push bytes [] place = refl
-words_at-push bytes (first ∷ places) place = ap (λ (ws : List (List ℕ)). bytes_at bytes first ∷ ws)
-    (words_at-push bytes places place)
+pub words_at-push : (bytes : List ℕ) (spans : List Span) (span : Span) →
+    words_at bytes (spans ++ span ∷ []) ≡ words_at bytes spans ++ bytes_at bytes span ∷ []
+words_at-push bytes [] span = refl
+words_at-push bytes (first ∷ spans) span = ap (λ (ws : List (List ℕ)). bytes_at bytes first ∷ ws)
+    (words_at-push bytes spans span)
 
 -- the word that was put behind a buffer
-pub words_at-add : (bytes word : List ℕ) (places : List Place) (place : Place) →
-    place.start ≡ length bytes → place.end ≡ length (bytes ++ word) →
-    AreWithin places (length bytes) →
-    words_at (bytes ++ word) (places ++ place ∷ []) ≡ words_at bytes places ++ word ∷ []
-words_at-add bytes word places place start end h =
-    let behind : drop place.start (bytes ++ word) ≡ word = drop_at bytes word place.start (sym start) in
-    let enough : length word ≤ place.end - place.start = omega
+pub words_at-add : (bytes word : List ℕ) (spans : List Span) (span : Span) →
+    span.start ≡ length bytes → span.end ≡ length (bytes ++ word) →
+    AreWithin spans (length bytes) →
+    words_at (bytes ++ word) (spans ++ span ∷ []) ≡ words_at bytes spans ++ word ∷ []
+words_at-add bytes word spans span start end h =
+    let behind : drop span.start (bytes ++ word) ≡ word = drop_at bytes word span.start (sym start) in
+    let enough : length word ≤ span.end - span.start = omega
     (arith, start, end, length-append bytes word) in
-    words_at-push (bytes ++ word) places place
-    ∙ ap (λ (ws : List (List ℕ)). ws ++ bytes_at (bytes ++ word) place ∷ []) (words_at-append bytes
-    word places h)
-    ∙ ap (λ (w : List ℕ). words_at bytes places ++ w ∷ []) (ap (take (place.end - place.start)) behind
-    ∙ take_all (place.end - place.start) word enough)
+    words_at-push (bytes ++ word) spans span
+    ∙ ap (λ (ws : List (List ℕ)). ws ++ bytes_at (bytes ++ word) span ∷ []) (words_at-append bytes
+    word spans h)
+    ∙ ap (λ (w : List ℕ). words_at bytes spans ++ w ∷ []) (ap (take (span.end - span.start)) behind
+    ∙ take_all (span.end - span.start) word enough)
 
 -- the word at a place
-pub get_or-words_at : (bytes : List ℕ) (places : List Place) (i : ℕ) (d : Place) →
-    i < length places → get_or (words_at bytes places) i [] ≡ bytes_at bytes (get_or places i d)
+pub get_or-words_at : (bytes : List ℕ) (spans : List Span) (i : ℕ) (d : Span) →
+    i < length spans → get_or (words_at bytes spans) i [] ≡ bytes_at bytes (get_or spans i d)
 get_or-words_at bytes [] i d lt = absurd (omega (arith, lt))
-get_or-words_at bytes (place ∷ places) zero d lt = refl
-get_or-words_at bytes (place ∷ places) (suc i) d lt = get_or-words_at bytes places i d (omega
+get_or-words_at bytes (span ∷ spans) zero d lt = refl
+get_or-words_at bytes (span ∷ spans) (suc i) d lt = get_or-words_at bytes spans i d (omega
     (arith, lt))

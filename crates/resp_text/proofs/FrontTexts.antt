@@ -8,7 +8,7 @@ use Rattle.resp_text.specs.Residual.{digit_behind}
 use Rattle.resp_text.specs.Words.{bytes_at, words_at, AreWithin}
 use Rattle.resp_text.specs.Fronts.{HasFrontLine, HasFrontWord, HasFrontRequest}
 use Rattle.resp_text.specs.declared.front.Line.{Line}
-use Rattle.resp_text.specs.declared.request.Place.{Place}
+use Rattle.resp_text.specs.declared.request.Span.{Span}
 use Rattle.resp_text.proofs.Steps.{GivesDigit, on_digit}
 use Rattle.resp_text.proofs.Histories.{DigitsGoOn-more, words_more}
 use Rattle.resp_text.proofs.Buffers.{length-words_at, AreWithin-le, AreWithin-push, words_at-push}
@@ -130,12 +130,12 @@ front_word text room line h fits cr lf =
     }
 
 -- the words so far of a request, with the room that is left
-pub record ReadsWords (text : List ℕ) (first at room : ℕ) (places : List Place) : Type 0 where
+pub record ReadsWords (text : List ℕ) (first at room : ℕ) (spans : List Span) : Type 0 where
   pub order : first ≤ at
   pub within : at ≤ length text
-  pub spelled : AreWords (drop first (take at text)) (words_at text places)
-  pub total : total_bytes (words_at text places) + room ≡ 2097152
-  pub inside : AreWithin places at
+  pub spelled : AreWords (drop first (take at text)) (words_at text spans)
+  pub total : total_bytes (words_at text spans) + room ≡ 2097152
+  pub inside : AreWithin spans at
 
 pub reads_none : (text : List ℕ) (at : ℕ) → at ≤ length text → ReadsWords text at at 2097152 []
 reads_none text at within = record {
@@ -153,22 +153,22 @@ total_bytes-push [] word = omega arith
 total_bytes-push (w ∷ ws) word = omega (arith, total_bytes-push ws word)
 
 -- one word more
-pub reads_word : (text behind : List ℕ) (first at room : ℕ) (places : List Place) (word : Place) →
-    behind ≡ drop at text → HasFrontWord behind room word → ReadsWords text first at room places →
+pub reads_word : (text behind : List ℕ) (first at room : ℕ) (spans : List Span) (word : Span) →
+    behind ≡ drop at text → HasFrontWord behind room word → ReadsWords text first at room spans →
     ReadsWords text first (at + (word.end + 2)) (room - (word.end - word.start))
-    (places ++ (record { start = at + word.start; end = at + word.end }) ∷ [])
-reads_word text behind first at room places word is h r =
-    let place : Place = record { start = at + word.start; end = at + word.end } in
+    (spans ++ (record { start = at + word.start; end = at + word.end }) ∷ [])
+reads_word text behind first at room spans word is h r =
+    let span : Span = record { start = at + word.start; end = at + word.end } in
     let taken : ℕ = word.end + 2 in
     let left : length behind ≡ length text - at = ap length is ∙ length-drop at text in
     let fits : at + taken ≤ length text = omega (arith, h.within, left, r.within) in
-    let same : bytes_at text place ≡ bytes_at behind word =
+    let same : bytes_at text span ≡ bytes_at behind word =
     ap (λ (k : ℕ). take k (drop (at + word.start) text)) (omega (arith, h.order))
     ∙ ap (take (word.end - word.start)) (sym (drop-drop word.start at text)
     ∙ ap (drop word.start) (sym is)) in
-    let words : words_at text (places ++ place ∷ []) ≡ words_at text places ++ bytes_at behind word ∷
-    [] = words_at-push text places place
-    ∙ ap (λ (w : List ℕ). words_at text places ++ w ∷ []) same in
+    let words : words_at text (spans ++ span ∷ []) ≡ words_at text spans ++ bytes_at behind word ∷
+    [] = words_at-push text spans span
+    ∙ ap (λ (w : List ℕ). words_at text spans ++ w ∷ []) same in
     let bytes : drop first (take (at + taken) text) ≡ drop first (take at text) ++ take taken behind =
     ap (drop first) (take-add at taken text
     ∙ ap (λ (t : List ℕ). take at text ++ take taken t) (sym is))
@@ -181,27 +181,27 @@ reads_word text behind first at room places word is h r =
       order = omega (arith, r.order);
       within = fits;
       spelled = subst (AreWords (drop first (take (at + taken) text))) (sym words)
-          (subst (λ (t : List ℕ). AreWords t (words_at text places ++ bytes_at behind word ∷ []))
+          (subst (λ (t : List ℕ). AreWords t (words_at text spans ++ bytes_at behind word ∷ []))
           (sym bytes) (words_more (drop first (take at text)) (take taken behind)
-          (words_at text places) (bytes_at behind word) r.spelled h.is_word));
+          (words_at text spans) (bytes_at behind word) r.spelled h.is_word));
       total = omega (
         arith,
         ap total_bytes words,
-        total_bytes-push (words_at text places) (bytes_at behind word),
+        total_bytes-push (words_at text spans) (bytes_at behind word),
         len,
         h.few,
         r.total,
       );
-      inside = AreWithin-push places place (at + taken) (omega (arith, h.order)) (omega arith)
-          (AreWithin-le places at (at + taken) (omega arith) r.inside);
+      inside = AreWithin-push spans span (at + taken) (omega (arith, h.order)) (omega arith)
+          (AreWithin-le spans at (at + taken) (omega arith) r.inside);
     }
 
 -- all the words
-pub reads_request : (text : List ℕ) (line : Line) (at room : ℕ) (places : List Place) →
-    HasFrontLine text 42 1024 line → 0 < line.number → length places ≡ line.number →
-    0 < line.length → ReadsWords text line.length at room places → HasFrontRequest text places at
-reads_request text line at room places h some all long r =
-    let count : length (words_at text places) ≡ line.number = length-words_at text places ∙ all in
+pub reads_request : (text : List ℕ) (line : Line) (at room : ℕ) (spans : List Span) →
+    HasFrontLine text 42 1024 line → 0 < line.number → length spans ≡ line.number →
+    0 < line.length → ReadsWords text line.length at room spans → HasFrontRequest text spans at
+reads_request text line at room spans h some all long r =
+    let count : length (words_at text spans) ≡ line.number = length-words_at text spans ∙ all in
     record {
       some = omega (arith, r.order, long);
       fits = r.within;

@@ -2,7 +2,7 @@
 ghost use Rattle.std.specs.Prelude.{◌≤◌, IfOk, IfSome};
 ghost use Rattle.resp_text.specs.Fronts.{HasFrontLine, HasFrontWord, HasFrontRequest};
 
-use crate::request::Place;
+use crate::request::Span;
 use crate::scan::{MOST_BYTES, MOST_LENGTH, MOST_WORDS, digit_behind};
 use vm_base::NoMemory;
 
@@ -47,7 +47,7 @@ fn front_line(text: &[u8], first: u8, most: u32) -> Option<Line>
 
 /// The place of the word at the front of a text, where a whole one stands there that has at most
 /// so many bytes.
-fn front_word(text: &[u8], room: u32) -> Option<Place>
+fn front_word(text: &[u8], room: u32) -> Option<Span>
     ensures { IfSome result (HasFrontWord text.now room) }
 {
     let line = front_line(text, b'$', MOST_LENGTH.min(room))?;
@@ -55,7 +55,7 @@ fn front_word(text: &[u8], room: u32) -> Option<Place>
     if text.len() < end + 2 || text[end] != b'\r' || text[end + 1] != b'\n' {
         return None;
     }
-    Some(Place {
+    Some(Span {
         start: line.length,
         end,
     })
@@ -64,10 +64,10 @@ fn front_word(text: &[u8], room: u32) -> Option<Place>
 /// How many bytes the request at the front of a text has, where a whole one stands there: the
 /// places of its words are then those left in the list. `None` says nothing of the text: an item
 /// may be cut off, skipped or broken.
-pub(crate) fn front_request(text: &[u8], places: &mut Vec<Place>) -> Result<Option<usize>, NoMemory>
-    ensures { IfOk result (λ front. IfSome front (HasFrontRequest text.now places.new.items)) }
+pub(crate) fn front_request(text: &[u8], spans: &mut Vec<Span>) -> Result<Option<usize>, NoMemory>
+    ensures { IfOk result (λ front. IfSome front (HasFrontRequest text.now spans.new.items)) }
 {
-    places.clear();
+    spans.clear();
     let Some(line) = front_line(text, b'*', MOST_WORDS) else {
         return Ok(None);
     };
@@ -76,12 +76,12 @@ pub(crate) fn front_request(text: &[u8], places: &mut Vec<Place>) -> Result<Opti
     }
     let mut at = line.length;
     let mut room = MOST_BYTES;
-    while places.len() < line.number {
+    while spans.len() < line.number {
         let (_, behind) = text.split_at(at);
         let Some(word) = front_word(behind, room) else {
             return Ok(None);
         };
-        places.push(Place {
+        spans.push(Span {
             start: at + word.start,
             end: at + word.end,
         })?;

@@ -3,7 +3,7 @@ ghost use Rattle.std.specs.Prelude.{◌≡◌, ◌∷◌, ◌++◌, [], take, le
 ghost use Rattle.resp_text.specs.Fronts.{TakesFront};
 
 use crate::front::front_request;
-use crate::request::{Place, Request};
+use crate::request::{Request, Span};
 use std::alloc::Global;
 use std::collections::VecDeque;
 use std::marker::Model;
@@ -23,7 +23,7 @@ pub(crate) struct Queue {
     /// Requests that were handed back, whatever their words: the next ones take their room.
     spare: Vec<Request>,
     /// The places of the words of the request that is being read.
-    places: Vec<Place>,
+    spans: Vec<Span>,
 }
 
 impl Model for Queue {
@@ -43,7 +43,7 @@ impl Queue {
             alloc,
             waiting: VecDeque::new(alloc),
             spare: Vec::new(alloc),
-            places: Vec::new(alloc),
+            spans: Vec::new(alloc),
         }
     }
 
@@ -53,7 +53,7 @@ impl Queue {
         ensures added { IfOk result (TakesFront self.old self.new text.now) }
         ensures no_memory { OnErr result (self.new ≡ self.old) }
     {
-        let Some(taken) = front_request(text, &mut self.places)? else {
+        let Some(taken) = front_request(text, &mut self.spans)? else {
             return Ok(None);
         };
         let (text, _) = text.split_at(taken);
@@ -61,7 +61,7 @@ impl Queue {
             Some(request) => request,
             None => Request::new(self.alloc),
         };
-        request.fill(text, &self.places)?;
+        request.fill(text, &self.spans)?;
         self.waiting.push_back(request)?;
         Ok(Some(taken))
     }

@@ -8,7 +8,7 @@ use vm_base::NoMemory;
 
 /// Where a word lies in a buffer: its first byte, and the one behind its last.
 #[derive(Clone, Copy, Debug)]
-pub(crate) struct Place {
+pub(crate) struct Span {
     pub(crate) start: usize,
     pub(crate) end: usize,
 }
@@ -18,7 +18,7 @@ pub(crate) struct Place {
 pub struct Request {
     /// The words with whatever stands between them.
     bytes: Vec<u8>,
-    words: Vec<Place>,
+    words: Vec<Span>,
 }
 
 impl Model for Request {
@@ -55,16 +55,16 @@ impl Request {
 
     /// Makes it the request whose words stand at these places of a text, whatever it was: one copy
     /// of the text, into room that fits it exactly where there was less.
-    pub(crate) fn fill(&mut self, text: &[u8], places: &[Place]) -> Result<(), NoMemory>
-        requires { AreWithin places.now (length text.now) }
-        ensures { OnOk result (self.new ≡ words_at text.now places.now) }
+    pub(crate) fn fill(&mut self, text: &[u8], spans: &[Span]) -> Result<(), NoMemory>
+        requires { AreWithin spans.now (length text.now) }
+        ensures { OnOk result (self.new ≡ words_at text.now spans.now) }
     {
         self.words.clear();
         self.bytes.clear();
         self.bytes.reserve_exact(text.len())?;
-        self.words.reserve_exact(places.len())?;
+        self.words.reserve_exact(spans.len())?;
         self.bytes.extend_from_slice(text)?;
-        self.words.extend_from_slice(places)?;
+        self.words.extend_from_slice(spans)?;
         Ok(())
     }
 
@@ -77,7 +77,7 @@ impl Request {
         let start = self.bytes.len();
         self.bytes.extend_from_slice(word)?;
         let end = self.bytes.len();
-        self.words.push_reserved(Place { start, end });
+        self.words.push_reserved(Span { start, end });
         Ok(())
     }
 
@@ -109,11 +109,11 @@ impl Request {
 }
 
 /// The word at a place, of those at these places of a buffer.
-fn word_at<'a>(bytes: &'a [u8], words: &[Place], i: usize) -> &'a [u8]
-    requires places { AreWithin words.now (length bytes.now) }
+fn word_at<'a>(bytes: &'a [u8], words: &[Span], i: usize) -> &'a [u8]
+    requires spans { AreWithin words.now (length bytes.now) }
     requires within { i < length words.now }
     ensures { result.now ≡ slice_index_or (words_at bytes.now words.now) i [] }
 {
-    let place = words[i];
-    &bytes[place.start..place.end]
+    let span = words[i];
+    &bytes[span.start..span.end]
 }

@@ -288,8 +288,8 @@ impl Requests {
         self.queue.pop()
     }
 
-    /// Takes a request back that is done with, so that one that is read later takes its room: at most
-    /// 512 small ones are kept. Nothing is to be seen of it.
+    /// Takes a request back that is done with, so that one that is read later takes its room. At
+    /// most 512 small ones are kept, and contracts see nothing of them.
     pub fn give_back(&mut self, request: Request)
         ensures { self.new ≡ self.old }
     {
