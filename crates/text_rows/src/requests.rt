@@ -200,6 +200,52 @@ fn the_words_of_a_request_are_its_bytes(rt: HostRuntime) -> Result<(), Fail> {
     Ok(())
 }
 
+/// The words of the one request that waits, each behind a line feed, and the request is handed back.
+fn words_of_next(alloc: Global, reader: &mut Requests) -> Result<Bytes, Fail> {
+    let request = reader.next().ok_or("a request waits")?;
+    let mut words = Bytes::new(alloc);
+    for i in 0..request.len() {
+        words.push_all(b"\n")?;
+        words.push_all(request.word(i))?;
+    }
+    reader.give_back(request);
+    Ok(words)
+}
+
+#[test]
+fn a_request_that_was_handed_back_leaves_nothing_in_the_next(rt: HostRuntime) -> Result<(), Fail> {
+    let cases: [(&[u8], &[u8]); 4] = [
+        (
+            b"*3\r\n$3\r\nSET\r\n$2\r\nkk\r\n$4\r\nlong\r\n",
+            b"\nSET\nkk\nlong",
+        ),
+        (b"*2\r\n$3\r\nGET\r\n$1\r\nx\r\n", b"\nGET\nx"),
+        (b"*1\r\n$0\r\n\r\n", b"\n"),
+        (b"*3\r\n$3\r\nSET\r\n$1\r\na\r\n$1\r\nb\r\n", b"\nSET\na\nb"),
+    ];
+    let mut reader = Requests::new(rt.alloc());
+    for (text, words) in cases {
+        reader.feed(text)?;
+        let got = words_of_next(rt.alloc(), &mut reader)?;
+        assert_eq!(rt; got.as_slice(), words);
+        assert!(rt; reader.next().is_none());
+    }
+    Ok(())
+}
+
+#[test]
+fn a_reply_that_was_written_leaves_empty_room(rt: HostRuntime) -> Result<(), Fail> {
+    let mut bytes = Bytes::new(rt.alloc());
+    bytes.push_all(b"value")?;
+    for reply in [Reply::Bulk(bytes), Reply::Null] {
+        let mut room = reply.into_room(rt.alloc());
+        assert_eq!(rt; room.as_slice(), b"".as_slice());
+        room.push_all(b"x")?;
+        assert_eq!(rt; room.as_slice(), b"x".as_slice());
+    }
+    Ok(())
+}
+
 /// The text of two words of a mebibyte each, and what stands behind them.
 fn long_request(alloc: Global, last: &[u8]) -> Result<Vec<u8>, AllocError> {
     let mut text = Vec::from_slice(alloc, b"*3\r\n$1048576\r\n")?;
