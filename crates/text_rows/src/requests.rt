@@ -85,9 +85,7 @@ fn streams_are_read_whatever_the_pieces(rt: HostRuntime) {
 }
 
 #[test]
-fn each_broken_request_is_refused_at_its_byte_whatever_the_pieces(
-    rt: HostRuntime,
-) -> Result<(), Fail> {
+fn each_broken_request_is_refused_at_its_byte(rt: HostRuntime) -> Result<(), Fail> {
     use ProtocolKind::{Count, Dollar, Ending, Length, Start};
     // The bytes, the place and the kind of the break, how many requests stand before it, and how
     // many bytes were read behind the last whole item.
@@ -200,7 +198,7 @@ fn the_words_of_a_request_are_its_bytes(rt: HostRuntime) -> Result<(), Fail> {
     Ok(())
 }
 
-/// The words of the one request that waits, each behind a line feed, and the request is handed back.
+/// The words of the next request, each behind a line feed. The request is handed back.
 fn words_of_next(alloc: Global, reader: &mut Requests) -> Result<Bytes, Fail> {
     let request = reader.next().ok_or("a request waits")?;
     let mut words = Bytes::new(alloc);
