@@ -37,7 +37,7 @@ no_feed_line digits n h = no_feed_append digits (13 ∷ []) (no_feed_number digi
 )
 
 -- one more digit
-DigitsGoOn-more : (high n d : ℕ) (ds : List ℕ) → DigitsGoOn high ds n → 48 ≤ d → d ≤ 57 →
+pub DigitsGoOn-more : (high n d : ℕ) (ds : List ℕ) → DigitsGoOn high ds n → 48 ≤ d → d ≤ 57 →
     DigitsGoOn high (ds ++ d ∷ []) (n * 10 + (d - 48))
 DigitsGoOn-more high n d [] h low top = (low, top, ap (λ (n : ℕ). n * 10 + (d - 48)) h)
 DigitsGoOn-more high n d (e ∷ ds) h low top = (
@@ -76,7 +76,7 @@ words_longer bytes behind x due w = record {
 }
 
 -- one word more
-words_more : (text front : List ℕ) (ws : List (List ℕ)) (w : List ℕ) → AreWords text ws →
+pub words_more : (text front : List ℕ) (ws : List (List ℕ)) (w : List ℕ) → AreWords text ws →
     IsWord front w → AreWords (text ++ front) (ws ++ w ∷ [])
 words_more text front [] w h word = subst (λ (t : List ℕ). AreWords (t ++ front) (w ∷ []))
     (sym h) (front, [], word, sym (append-nil front), refl)

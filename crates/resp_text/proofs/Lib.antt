@@ -1,5 +1,6 @@
 -- What the proofs of this crate share.
 pub mod Buffers
+pub mod FrontTexts
 pub mod Residuals
 pub mod Steps
 pub mod Histories

@@ -6,4 +6,5 @@ pub mod Reading
 pub mod Lines
 pub mod Residual
 pub mod Words
+pub mod Fronts
 pub mod Replies

@@ -44,3 +44,34 @@ FeedsOn old new fed given (Ok x) = StandsForBytes new fed given × (new.fault �
 FeedsOn old new fed given (Err NoMemory) = new ≡ old
 FeedsOn old new fed given (Err (Protocol place kind)) = BreaksAt fed place kind
     × StandsForBytes new (take place fed) given × (new.fault ≡ Some (Protocol place kind))
+
+-- what a reader with this fault has of the bytes fed: all of them; or those before their break
+abbrev pub HasTaken : Option FeedFault → Reading → List ℕ → List (List (List ℕ)) → Type 0
+HasTaken None reader fed given = StandsForBytes reader fed given
+HasTaken (Some NoMemory) reader fed given = ⊥
+HasTaken (Some (Protocol place kind)) reader fed given = BreaksAt fed place kind
+    × StandsForBytes reader (take place fed) given
+
+-- a reader was fed these bytes, in whatever pieces, and gave these requests
+abbrev pub WasFed : Reading → List ℕ → List (List (List ℕ)) → Type 0
+WasFed reader fed given = HasTaken reader.fault reader fed given
+
+-- what a feed answers that found memory
+abbrev pub answer_of : Option FeedFault → Result (Unit {0}) FeedFault
+answer_of None = Ok tt
+answer_of (Some fault) = Err fault
+
+-- a feed of a piece behind bytes that were fed before, be they broken or not
+abbrev pub FeedsBehind : Reading → Reading → List ℕ → List ℕ → List (List (List ℕ)) →
+    Result (Unit {0}) FeedFault → Type 0
+FeedsBehind old new fed piece given (Err NoMemory) = new ≡ old
+FeedsBehind old new fed piece given result = WasFed new (fed ++ piece) given
+    × (result ≡ answer_of new.fault)
+
+-- two readers have the same: all their requests, those given with those that wait, the bytes behind
+-- the last whole item, how many stand before them, and the break
+pub record ReadAlike (reader other : Reading) (given others : List (List (List ℕ))) : Type 0 where
+  pub requests : given ++ reader.waiting ≡ others ++ other.waiting
+  pub rest : reader.rest ≡ other.rest
+  pub before : reader.before ≡ other.before
+  pub fault : reader.fault ≡ other.fault

@@ -6,6 +6,8 @@ use Rattle.resp_text.specs.declared.reply.Reply.{Reply}
 use Rattle.resp_text.specs.declared.reply.Reply.TheVariants as reply
 use Rattle.resp_text.specs.declared.reply.ErrorKind.{ErrorKind}
 use Rattle.resp_text.specs.declared.reply.ErrorKind.TheVariants as kind
+use Rattle.resp_text.specs.declared.fault.ProtocolKind.{ProtocolKind}
+use Rattle.resp_text.specs.declared.fault.ProtocolKind.TheVariants as part
 
 -- the text of an error, which stands between `-` and the line end
 abbrev pub error_text : ErrorKind → List ℕ
@@ -32,6 +34,18 @@ text_of_reply (reply.Number value) = (58 ∷ []) ++ signed_decimal value ++ line
 text_of_reply (reply.Bulk bytes) =
     (36 ∷ []) ++ decimal (length bytes) ++ line_end ++ bytes ++ line_end
 text_of_reply (reply.Error kind) = (45 ∷ []) ++ error_text kind ++ line_end
+
+-- what is told of a break, between `-` and the line end
+abbrev pub protocol_error : ProtocolKind → List ℕ
+protocol_error part.Start = codes "ERR Protocol error: expected '*'"
+protocol_error part.Count = codes "ERR Protocol error: invalid multibulk length"
+protocol_error part.Dollar = codes "ERR Protocol error: expected '$'"
+protocol_error part.Length = codes "ERR Protocol error: invalid bulk length"
+protocol_error part.Ending = codes "ERR Protocol error: expected line end"
+
+-- the text that is sent where a stream breaks
+abbrev pub text_of_break : ProtocolKind → List ℕ
+text_of_break kind = (45 ∷ []) ++ protocol_error kind ++ line_end
 
 -- a front of the text stands at the end of what was there
 abbrev pub AppendsFront : List ℕ → List ℕ → List ℕ → Type 0

@@ -1,13 +1,18 @@
--- A list of words that lie one behind another in one buffer, with the place where each ends.
-use Rattle.std.specs.Prelude.{◌≡◌, ℕ, ◌-◌, ◌≤◌, List, [], ◌∷◌, take, drop}
+-- A list of words that lie in one buffer, each at a place of its own.
+use Rattle.std.specs.Prelude.{ℕ, ◌-◌, ◌≤◌, List, [], ◌∷◌, take, drop}
+use Rattle.resp_text.specs.declared.request.Span.{Span}
 
--- the words that begin at a place of the buffer and end at these places
-abbrev pub words_between : ℕ → List ℕ → List ℕ → List (List ℕ)
-words_between from bytes [] = []
-words_between from bytes (end ∷ ends) = take (end - from)
-    (drop from bytes) ∷ words_between end bytes ends
+-- the bytes at a place of a buffer
+abbrev pub bytes_at : List ℕ → Span → List ℕ
+bytes_at bytes span = take (span.end - span.start) (drop span.start bytes)
 
--- the ends never fall, and the last one is the end of the buffer
-abbrev pub AreEnds : ℕ → List ℕ → ℕ → Type 0
-AreEnds from [] len = from ≡ len
-AreEnds from (end ∷ ends) len = (from ≤ end) × AreEnds end ends len
+-- the words at these places of a buffer
+abbrev pub words_at : List ℕ → List Span → List (List ℕ)
+words_at bytes [] = []
+words_at bytes (span ∷ spans) = bytes_at bytes span ∷ words_at bytes spans
+
+-- each place ends not before it starts, and within so many bytes
+abbrev pub AreWithin : List Span → ℕ → Type 0
+AreWithin [] len = Unit {0}
+AreWithin (span ∷ spans) len = (span.start ≤ span.end) × (span.end ≤ len)
+    × AreWithin spans len

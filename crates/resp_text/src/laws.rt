@@ -1,7 +1,7 @@
 //! Laws of the request grammar, for whatever bytes and requests.
 ghost use Rattle.std.specs.Prelude.{◌≡◌, ◌++◌, ℕ, List};
 ghost use Rattle.resp_text.specs.Grammar.{IsRequest, IsStream, IsUnfinished};
-ghost use Rattle.resp_text.specs.Reading.{BreaksAt};
+ghost use Rattle.resp_text.specs.Reading.{Reading, BreaksAt, WasFed, ReadAlike};
 ghost use Rattle.resp_text.specs.declared.fault.ProtocolKind.{ProtocolKind};
 
 /// Each request has one spelling.
@@ -30,4 +30,11 @@ pub fn one_break()
     ensures { (bytes : List ℕ) (place other : ℕ) (kind second : ProtocolKind) →
         BreaksAt bytes place kind → BreaksAt bytes other second →
         (place ≡ other) × (kind ≡ second) }
+{}
+
+/// Two readers that were fed the same bytes have read the same, however the bytes were cut and
+/// whenever requests were taken out: the requests, the rest, and the break with its place and kind.
+pub fn one_reading_in_any_pieces()
+    ensures { (reader other : Reading) (fed : List ℕ) (given others : List (List (List ℕ))) →
+        WasFed reader fed given → WasFed other fed others → ReadAlike reader other given others }
 {}

@@ -7,7 +7,9 @@
 #![tactic(auto)]
 
 mod fault;
+mod front;
 mod laws;
+mod queue;
 mod reply;
 mod request;
 mod requests;
@@ -15,7 +17,7 @@ mod scan;
 mod spelled;
 
 pub use fault::{FeedFault, ProtocolKind};
-pub use laws::{break_is_final, one_break, one_reading, one_spelling};
-pub use reply::{ErrorKind, Reply, reply_text};
+pub use laws::{break_is_final, one_break, one_reading, one_reading_in_any_pieces, one_spelling};
+pub use reply::{ErrorKind, Reply, break_text, reply_text};
 pub use request::Request;
 pub use requests::Requests;

@@ -1,7 +1,9 @@
 //! Replies, and how each is printed.
-ghost use Rattle.std.specs.Prelude.{◌≡◌, ◌++◌, OnOk, OnErr};
+ghost use Rattle.std.specs.Prelude.{◌≡◌, [], ◌++◌, OnOk, OnErr};
 
+use crate::fault::ProtocolKind;
 use itoa::Buffer;
+use std::alloc::Global;
 use vm_base::{Bytes, NoMemory};
 
 /// What was wrong with a request.
@@ -36,7 +38,23 @@ pub enum Reply {
     Error(ErrorKind),
 }
 
-ghost use Rattle.resp_text.specs.Replies.{error_text, text_of_reply, AppendsFront};
+impl Reply {
+    /// The room of a bulk reply that was written, emptied for the next one; else new room. What a
+    /// caller fills for each reply is so taken from the allocator once.
+    pub fn into_room(self, alloc: Global) -> Bytes
+        ensures { result ≡ [] }
+    {
+        match self {
+            Reply::Bulk(mut bytes) => {
+                bytes.clear();
+                bytes
+            }
+            _ => Bytes::new(alloc),
+        }
+    }
+}
+
+ghost use Rattle.resp_text.specs.Replies.{error_text, protocol_error, text_of_break, text_of_reply, AppendsFront};
 ghost use Rattle.resp_text.specs.Grammar.{line_end};
 
 impl ErrorKind {
@@ -58,6 +76,29 @@ impl ErrorKind {
             ErrorKind::ForkRefused => b"ERR Background save refused, no frame",
         }
     }
+}
+
+impl ProtocolKind {
+    /// What is told of a break in this part, without the `-` before and the line end behind it.
+    pub fn text(self) -> &'static [u8]
+        ensures { result.now ≡ protocol_error self }
+    {
+        match self {
+            ProtocolKind::Start => b"ERR Protocol error: expected '*'",
+            ProtocolKind::Count => b"ERR Protocol error: invalid multibulk length",
+            ProtocolKind::Dollar => b"ERR Protocol error: expected '$'",
+            ProtocolKind::Length => b"ERR Protocol error: invalid bulk length",
+            ProtocolKind::Ending => b"ERR Protocol error: expected line end",
+        }
+    }
+}
+
+/// Appends what is sent where a stream breaks: the last reply of a session.
+pub fn break_text(kind: ProtocolKind, out: &mut Bytes) -> Result<(), NoMemory>
+    ensures whole { OnOk result (out.new ≡ out.old ++ text_of_break kind) }
+    ensures front { OnErr result (AppendsFront out.old out.new (text_of_break kind)) }
+{
+    push_line(out, b"-", kind.text())
 }
 
 /// Appends the bytes of a reply.

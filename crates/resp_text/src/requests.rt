@@ -4,11 +4,11 @@ ghost use Rattle.resp_text.specs.Grammar.{IsItem, IsStream, IsWholeItem};
 ghost use Rattle.resp_text.specs.Pieces.{StandsBehind, Reads, EndsItem, BeginsRequests, BeginsBytes};
 
 use crate::fault::{FeedFault, ProtocolKind};
+use crate::queue::Queue;
 use crate::request::Request;
 use crate::scan::{Outcome, Scan, scan_item};
 use crate::spelled::request_of;
 use std::alloc::Global;
-use std::collections::VecDeque;
 use std::marker::Model;
 use vm_base::NoMemory;
 
@@ -26,36 +26,36 @@ pub(crate) struct Reached {
 }
 
 /// Adds the request that a whole item is. A skipped item is none.
-fn push_item(alloc: Global, waiting: &mut VecDeque<Request>, text: &[u8]) -> Result<(), NoMemory>
+fn push_item(alloc: Global, queue: &mut Queue, text: &[u8]) -> Result<(), NoMemory>
     requires { IsWholeItem text.now }
     ensures added { OnOk result ((item : Option (List (List ℕ))) × IsItem text.now item
-        × (waiting.new.items ≡ waiting.old.items ++ option_to_list item)) }
-    ensures no_memory { OnErr result (waiting.new.items ≡ waiting.old.items) }
+        × (queue.new ≡ queue.old ++ option_to_list item)) }
+    ensures no_memory { OnErr result (queue.new ≡ queue.old) }
 {
     if text[1] == b'0' || text[1] == b'-' {
         return Ok(());
     }
     let request = request_of(alloc, text)?;
-    waiting.push_back(request)?;
+    queue.push(request)?;
     Ok(())
 }
 
 /// Reads items, of which the first begins with the first byte.
-fn read_items(
-    alloc: Global,
-    waiting: &mut VecDeque<Request>,
-    bytes: &[u8],
-) -> Result<Reached, NoMemory>
-    ensures read { IfOk result (Reads waiting.old.items waiting.new.items bytes.now) }
-    ensures no_memory { OnErr result (BeginsRequests waiting.old.items waiting.new.items) }
+fn read_items(alloc: Global, queue: &mut Queue, bytes: &[u8]) -> Result<Reached, NoMemory>
+    ensures read { IfOk result (Reads queue.old queue.new bytes.now) }
+    ensures no_memory { OnErr result (BeginsRequests queue.old queue.new) }
 {
     let mut whole = 0;
     'items: loop {
         let (_, behind) = bytes.split_at(whole);
+        if let Some(taken) = queue.push_front_of(behind)? {
+            whole += taken;
+            continue 'items;
+        }
         match scan_item(Scan::START, behind) {
             Outcome::End(taken) => {
                 let (text, _) = behind.split_at(taken);
-                push_item(alloc, waiting, text)?;
+                push_item(alloc, queue, text)?;
                 whole += taken;
             }
             Outcome::Open(scan) => {
@@ -84,15 +84,15 @@ fn read_items(
 /// where it is whole now, and its request then waits.
 fn end_item(
     alloc: Global,
-    waiting: &mut VecDeque<Request>,
+    queue: &mut Queue,
     rest: &mut Vec<u8>,
     scan: Scan,
     piece: &[u8],
 ) -> Result<Outcome, NoMemory>
     requires { StandsBehind scan rest.old.items }
-    ensures ended { IfOk result (EndsItem waiting.old.items waiting.new.items
+    ensures ended { IfOk result (EndsItem queue.old queue.new
         rest.old.items rest.new.items piece.now) }
-    ensures no_memory { OnErr result (waiting.new.items ≡ waiting.old.items) }
+    ensures no_memory { OnErr result (queue.new ≡ queue.old) }
     ensures no_memory_rest { OnErr result (BeginsBytes rest.old.items rest.new.items) }
 {
     let outcome = scan_item(scan, piece);
@@ -100,7 +100,7 @@ fn end_item(
         Outcome::End(taken) => {
             let (front, _) = piece.split_at(taken);
             rest.extend_from_slice(front)?;
-            push_item(alloc, waiting, rest)?;
+            push_item(alloc, queue, rest)?;
         }
         Outcome::Open(_) => rest.extend_from_slice(piece)?,
         Outcome::Broken { at, .. } => {
@@ -130,7 +130,7 @@ fn keep_between(rest: &mut Vec<u8>, bytes: &[u8], from: usize, to: usize) -> Res
 /// Reads a piece behind the bytes in `rest`, and leaves there those of the item that it ends in.
 fn read_piece(
     alloc: Global,
-    waiting: &mut VecDeque<Request>,
+    queue: &mut Queue,
     rest: &mut Vec<u8>,
     scan: Scan,
     piece: &[u8],
@@ -138,14 +138,14 @@ fn read_piece(
     requires stands { StandsBehind scan rest.old.items }
     requires small { length rest.old.items + length piece.now < 2 ^ 63 }
     ensures read { IfOk result
-        (Reads waiting.old.items waiting.new.items (rest.old.items ++ piece.now)) }
+        (Reads queue.old queue.new (rest.old.items ++ piece.now)) }
     ensures kept { IfOk result (λ reached. rest.new.items
         ≡ drop reached.whole (take reached.end (rest.old.items ++ piece.now))) }
-    ensures no_memory { OnErr result (BeginsRequests waiting.old.items waiting.new.items) }
+    ensures no_memory { OnErr result (BeginsRequests queue.old queue.new) }
     ensures no_memory_rest { OnErr result (BeginsBytes rest.old.items rest.new.items) }
 {
     let had = rest.len();
-    match end_item(alloc, waiting, rest, scan, piece)? {
+    match end_item(alloc, queue, rest, scan, piece)? {
         Outcome::Open(scan) => {
             let end = had + piece.len();
             Ok(Reached {
@@ -166,7 +166,7 @@ fn read_piece(
         }
         Outcome::End(taken) => {
             let (_, behind) = piece.split_at(taken);
-            let reached = read_items(alloc, waiting, behind)?;
+            let reached = read_items(alloc, queue, behind)?;
             keep_between(rest, behind, reached.whole, reached.end)?;
             let gone = had + taken;
             Ok(Reached {
@@ -183,7 +183,7 @@ fn read_piece(
 #[derive(Debug, Drop)]
 pub struct Requests {
     alloc: Global,
-    waiting: VecDeque<Request>,
+    queue: Queue,
     /// The bytes behind the last whole item.
     rest: Vec<u8>,
     /// Where the reader stands behind them.
@@ -201,7 +201,7 @@ impl Model for Requests {
     ghost Value = { Reading };
 
     ghost view = { λ r. record {
-      waiting = r.waiting.items;
+      waiting = r.queue;
       rest = r.rest.items;
       before = r.before;
       fault = r.fault;
@@ -211,16 +211,17 @@ impl Model for Requests {
 }
 
 impl Requests {
-    ghost use Rattle.resp_text.specs.Reading.{unfed_reading, StandsForBytes, FeedsOn};
+    ghost use Rattle.resp_text.specs.Reading.{unfed_reading, StandsForBytes, FeedsOn, WasFed, FeedsBehind};
 
     /// A reader that was fed nothing. It takes no memory yet.
     pub fn new(alloc: Global) -> Self
         ensures nothing { result ≡ unfed_reading }
         ensures stands { StandsForBytes result [] [] }
+        ensures unfed { WasFed result [] [] }
     {
         Requests {
             alloc,
-            waiting: VecDeque::new(alloc),
+            queue: Queue::new(alloc),
             rest: Vec::new(alloc),
             scan: Scan::START,
             before: 0,
@@ -238,6 +239,10 @@ impl Requests {
             FeedsOn self.old self.new (taken ++ piece.now) given result }
         ensures broken { IfSome self.old.fault (λ fault.
             (result ≡ Err fault) × (self.new ≡ self.old)) }
+        // Both at once, so that a caller's loop keeps one fact, whatever the pieces.
+        ensures pieces { (fed : List ℕ) (given : List (List (List ℕ))) →
+            WasFed self.old fed given →
+            FeedsBehind self.old self.new fed piece.now given result }
         ensures no_memory { IsErrOf result FeedFault.NoMemory → self.old.fault ≡ None →
             self.new ≡ self.old }
         ensures count { self.new.before + length self.new.rest
@@ -246,12 +251,12 @@ impl Requests {
         if let Some(fault) = self.fault {
             return Err(fault);
         }
-        let (had, kept) = (self.waiting.len(), self.rest.len());
-        let (waiting, rest) = (&mut self.waiting, &mut self.rest);
-        let reached = match read_piece(self.alloc, waiting, rest, self.scan, piece) {
+        let (had, kept) = (self.queue.len(), self.rest.len());
+        let (queue, rest) = (&mut self.queue, &mut self.rest);
+        let reached = match read_piece(self.alloc, queue, rest, self.scan, piece) {
             Ok(reached) => reached,
             Err(NoMemory) => {
-                self.waiting.truncate(had);
+                self.queue.truncate(had);
                 self.rest.truncate(kept);
                 return Err(FeedFault::NoMemory);
             }
@@ -277,8 +282,18 @@ impl Requests {
         ensures given { (taken : List ℕ) (given : List (List (List ℕ))) →
             StandsForBytes self.old taken given →
             StandsForBytes self.new taken (given ++ option_to_list result) }
+        ensures pieces { (fed : List ℕ) (given : List (List (List ℕ))) →
+            WasFed self.old fed given → WasFed self.new fed (given ++ option_to_list result) }
     {
-        self.waiting.pop_front()
+        self.queue.pop()
+    }
+
+    /// Takes a request back that is done with, so that one that is read later takes its room. At
+    /// most 512 small ones are kept, and contracts see nothing of them.
+    pub fn give_back(&mut self, request: Request)
+        ensures { self.new ≡ self.old }
+    {
+        self.queue.give_back(request);
     }
 
     /// How many bytes were taken behind the last whole item, be it a request or a skipped one.

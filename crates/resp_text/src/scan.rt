@@ -274,7 +274,7 @@ fn due(byte: u8, expected: u8, step: Step, kind: ProtocolKind) -> Step
 }
 
 /// A number with one more digit, where the byte is a digit and the number stays within the limit.
-fn digit_behind(high: u32, byte: u8, most: u32) -> Option<u32>
+pub(crate) fn digit_behind(high: u32, byte: u8, most: u32) -> Option<u32>
     requires { high ≤ 1048576 }
     ensures { result ≡ digit_behind high byte most }
 {

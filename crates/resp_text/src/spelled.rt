@@ -3,16 +3,10 @@ ghost use Rattle.std.specs.Prelude.{◌≡◌, ◌+◌, ◌<◌, ◌∷◌, List
 ghost use Rattle.resp_text.specs.Grammar.{AreWords, IsRequest};
 ghost use Rattle.resp_text.specs.Lines.{HasLine, BeginsWithLine, BeginsWithWord};
 
+use crate::front::Line;
 use crate::request::Request;
 use std::alloc::Global;
 use vm_base::NoMemory;
-
-/// A line: its number, and how many bytes it has with its line end.
-#[derive(Clone, Copy, Debug)]
-struct Line {
-    number: usize,
-    length: usize,
-}
 
 /// The line at the front of a text.
 fn line_of(text: &[u8]) -> Line
@@ -52,8 +46,9 @@ pub(crate) fn request_of(alloc: Global, text: &[u8]) -> Result<Request, NoMemory
     requires { (words : List (List ℕ)) × IsRequest text.now words }
     ensures { IfOk result (λ request. IsRequest text.now request) }
 {
-    let mut request = Request::new(alloc);
-    let (_, mut rest) = text.split_at(line_of(text).length);
+    let line = line_of(text);
+    let mut request = Request::with_room(alloc, line.number, text.len())?;
+    let (_, mut rest) = text.split_at(line.length);
     while !rest.is_empty() {
         let (word, behind) = first_word(rest);
         request.add(word)?;

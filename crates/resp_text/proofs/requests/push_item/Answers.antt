@@ -5,5 +5,5 @@ pub returns-clause-added : goal.returns-clause-added
 returns-clause-added c = (
   Some c.in_ok-request.request,
   c.in_ok-request.ensures,
-  c.in_ok-push_back.ensures.items,
+  c.in_ok-push.ensures.added,
 )

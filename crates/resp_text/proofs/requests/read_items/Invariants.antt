@@ -9,5 +9,5 @@ abbrev pub invariant-items : goal.invariant-items
 invariant-items l = record {
   within : l.whole ≤ length l.bytes;
   read : (came : List (List (List ℕ))) × IsStream (take l.whole l.bytes) came
-      × (l.waiting.items ≡ l.fn.waiting.items ++ came);
+      × (l.queue ≡ l.fn.queue ++ came);
 }

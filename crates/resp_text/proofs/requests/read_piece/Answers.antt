@@ -8,7 +8,7 @@ use Rattle.resp_text.proofs.requests.read_piece.Goals as goal
 
 pub returns-in-Open-clause-read : goal.returns-in-Open-clause-read
 returns-in-Open-clause-read c =
-    let e = subst (λ (o : Outcome). EndsItem c.args.waiting.now.items c.end_item.new.waiting.items
+    let e = subst (λ (o : Outcome). EndsItem c.args.queue.now c.end_item.new.queue
     c.args.rest.now.items c.end_item.new.rest.items c.args.piece.now o) c.in-Open.is
     c.in_ok-scan.ensures.ended in
     reads_open_first _ _ c.args.rest.now.items c.args.piece.now c.in-Open.scan _ e.0 (omega
@@ -16,7 +16,7 @@ returns-in-Open-clause-read c =
 
 pub returns-in-Broken-clause-read : goal.returns-in-Broken-clause-read
 returns-in-Broken-clause-read c =
-    let e = subst (λ (o : Outcome). EndsItem c.args.waiting.now.items c.end_item.new.waiting.items
+    let e = subst (λ (o : Outcome). EndsItem c.args.queue.now c.end_item.new.queue
     c.args.rest.now.items c.end_item.new.rest.items c.args.piece.now o) c.in-Broken.is
     c.in_ok-scan.ensures.ended in
     reads_broken_first _ _ c.args.rest.now.items c.args.piece.now c.in-Broken.scan c.in-Broken.kind
@@ -26,7 +26,7 @@ returns-in-Broken-clause-read c =
 
 pub returns-in-Broken-clause-kept : goal.returns-in-Broken-clause-kept
 returns-in-Broken-clause-kept c =
-    let e = subst (λ (o : Outcome). EndsItem c.args.waiting.now.items c.end_item.new.waiting.items
+    let e = subst (λ (o : Outcome). EndsItem c.args.queue.now c.end_item.new.queue
     c.args.rest.now.items c.end_item.new.rest.items c.args.piece.now o) c.in-Broken.is
     c.in_ok-scan.ensures.ended in
     let had : length c.args.rest.now.items ≡ c.len-had.result = omega
@@ -37,21 +37,21 @@ returns-in-Broken-clause-kept c =
 pub returns-in_ok-keep_between-in-End-clause-read :
     goal.returns-in_ok-keep_between-in-End-clause-read
 returns-in_ok-keep_between-in-End-clause-read c =
-    let e = subst (λ (o : Outcome). EndsItem c.args.waiting.now.items c.end_item.new.waiting.items
+    let e = subst (λ (o : Outcome). EndsItem c.args.queue.now c.end_item.new.queue
     c.args.rest.now.items c.end_item.new.rest.items c.args.piece.now o) c.in-End.is
     c.in_ok-scan.ensures.ended in
-    reads_behind_item c.args.waiting.now.items c.end_item.new.waiting.items _ c.args.rest.now.items
+    reads_behind_item c.args.queue.now c.end_item.new.queue _ c.args.rest.now.items
     c.args.piece.now c.in-End.taken (c.len-had.result + c.in-End.taken)
     c.in_ok-reached-in-End.reached e.0 (omega (arith, c.len-had.ensures, c.args.rest.now.ok.0))
-    (subst (ItemCame c.args.waiting.now.items c.end_item.new.waiting.items) e.1 e.2)
-    (subst (λ (behind : List ℕ). Reads c.end_item.new.waiting.items c.read_items.new.waiting.items
+    (subst (ItemCame c.args.queue.now c.end_item.new.queue) e.1 e.2)
+    (subst (λ (behind : List ℕ). Reads c.end_item.new.queue c.read_items.new.queue
     behind c.in_ok-reached-in-End.reached) c.split_at.ensures.back
     c.in_ok-reached-in-End.ensures.read)
 
 pub returns-in_ok-keep_between-in-End-clause-kept :
     goal.returns-in_ok-keep_between-in-End-clause-kept
 returns-in_ok-keep_between-in-End-clause-kept c =
-    let e = subst (λ (o : Outcome). EndsItem c.args.waiting.now.items c.end_item.new.waiting.items
+    let e = subst (λ (o : Outcome). EndsItem c.args.queue.now c.end_item.new.queue
     c.args.rest.now.items c.end_item.new.rest.items c.args.piece.now o) c.in-End.is
     c.in_ok-scan.ensures.ended in
     let r = c.in_ok-reached-in-End.reached in

@@ -4,8 +4,8 @@ use Rattle.resp_text.proofs.Texts.{line_behind, request_line, words_more, words_
 use Rattle.std.proofs.lemmas.Bool.Decides.{nat_tests}
 use Rattle.resp_text.proofs.spelled.request_of.Goals as goal
 
-pub line_of-requires : goal.line_of-requires
-line_of-requires c =
+pub line_of-line-requires : goal.line_of-line-requires
+line_of-line-requires c =
     let r = c.requires.1 in (
       length c.requires.0,
       r.count.0,
@@ -20,7 +20,7 @@ split_at-requires c =
     let line = request_line c.args.text.now c.requires.0 c.requires.1 in
     omega (
       arith,
-      (c.line_of.ensures (length c.requires.0) _ _ line).1,
+      (c.line_of-line.ensures (length c.requires.0) _ _ line).1,
       (line_behind c.args.text.now (length c.requires.0) _ _ line).1,
     )
 
@@ -28,12 +28,12 @@ pub loop-rest-init : goal.loop-rest-init
 loop-rest-init c words r =
     let line = request_line c.args.text.now words r in
     let behind = c.split_at.ensures.back ∙ ap (λ (k : ℕ). drop k c.args.text.now)
-    (c.line_of.ensures (length words) _ _ line).1
+    (c.line_of-line.ensures (length words) _ _ line).1
     ∙ (line_behind c.args.text.now (length words) _ _ line).0 in (
       words,
       subst (λ (t : List ℕ). AreWords t words) (sym behind) r.spelled,
       ap (λ (none : List
-          (List ℕ)). none ++ words) (sym c.new-request.ensures),
+          (List ℕ)). none ++ words) (sym c.in_ok-request.ensures),
     )
 
 pub first_word-requires : goal.first_word-requires

@@ -6,7 +6,7 @@ pub returns-clause-stands : goal.returns-clause-stands
 returns-clause-stands c = record {
   whole = [];
   is = sym c.new-2.ensures.items;
-  stream = ([], refl, c.new.ensures.items);
+  stream = ([], refl, c.new.ensures);
   before = refl;
   unfinished = subst IsUnfinished (sym c.new-2.ensures.items) (
     42,
@@ -14,3 +14,6 @@ returns-clause-stands c = record {
     (None, inl refl),
   );
 }
+
+pub returns-clause-unfed : goal.returns-clause-unfed
+returns-clause-unfed c = returns-clause-stands c
