@@ -1,7 +1,7 @@
 //! Stores in pages that have begun, what is looked at in them, and tests of the store in pages.
 //!
-//! [`store_in`] begins a store in any new memory, [`flat_store`] in a flat one, and [`list_of`] lists
-//! the pairs of a store. README.md says what the tests are of.
+//! [`store_in`] begins a store in any new memory, [`flat_store`] in a flat one, and [`list_of`]
+//! lists the pairs of a store. README.md says what the tests are of.
 #![tactic(auto)]
 
 #[cfg(test)]
