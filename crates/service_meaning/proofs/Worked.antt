@@ -1,7 +1,6 @@
 -- Small cases that the definitions compute to.
-use Rattle.std.proofs.Common.{◌≡◌, ℕ, List, refl, [], ◌∷◌, ◌++◌, true, false}
-use Rattle.std.specs.FinMap.{len}
-use Rattle.std.specs.Prelude.{codes, decimal, Some, None, pos, neg_ℤ}
+use Rattle.std.proofs.Common.{◌≡◌, ℕ, List, refl, [], ◌∷◌, true, false}
+use Rattle.std.specs.Prelude.{codes, Some, None, pos, neg_ℤ}
 use Rattle.std.specs.Fmt.{digits}
 use Rattle.resp_text.specs.declared.reply.Reply.TheVariants as reply
 use Rattle.resp_text.specs.declared.reply.ErrorKind.TheVariants as kind
@@ -60,11 +59,6 @@ second_save pairs = refl
 -- no number is left, which is told only where one more snapshot may live
 spent : (pairs : Pairs) → answer (serving_all pairs [] 4294967295 1) (codes "BGSAVE" ∷ []) ≡ refused (serving_all pairs [] 4294967295 1) kind.Spent
 spent pairs = refl
-
--- INFO behind the second of two saves
-info : (pairs : Pairs) → answer (serving_all pairs (2 ∷ []) 2 1) (codes "INFO" ∷ []) ≡ (reply.Bulk (codes "pairs:" ++ decimal (len pairs) ++ codes "\r\nsnapshots:1\r\nlast:2\r\n"), serving_all pairs (2 ∷ []) 2 1)
-unfolding digits
-info pairs = refl
 
 -- a frame that is refused is told in place of no error, and only by a command that wants frames
 no_second_error : frame_error (Some Set) (reply.Error kind.LongKey) ≡ None

@@ -1,6 +1,7 @@
 //! The table of the commands: each with its name, its number of words and its keys.
 ghost use Rattle.std.specs.Prelude.{◌≡◌, ◌<◌, ◌≤◌, drop, length};
-ghost use Rattle.std.specs.List.{list_any};
+ghost use Rattle.std.specs.List.{find, list_any};
+ghost use Rattle.std.specs.Str.{str_eq_ignore_ascii_case};
 ghost use Rattle.service_meaning.specs.Commands.{command_of, fault_of, has_long_key, is_long, name_of, shape_of};
 
 use crate::shape::{Frames, Keys, Shape};
@@ -60,12 +61,13 @@ impl Command {
     pub fn named(name: &[u8]) -> Option<Command>
         ensures { result ≡ command_of name.now }
     {
-        for command in COMMANDS {
-            if name.eq_ignore_ascii_case(command.name()) {
-                return Some(command);
-            }
-        }
-        None
+        named_among(&COMMANDS, name)
+    }
+
+    fn is_named(self, name: &[u8]) -> bool
+        ensures { result ≡ str_eq_ignore_ascii_case name.now (name_of self) }
+    {
+        name.eq_ignore_ascii_case(self.name())
     }
 
     /// The name, in small letters.
@@ -140,6 +142,19 @@ impl Command {
             Keys::All => has_long_operand(request),
         }
     }
+}
+
+/// The first of some commands that has a name.
+fn named_among(commands: &[Command], name: &[u8]) -> Option<Command>
+    ensures { result ≡ find
+        (λ given. str_eq_ignore_ascii_case name.now (name_of given)) commands.now }
+{
+    for command in commands {
+        if command.is_named(name) {
+            return Some(*command);
+        }
+    }
+    None
 }
 
 /// Whether a word behind the name is too long for a key.
