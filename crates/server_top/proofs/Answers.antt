@@ -1,12 +1,12 @@
 -- What the machine's answers have in common, whatever the request.
-use Rattle.std.proofs.Common.{◌≡◌, ℕ, ◌+◌, ◌-◌, ◌^◌, ◌≤◌, ◌<◌, Bool, true, false, cond, List, [], ◌∷◌, ◌++◌, length, drop, Option, Some, None, refl, sym, ◌∙◌, ap, subst, arith}
-use Rattle.std.specs.Prelude.{if◌then◌else◌, nat_le}
+use Rattle.std.proofs.Common.{◌≡◌, ℕ, ◌+◌, ◌-◌, ◌^◌, ◌≤◌, ◌<◌, Bool, true, false, cond, List, [], ◌∷◌, ◌++◌, length, Option, Some, None, refl, sym, ◌∙◌, ap, subst, arith}
+use Rattle.std.specs.Prelude.{if◌then◌else◌, nat_le, not, ◌&&◌, ◌||◌}
 use Rattle.std.specs.List.{AllByRecursion}
 use Rattle.std.specs.Cmp.Lexicographic.{nat_list_cmp_total}
 use Rattle.std.specs.declared.cmp.Ordering.TheVariants.{Less, Equal, Greater}
 use Rattle.std.specs.FinMap.{entries, get, insert, len, put, entries-insert, len-insert, contains_key}
 use Rattle.std.specs.FinMap.Entries.{by_order}
-use Rattle.std.proofs.lemmas.Bool.{ltb-false}
+use Rattle.std.proofs.lemmas.Bool.{ltb-false, lt-leb}
 use Rattle.std.proofs.lemmas.List.{append-nil}
 use Rattle.resp_text.specs.declared.reply.Reply.{Reply}
 use Rattle.resp_text.specs.declared.reply.Reply.TheVariants as reply
@@ -15,7 +15,8 @@ use Rattle.image_text.specs.Image.{bytes_cmp, FitsImage}
 use Rattle.resp_text.specs.declared.reply.ErrorKind.{ErrorKind}
 use Rattle.service_meaning.specs.declared.command.Command.{Command}
 use Rattle.service_meaning.specs.declared.command.Command.TheVariants as command
-use Rattle.service_meaning.specs.Commands.{command_in, is_long}
+use Rattle.service_meaning.specs.Commands.{command_in, has_long_key, is_long, shape_of}
+use Rattle.service_meaning.specs.Shapes.{has_words, is_at_most}
 use Rattle.service_meaning.specs.MapMachine.{Service, ServiceAnswer, refused, value_reply, answer, answer_by, command_answer, checked_answer, save_answer, with_snapshot}
 use Rattle.service_meaning.specs.History.{Call, started, is_refusal}
 use Rattle.server_top.specs.ReplayPromise.{replay_serves}
@@ -68,6 +69,22 @@ with_pair service key value k v = record {
 follows_error : (service : Service) (kind : ErrorKind) → is_refusal (Call 0 [] (reply.Error kind)) ≡ false → Follows service (refused service kind)
 follows_error service kind granted = same service (reply.Error kind) refl (λ caller words. granted)
 
+-- a number of words that the command does not have
+past_both : (a b : Bool) → ◌≡◌ {A = Bool} b false → ◌≡◌ {A = Bool} (a && b) false
+past_both true b past = past
+past_both false b past = refl
+
+follows_arity : (service : Service) (given : Command) (words : List (List ℕ)) → has_words (shape_of given) (length words) ≡ false → Follows service (command_answer service given words)
+follows_arity service given words other =
+    subst (λ b. Follows service (checked_answer service given words (if not b then Some kind.Arity else if has_long_key given words then Some kind.LongKey else None))) (sym other)
+    (follows_error service kind.Arity refl)
+
+-- one most number of words, and more of them
+many_words : (service : Service) (given : Command) (most : ℕ) (words : List (List ℕ)) → (shape_of given).most ≡ Some most → most < length words → Follows service (command_answer service given words)
+many_words service given most words is more =
+    follows_arity service given words (past_both (nat_le (shape_of given).least (length words)) (is_at_most (shape_of given).most (length words))
+    (ap (λ (o : Option ℕ). is_at_most o (length words)) is ∙ lt-leb (length words) most more))
+
 follows_set : (service : Service) (words : List (List ℕ)) → AllByRecursion (λ word. length word ≤ 1048576) words → Follows service (command_answer service command.Set words)
 follows_set service [] short = follows_error service kind.Arity refl
 follows_set service (name ∷ []) short = follows_error service kind.Arity refl
@@ -77,7 +94,7 @@ follows_set service (name ∷ key ∷ value ∷ []) short =
       | true ↦ λ e. follows_error service kind.LongKey refl
       | false ↦ λ e. with_pair service key value (ltb-false _ _ e) short.1.1.0
     ] refl
-follows_set service (name ∷ key ∷ value ∷ more ∷ words) short = follows_error service kind.Arity refl
+follows_set service (name ∷ key ∷ value ∷ more ∷ words) short = many_words service command.Set 3 (name ∷ key ∷ value ∷ more ∷ words) refl (omega arith)
 
 follows_value : (service : Service) (found : Option (List ℕ)) → Follows service (value_reply found, service)
 follows_value service None = same service reply.Null refl (λ caller words. refl)
@@ -91,7 +108,7 @@ follows_get service (name ∷ key ∷ []) =
       | true ↦ follows_error service kind.LongKey refl
       | false ↦ follows_value service (get service.pairs key)
     ]
-follows_get service (name ∷ key ∷ more ∷ words) = follows_error service kind.Arity refl
+follows_get service (name ∷ key ∷ more ∷ words) = many_words service command.Get 2 (name ∷ key ∷ more ∷ words) refl (omega arith)
 
 with_fork : (service : Service) → Follows service (reply.Started (service.last + 1), with_snapshot service)
 with_fork service = record {
@@ -116,13 +133,28 @@ follows_start service =
 follows_save : (service : Service) (words : List (List ℕ)) → Follows service (command_answer service command.BgSave words)
 follows_save service [] = follows_error service kind.Arity refl
 follows_save service (name ∷ []) = follows_start service
-follows_save service (name ∷ more ∷ words) = follows_error service kind.Arity refl
+follows_save service (name ∷ more ∷ words) = many_words service command.BgSave 1 (name ∷ more ∷ words) refl (omega arith)
 
 -- only what is served answers otherwise than that the name is unknown
 follows_served : (service : Service) (command : Command) (words : List (List ℕ)) → AllByRecursion (λ word. length word ≤ 1048576) words → replay_serves command ≡ true → Follows service (command_answer service command words)
 follows_served service command.Set words short served = follows_set service words short
 follows_served service command.Get words short served = follows_get service words
 follows_served service command.BgSave words short served = follows_save service words
+follows_served service command.Ping words short served = absurd cc
+follows_served service command.Echo words short served = absurd cc
+follows_served service command.Del words short served = absurd cc
+follows_served service command.Exists words short served = absurd cc
+follows_served service command.StrLen words short served = absurd cc
+follows_served service command.Append words short served = absurd cc
+follows_served service command.Incr words short served = absurd cc
+follows_served service command.Decr words short served = absurd cc
+follows_served service command.DbSize words short served = absurd cc
+follows_served service command.FlushAll words short served = absurd cc
+follows_served service command.Info words short served = absurd cc
+follows_served service command.CommandList words short served = absurd cc
+follows_served service command.Select words short served = absurd cc
+follows_served service command.Client words short served = absurd cc
+follows_served service command.Quit words short served = absurd cc
 
 follows_command : (service : Service) (found : Option Command) (words : List (List ℕ)) → service.serves ≡ replay_serves → AllByRecursion (λ word. length word ≤ 1048576) words → Follows service (answer_by service found words)
 follows_command service None words serves short = follows_error service kind.Unknown refl

@@ -5,7 +5,6 @@ use Rattle.std.specs.Fmt.{digits}
 use Rattle.resp_text.specs.declared.reply.Reply.TheVariants as reply
 use Rattle.resp_text.specs.declared.reply.ErrorKind.TheVariants as kind
 use Rattle.service_meaning.specs.declared.saved.Saved.TheVariants as saved
-use Rattle.service_meaning.specs.declared.command.Command.{Command}
 use Rattle.service_meaning.specs.declared.command.Command.TheVariants.{Set}
 use Rattle.service_meaning.specs.Commands.{command_of}
 use Rattle.service_meaning.specs.Integers.{integer_of}

@@ -1,5 +1,5 @@
 -- What the table of the commands says of one besides its name.
-use Rattle.std.specs.Prelude.{ℕ, Bool, true, nat_le, ◌&&◌, List, [], length, take, drop, Option, Some, None}
+use Rattle.std.specs.Prelude.{ℕ, Bool, true, nat_le, ◌&&◌, List, [], take, drop, Option, Some, None}
 use Rattle.service_meaning.specs.declared.shape.Keys.{Keys}
 use Rattle.service_meaning.specs.declared.shape.Keys.TheVariants as keys
 use Rattle.service_meaning.specs.declared.shape.Frames.{Frames}
