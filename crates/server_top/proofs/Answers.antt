@@ -21,7 +21,8 @@ use Rattle.service_meaning.specs.MapMachine.{Service, ServiceAnswer, refused, va
 use Rattle.service_meaning.specs.History.{Call, started, is_refusal}
 use Rattle.server_top.specs.ReplayPromise.{replay_serves}
 
--- what holds of each answer: a snapshot that is started lives behind the others, no frame is refused, a fork leaves the pairs, and at most one pair comes, which fits an image where the others do; the same commands are served
+-- what holds of each answer: a snapshot that is started lives behind the others, no frame is refused, a fork leaves the pairs, and at most one pair comes, which fits an image where the others do
+-- the same commands are served
 pub record Follows (service : Service) (given : ServiceAnswer) : Type 0 where
   pub live : given.1.live ≡ service.live ++ started given.0
   pub granted : (caller : ℕ) (words : List (List ℕ)) → is_refusal (Call caller words given.0) ≡ false
@@ -66,7 +67,8 @@ with_pair service key value k v = record {
   serves = refl;
 }
 
-follows_error : (service : Service) (kind : ErrorKind) → is_refusal (Call 0 [] (reply.Error kind)) ≡ false → Follows service (refused service kind)
+follows_error : (service : Service) (kind : ErrorKind) → is_refusal (Call 0 [] (reply.Error kind)) ≡ false
+    → Follows service (refused service kind)
 follows_error service kind granted = same service (reply.Error kind) refl (λ caller words. granted)
 
 -- a number of words that the command does not have
@@ -74,27 +76,34 @@ past_both : (a b : Bool) → ◌≡◌ {A = Bool} b false → ◌≡◌ {A = Boo
 past_both true b past = past
 past_both false b past = refl
 
-follows_arity : (service : Service) (given : Command) (words : List (List ℕ)) → has_words (shape_of given) (length words) ≡ false → Follows service (command_answer service given words)
+follows_arity : (service : Service) (given : Command) (words : List (List ℕ)) → has_words (shape_of given) (length words) ≡ false
+    → Follows service (command_answer service given words)
 follows_arity service given words other =
-    subst (λ b. Follows service (checked_answer service given words (if not b then Some kind.Arity else if has_long_key given words then Some kind.LongKey else None))) (sym other)
+    subst (λ b. Follows service (checked_answer service given words
+    (if not b then Some kind.Arity else if has_long_key given words then Some kind.LongKey else None))) (sym other)
     (follows_error service kind.Arity refl)
 
 -- one most number of words, and more of them
-many_words : (service : Service) (given : Command) (most : ℕ) (words : List (List ℕ)) → (shape_of given).most ≡ Some most → most < length words → Follows service (command_answer service given words)
+many_words : (service : Service) (given : Command) (most : ℕ) (words : List (List ℕ)) → (shape_of given).most ≡ Some most
+    → most < length words → Follows service (command_answer service given words)
 many_words service given most words is more =
-    follows_arity service given words (past_both (nat_le (shape_of given).least (length words)) (is_at_most (shape_of given).most (length words))
+    follows_arity service given words (past_both (nat_le (shape_of given).least (length words)) (is_at_most (shape_of given).most
+    (length words))
     (ap (λ (o : Option ℕ). is_at_most o (length words)) is ∙ lt-leb (length words) most more))
 
-follows_set : (service : Service) (words : List (List ℕ)) → AllByRecursion (λ word. length word ≤ 1048576) words → Follows service (command_answer service command.Set words)
+follows_set : (service : Service) (words : List (List ℕ)) → AllByRecursion (λ word. length word ≤ 1048576) words
+    → Follows service (command_answer service command.Set words)
 follows_set service [] short = follows_error service kind.Arity refl
 follows_set service (name ∷ []) short = follows_error service kind.Arity refl
 follows_set service (name ∷ key ∷ []) short = follows_error service kind.Arity refl
 follows_set service (name ∷ key ∷ value ∷ []) short =
-    elim (is_long key) as (λ b. is_long key ≡ b → Follows service (checked_answer service command.Set (name ∷ key ∷ value ∷ []) (if b || false then Some kind.LongKey else None))) [
+    elim (is_long key) as (λ b. is_long key ≡ b
+    → Follows service (checked_answer service command.Set (name ∷ key ∷ value ∷ []) (if b || false then Some kind.LongKey else None))) [
       | true ↦ λ e. follows_error service kind.LongKey refl
       | false ↦ λ e. with_pair service key value (ltb-false _ _ e) short.1.1.0
     ] refl
-follows_set service (name ∷ key ∷ value ∷ more ∷ words) short = many_words service command.Set 3 (name ∷ key ∷ value ∷ more ∷ words) refl (omega arith)
+follows_set service (name ∷ key ∷ value ∷ more ∷ words) short = many_words service command.Set 3
+    (name ∷ key ∷ value ∷ more ∷ words) refl (omega arith)
 
 follows_value : (service : Service) (found : Option (List ℕ)) → Follows service (value_reply found, service)
 follows_value service None = same service reply.Null refl (λ caller words. refl)
@@ -104,7 +113,8 @@ follows_get : (service : Service) (words : List (List ℕ)) → Follows service 
 follows_get service [] = follows_error service kind.Arity refl
 follows_get service (name ∷ []) = follows_error service kind.Arity refl
 follows_get service (name ∷ key ∷ []) =
-    elim (is_long key) as (λ b. Follows service (checked_answer service command.Get (name ∷ key ∷ []) (if b || false then Some kind.LongKey else None))) [
+    elim (is_long key) as (λ b. Follows service (checked_answer service command.Get (name ∷ key ∷ [])
+    (if b || false then Some kind.LongKey else None))) [
       | true ↦ follows_error service kind.LongKey refl
       | false ↦ follows_value service (get service.pairs key)
     ]
@@ -136,7 +146,9 @@ follows_save service (name ∷ []) = follows_start service
 follows_save service (name ∷ more ∷ words) = many_words service command.BgSave 1 (name ∷ more ∷ words) refl (omega arith)
 
 -- only what is served answers otherwise than that the name is unknown
-follows_served : (service : Service) (command : Command) (words : List (List ℕ)) → AllByRecursion (λ word. length word ≤ 1048576) words → replay_serves command ≡ true → Follows service (command_answer service command words)
+follows_served : (service : Service) (command : Command) (words : List (List ℕ))
+    → AllByRecursion (λ word. length word ≤ 1048576) words → replay_serves command ≡ true
+    → Follows service (command_answer service command words)
 follows_served service command.Set words short served = follows_set service words short
 follows_served service command.Get words short served = follows_get service words
 follows_served service command.BgSave words short served = follows_save service words
@@ -156,13 +168,16 @@ follows_served service command.Select words short served = absurd cc
 follows_served service command.Client words short served = absurd cc
 follows_served service command.Quit words short served = absurd cc
 
-follows_command : (service : Service) (found : Option Command) (words : List (List ℕ)) → service.serves ≡ replay_serves → AllByRecursion (λ word. length word ≤ 1048576) words → Follows service (answer_by service found words)
+follows_command : (service : Service) (found : Option Command) (words : List (List ℕ)) → service.serves ≡ replay_serves
+    → AllByRecursion (λ word. length word ≤ 1048576) words → Follows service (answer_by service found words)
 follows_command service None words serves short = follows_error service kind.Unknown refl
 follows_command service (Some command) words serves short =
-    elim (service.serves command) as (λ b. service.serves command ≡ b → Follows service (if b then command_answer service command words else refused service kind.Unknown)) [
+    elim (service.serves command) as (λ b. service.serves command ≡ b
+    → Follows service (if b then command_answer service command words else refused service kind.Unknown)) [
       | true ↦ λ e. follows_served service command words short (sym (ap (λ (f : Command → Bool). f command) serves) ∙ e)
       | false ↦ λ e. follows_error service kind.Unknown refl
     ] refl
 
-pub follows : (service : Service) (words : List (List ℕ)) → service.serves ≡ replay_serves → AllByRecursion (λ word. length word ≤ 1048576) words → Follows service (answer service words)
+pub follows : (service : Service) (words : List (List ℕ)) → service.serves ≡ replay_serves
+    → AllByRecursion (λ word. length word ≤ 1048576) words → Follows service (answer service words)
 follows service words serves short = follows_command service (command_in words) words serves short

@@ -43,20 +43,25 @@ lead_append old mid new (entry ∷ front) back before after =
     (before.0, (before.1.0, lead_append before.0 mid new front back before.1.1 after))
 
 -- what is served stays so behind a request
-serves_behind : (kept : BookState) (words : List (List ℕ)) → kept.service.serves ≡ replay_serves → IsServable words → (kept_after kept words).service.serves ≡ replay_serves
+serves_behind : (kept : BookState) (words : List (List ℕ)) → kept.service.serves ≡ replay_serves → IsServable words
+    → (kept_after kept words).service.serves ≡ replay_serves
 serves_behind kept words serves servable = (follows kept.service words serves servable.short).serves ∙ serves
 
-lead_call : (kept : BookState) (words : List (List ℕ)) → kept.service.serves ≡ replay_serves → IsServable words → EntryLeads (moment_of kept) (Call 0 words (reply_to kept words)) (moment_of (kept_after kept words))
+lead_call : (kept : BookState) (words : List (List ℕ)) → kept.service.serves ≡ replay_serves → IsServable words
+    → EntryLeads (moment_of kept) (Call 0 words (reply_to kept words)) (moment_of (kept_after kept words))
 lead_call kept words serves servable = (inl refl, (follows kept.service words serves servable.short).live, refl)
 
-pub lead_calls : (kept : BookState) (requests : List (List (List ℕ))) → kept.service.serves ≡ replay_serves → AllByRecursion IsServable requests → LeadAlong (moment_of kept) (calls_from kept requests) (moment_of (kept_behind kept requests))
+pub lead_calls : (kept : BookState) (requests : List (List (List ℕ))) → kept.service.serves ≡ replay_serves
+    → AllByRecursion IsServable requests → LeadAlong (moment_of kept) (calls_from kept requests) (moment_of (kept_behind kept requests))
 lead_calls kept [] serves servable = refl
 lead_calls kept (words ∷ requests) serves servable =
-    (moment_of (kept_after kept words), (lead_call kept words serves servable.0, lead_calls (kept_after kept words) requests (serves_behind kept words serves servable.0) servable.1))
+    (moment_of (kept_after kept words), (lead_call kept words serves servable.0, lead_calls (kept_after kept words) requests
+    (serves_behind kept words serves servable.0) servable.1))
 
 -- ---- what the calls say
 
-no_refusals : (kept : BookState) (requests : List (List (List ℕ))) → kept.service.serves ≡ replay_serves → AllByRecursion IsServable requests
+no_refusals : (kept : BookState) (requests : List (List (List ℕ))) → kept.service.serves ≡ replay_serves
+    → AllByRecursion IsServable requests
     → refusals (calls_from kept requests) ≡ 0
 no_refusals kept [] serves servable = refl
 no_refusals kept (words ∷ requests) serves servable =
@@ -108,7 +113,8 @@ forks_more history more None has = tt
 forks_more history more (Some snapshot) has = fork_more history more snapshot has
 
 -- a reply that starts a snapshot
-new_fork : (before : List Entry) (kept : BookState) (words : List (List ℕ)) (number : ℕ) → kept.service.serves ≡ replay_serves → IsServable words → reply_to kept words ≡ reply.Started number
+new_fork : (before : List Entry) (kept : BookState) (words : List (List ℕ)) (number : ℕ) → kept.service.serves ≡ replay_serves
+    → IsServable words → reply_to kept words ≡ reply.Started number
     → LeadAlong replay_opening (before ++ Call 0 words (reply_to kept words) ∷ []) (moment_of (kept_after kept words))
     → HasFork (before ++ Call 0 words (reply_to kept words) ∷ []) (record { number = number; pairs = entries kept.service.pairs })
 new_fork before kept words number serves servable is lead = record {
@@ -142,7 +148,8 @@ fork_on before kept words serves servable lead has (reply.Number value) is = for
 fork_on before kept words serves servable lead has (reply.Bulk bytes) is = forks_more before _ kept.snapshot has
 fork_on before kept words serves servable lead has (reply.Error kind) is = forks_more before _ kept.snapshot has
 
-forks : (kept : BookState) (requests : List (List (List ℕ))) (before : List Entry) → kept.service.serves ≡ replay_serves → AllByRecursion IsServable requests
+forks : (kept : BookState) (requests : List (List (List ℕ))) (before : List Entry) → kept.service.serves ≡ replay_serves
+    → AllByRecursion IsServable requests
     → LeadAlong replay_opening before (moment_of kept) → IfSome kept.snapshot (HasFork before)
     → IfSome (kept_behind kept requests).snapshot (HasFork (before ++ calls_from kept requests))
 forks kept [] before serves servable lead has = subst (λ history. IfSome kept.snapshot (HasFork history)) (sym (append-nil before)) has
@@ -150,8 +157,10 @@ forks kept (words ∷ requests) before serves servable lead has =
     let call : Entry = Call 0 words (reply_to kept words) in
     let next : BookState = kept_after kept words in
     let leads : LeadAlong replay_opening (before ++ call ∷ []) (moment_of next) =
-    lead_append replay_opening (moment_of kept) (moment_of next) before (call ∷ []) lead (moment_of next, (lead_call kept words serves servable.0, refl)) in
-    let has_next : IfSome next.snapshot (HasFork (before ++ call ∷ [])) = fork_on before kept words serves servable.0 leads has (reply_to kept words) refl in
+    lead_append replay_opening (moment_of kept) (moment_of next) before (call ∷ []) lead (moment_of next,
+    (lead_call kept words serves servable.0, refl)) in
+    let has_next : IfSome next.snapshot (HasFork (before ++ call ∷ [])) = fork_on before kept words serves servable.0 leads has
+    (reply_to kept words) refl in
     subst (λ history. IfSome (kept_behind next requests).snapshot (HasFork history)) (append_assoc before (call ∷ []) (calls_from next requests))
     (forks next requests (before ++ call ∷ []) (serves_behind kept words serves servable.0) servable.1 leads has_next)
 
@@ -291,7 +300,8 @@ history_saved requests end servable lives = record {
     no_call = refl;
   };
   legal = (_, lead_saved requests end servable lives);
-  granted = omega (arith, refusals_append (calls_from opening_kept requests) (saving_of end), no_refusals opening_kept requests refl servable);
+  granted = omega (arith, refusals_append (calls_from opening_kept requests)
+  (saving_of end), no_refusals opening_kept requests refl servable);
   asked = ap requests_asked (calls_saved requests end) ∙ requests_calls opening_kept requests;
 }
 
@@ -370,7 +380,8 @@ pub record Lives (requests : List (List (List ℕ))) (snapshot : Snapshot) : Typ
 served_saved : (outside : Outside) (requests : List (List (List ℕ))) (snapshot : Snapshot) (end : Saved) → Lives requests snapshot → SavedSo snapshot end outside → Served outside requests (saved_history requests (snapshot.number, end))
 served_saved outside requests snapshot end lives so =
     let fork : HasFork (calls_from opening_kept requests) snapshot =
-    subst (λ s. IfSome s (HasFork (calls_from opening_kept requests))) lives.kept (forks opening_kept requests [] refl lives.servable refl tt) in
+    subst (λ s. IfSome s (HasFork (calls_from opening_kept requests))) lives.kept
+    (forks opening_kept requests [] refl lives.servable refl tt) in
     let fork_saved : HasFork (saved_history requests (snapshot.number, end)) snapshot =
     fork_more (calls_from opening_kept requests) (saving_of (snapshot.number, end)) snapshot fork in
     record {

@@ -31,32 +31,39 @@ serving_all pairs live last limit = record { pairs = pairs; live = live; last = 
 unknown : (service : Service) → answer service (codes "PONG" ∷ []) ≡ refused service kind.Unknown
 unknown service = refl
 
-unserved : (pairs : Pairs) → (serving : Service) → serving ≡ record (serving_all pairs [] 0 1) { serves = λ command. false } → answer serving (codes "PING" ∷ []) ≡ refused serving kind.Unknown
+unserved : (pairs : Pairs) → (serving : Service) → serving ≡ record (serving_all pairs [] 0 1) { serves = λ command. false }
+    → answer serving (codes "PING" ∷ []) ≡ refused serving kind.Unknown
 unserved pairs serving is = rw is refl
 
 -- a word too few, and a word too many; the name is looked at before the number of words
-few_words : (pairs : Pairs) → answer (serving_all pairs [] 0 1) (codes "SET" ∷ codes "k" ∷ []) ≡ refused (serving_all pairs [] 0 1) kind.Arity
+few_words : (pairs : Pairs) → answer (serving_all pairs [] 0 1) (codes "SET" ∷ codes "k" ∷ [])
+    ≡ refused (serving_all pairs [] 0 1) kind.Arity
 few_words pairs = refl
 
-many_words : (pairs : Pairs) → answer (serving_all pairs [] 0 1) (codes "quit" ∷ codes "now" ∷ []) ≡ refused (serving_all pairs [] 0 1) kind.Arity
+many_words : (pairs : Pairs) → answer (serving_all pairs [] 0 1) (codes "quit" ∷ codes "now" ∷ [])
+    ≡ refused (serving_all pairs [] 0 1) kind.Arity
 many_words pairs = refl
 
 -- PING with a word, and an index that is not there
-ping_word : (pairs : Pairs) → answer (serving_all pairs [] 0 1) (codes "Ping" ∷ codes "x" ∷ []) ≡ (reply.Bulk (codes "x"), serving_all pairs [] 0 1)
+ping_word : (pairs : Pairs) → answer (serving_all pairs [] 0 1) (codes "Ping" ∷ codes "x" ∷ [])
+    ≡ (reply.Bulk (codes "x"), serving_all pairs [] 0 1)
 ping_word pairs = refl
 
-other_index : (pairs : Pairs) → answer (serving_all pairs [] 0 1) (codes "SELECT" ∷ codes "1" ∷ []) ≡ refused (serving_all pairs [] 0 1) kind.BadIndex
+other_index : (pairs : Pairs) → answer (serving_all pairs [] 0 1) (codes "SELECT" ∷ codes "1" ∷ [])
+    ≡ refused (serving_all pairs [] 0 1) kind.BadIndex
 other_index pairs = refl
 
 -- a save is started where none lives, and not where as many live as may
 first_save : (pairs : Pairs) → answer (serving_all pairs [] 0 1) (codes "BGSAVE" ∷ []) ≡ (reply.Started 1, serving_all pairs (1 ∷ []) 1 1)
 first_save pairs = refl
 
-second_save : (pairs : Pairs) → answer (serving_all pairs (1 ∷ []) 1 1) (codes "BGSAVE" ∷ []) ≡ refused (serving_all pairs (1 ∷ []) 1 1) kind.InProgress
+second_save : (pairs : Pairs) → answer (serving_all pairs (1 ∷ []) 1 1) (codes "BGSAVE" ∷ [])
+    ≡ refused (serving_all pairs (1 ∷ []) 1 1) kind.InProgress
 second_save pairs = refl
 
 -- no number is left, which is told only where one more snapshot may live
-spent : (pairs : Pairs) → answer (serving_all pairs [] 4294967295 1) (codes "BGSAVE" ∷ []) ≡ refused (serving_all pairs [] 4294967295 1) kind.Spent
+spent : (pairs : Pairs) → answer (serving_all pairs [] 4294967295 1) (codes "BGSAVE" ∷ [])
+    ≡ refused (serving_all pairs [] 4294967295 1) kind.Spent
 spent pairs = refl
 
 -- a frame that is refused is told in place of no error, and only by a command that wants frames

@@ -1,4 +1,4 @@
--- The table of the commands: each with its name, its number of words, which of them are keys, and what it wants frames for.
+-- The table of the commands: names, numbers of words, keys, and what frames are wanted for.
 use Rattle.std.specs.Prelude.{ℕ, Bool, nat_lt, not, List, [], ◌∷◌, length, slice_index_or, codes, Option, Some, None, if◌then◌else◌}
 use Rattle.std.specs.Str.{str_eq_ignore_ascii_case}
 use Rattle.std.specs.List.{find, list_any}
@@ -16,29 +16,29 @@ abbrev pub commands : List Command
 commands =
     command.Ping ∷ command.Echo ∷ command.Set ∷ command.Get ∷ command.Del ∷ command.Exists
     ∷ command.StrLen ∷ command.Append ∷ command.Incr ∷ command.Decr ∷ command.DbSize
-    ∷ command.FlushAll ∷ command.BgSave ∷ command.Info ∷ command.CommandList ∷ command.Select
-    ∷ command.Client ∷ command.Quit ∷ []
+    ∷ command.FlushAll ∷ command.BgSave ∷ command.Info ∷ command.CommandList
+    ∷ command.Select ∷ command.Client ∷ command.Quit ∷ []
 
--- the name of a command, in small letters
+-- the name of a command, in capital letters
 abbrev pub name_of : Command → List ℕ
-name_of command.Ping = codes "ping"
-name_of command.Echo = codes "echo"
-name_of command.Set = codes "set"
-name_of command.Get = codes "get"
-name_of command.Del = codes "del"
-name_of command.Exists = codes "exists"
-name_of command.StrLen = codes "strlen"
-name_of command.Append = codes "append"
-name_of command.Incr = codes "incr"
-name_of command.Decr = codes "decr"
-name_of command.DbSize = codes "dbsize"
-name_of command.FlushAll = codes "flushall"
-name_of command.BgSave = codes "bgsave"
-name_of command.Info = codes "info"
-name_of command.CommandList = codes "command"
-name_of command.Select = codes "select"
-name_of command.Client = codes "client"
-name_of command.Quit = codes "quit"
+name_of command.Ping = codes "PING"
+name_of command.Echo = codes "ECHO"
+name_of command.Set = codes "SET"
+name_of command.Get = codes "GET"
+name_of command.Del = codes "DEL"
+name_of command.Exists = codes "EXISTS"
+name_of command.StrLen = codes "STRLEN"
+name_of command.Append = codes "APPEND"
+name_of command.Incr = codes "INCR"
+name_of command.Decr = codes "DECR"
+name_of command.DbSize = codes "DBSIZE"
+name_of command.FlushAll = codes "FLUSHALL"
+name_of command.BgSave = codes "BGSAVE"
+name_of command.Info = codes "INFO"
+name_of command.CommandList = codes "COMMAND"
+name_of command.Select = codes "SELECT"
+name_of command.Client = codes "CLIENT"
+name_of command.Quit = codes "QUIT"
 
 -- how many words a command has, which of them are keys, and what it wants frames for
 abbrev pub shape_of : Command → Shape

@@ -1,4 +1,4 @@
--- Numbers of 64 bits that are kept as text: digits without a leading zero, and a sign where one is below zero.
+-- Numbers of 64 bits as text: digits without a leading zero, and a sign for one below zero.
 use Rattle.std.specs.Prelude.{ℕ, ◌+◌, ◌-◌, ◌*◌, ◌^◌, nat_le, nat_lt, ◌==◌, not, ◌&&◌, ◌||◌, Bool, false, ℤ, pos, neg_ℤ, int_le, List, [], ◌∷◌, length, fold, Option, Some, None, if◌then◌else◌}
 use Rattle.std.specs.List.{list_all}
 

@@ -5,7 +5,7 @@ use Rattle.service_meaning.specs.declared.shape.Keys.TheVariants as keys
 use Rattle.service_meaning.specs.declared.shape.Frames.{Frames}
 use Rattle.service_meaning.specs.declared.shape.Shape.{Shape}
 
--- a line of the table: the least number of words, the name counted, the most where any more may not come, the keys, and what frames are wanted for
+-- a line of the table: least and most number of words, keys, and what frames are wanted for
 abbrev pub shape : ℕ → Option ℕ → Keys → Frames → Shape
 shape least most keys frames = record { least = least; most = most; keys = keys; frames = frames }
 

@@ -70,29 +70,29 @@ impl Command {
         name.eq_ignore_ascii_case(self.name())
     }
 
-    /// The name, in small letters.
+    /// The name, in capital letters.
     pub fn name(self) -> &'static [u8]
         ensures { result.now ≡ name_of self }
     {
         match self {
-            Command::Ping => b"ping",
-            Command::Echo => b"echo",
-            Command::Set => b"set",
-            Command::Get => b"get",
-            Command::Del => b"del",
-            Command::Exists => b"exists",
-            Command::StrLen => b"strlen",
-            Command::Append => b"append",
-            Command::Incr => b"incr",
-            Command::Decr => b"decr",
-            Command::DbSize => b"dbsize",
-            Command::FlushAll => b"flushall",
-            Command::BgSave => b"bgsave",
-            Command::Info => b"info",
-            Command::CommandList => b"command",
-            Command::Select => b"select",
-            Command::Client => b"client",
-            Command::Quit => b"quit",
+            Command::Ping => b"PING",
+            Command::Echo => b"ECHO",
+            Command::Set => b"SET",
+            Command::Get => b"GET",
+            Command::Del => b"DEL",
+            Command::Exists => b"EXISTS",
+            Command::StrLen => b"STRLEN",
+            Command::Append => b"APPEND",
+            Command::Incr => b"INCR",
+            Command::Decr => b"DECR",
+            Command::DbSize => b"DBSIZE",
+            Command::FlushAll => b"FLUSHALL",
+            Command::BgSave => b"BGSAVE",
+            Command::Info => b"INFO",
+            Command::CommandList => b"COMMAND",
+            Command::Select => b"SELECT",
+            Command::Client => b"CLIENT",
+            Command::Quit => b"QUIT",
         }
     }
 

@@ -7,6 +7,7 @@ use Rattle.service_meaning.proofs.command.named_among.Goals as goal
 
 pub loop-command-preserved : goal.loop-command-preserved
 loop-command-preserved c =
-    find_on (λ given. str_eq_ignore_ascii_case c.args.name.now (name_of given)) c.args.commands.now c.loop-command.command-index _ c.loop-command-test.true
+    find_on (λ given. str_eq_ignore_ascii_case c.args.name.now
+    (name_of given)) c.args.commands.now c.loop-command.command-index _ c.loop-command-test.true
     (sym c.is_named.ensures ∙ c.if-is_named.false)
     ∙ c.loop-command.invariant
