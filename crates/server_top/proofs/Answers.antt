@@ -1,34 +1,35 @@
 -- What the machine's answers have in common, whatever the request.
-use Rattle.std.proofs.Common.{◌≡◌, ℕ, ◌+◌, ◌-◌, ◌^◌, ◌≤◌, ◌<◌, Bool, true, false, cond, List, [], ◌∷◌, ◌++◌, length, drop, Option, Some, None, refl, sym, ◌∙◌, ap, subst, arith}
-use Rattle.std.specs.Prelude.{if◌then◌else◌, nat_le}
+use Rattle.std.proofs.Common.{◌≡◌, ℕ, ◌+◌, ◌-◌, ◌^◌, ◌≤◌, ◌<◌, Bool, true, false, cond, List, [], ◌∷◌, ◌++◌, length, Option, Some, None, refl, sym, ◌∙◌, ap, subst, arith}
+use Rattle.std.specs.Prelude.{if◌then◌else◌, nat_le, not, ◌&&◌, ◌||◌}
 use Rattle.std.specs.List.{AllByRecursion}
 use Rattle.std.specs.Cmp.Lexicographic.{nat_list_cmp_total}
 use Rattle.std.specs.declared.cmp.Ordering.TheVariants.{Less, Equal, Greater}
 use Rattle.std.specs.FinMap.{entries, get, insert, len, put, entries-insert, len-insert, contains_key}
 use Rattle.std.specs.FinMap.Entries.{by_order}
-use Rattle.std.proofs.lemmas.Bool.{ltb-false}
+use Rattle.std.proofs.lemmas.Bool.{ltb-false, lt-leb}
 use Rattle.std.proofs.lemmas.List.{append-nil}
 use Rattle.resp_text.specs.declared.reply.Reply.{Reply}
 use Rattle.resp_text.specs.declared.reply.Reply.TheVariants as reply
 use Rattle.resp_text.specs.declared.reply.ErrorKind.TheVariants as kind
 use Rattle.image_text.specs.Image.{bytes_cmp, FitsImage}
-use Rattle.service_meaning.specs.Commands.{Command, SetPair, GetValue, StartSave, command_of, is_long}
-use Rattle.service_meaning.specs.MapMachine.{Service, ServiceAnswer, refused, value_reply, answer, command_answer, set_answer, get_answer, save_answer, with_snapshot}
+use Rattle.resp_text.specs.declared.reply.ErrorKind.{ErrorKind}
+use Rattle.service_meaning.specs.declared.command.Command.{Command}
+use Rattle.service_meaning.specs.declared.command.Command.TheVariants as command
+use Rattle.service_meaning.specs.Commands.{command_in, has_long_key, is_long, shape_of}
+use Rattle.service_meaning.specs.Shapes.{has_words, is_at_most}
+use Rattle.service_meaning.specs.MapMachine.{Service, ServiceAnswer, refused, value_reply, answer, answer_by, command_answer, checked_answer, save_answer, with_snapshot}
 use Rattle.service_meaning.specs.History.{Call, started, is_refusal}
-
--- a request with a word behind BGSAVE
-pub save_arity : (service : Service) (words : List (List ℕ)) → 0 < length words → (length words ≡ 1 → ⊥) → save_answer service (drop 1 words) ≡ refused service kind.Arity
-save_arity service [] some other = absurd (omega arith)
-save_arity service (word ∷ []) some other = absurd (other refl)
-save_arity service (word ∷ more ∷ words) some other = refl
+use Rattle.server_top.specs.ReplayPromise.{replay_serves}
 
 -- what holds of each answer: a snapshot that is started lives behind the others, no frame is refused, a fork leaves the pairs, and at most one pair comes, which fits an image where the others do
+-- the same commands are served
 pub record Follows (service : Service) (given : ServiceAnswer) : Type 0 where
   pub live : given.1.live ≡ service.live ++ started given.0
   pub granted : (caller : ℕ) (words : List (List ℕ)) → is_refusal (Call caller words given.0) ≡ false
   pub forked : (number : ℕ) → given.0 ≡ reply.Started number → given.1.pairs ≡ service.pairs
   pub few : len given.1.pairs ≤ len service.pairs + 1
   pub each : AllByRecursion FitsImage (entries service.pairs) → AllByRecursion FitsImage (entries given.1.pairs)
+  pub serves : given.1.serves ≡ service.serves
 
 -- a reply that changes nothing
 same : (service : Service) (given : Reply) → started given ≡ [] → ((caller : ℕ) (words : List (List ℕ)) → is_refusal (Call caller words given) ≡ false) → Follows service (given, service)
@@ -38,6 +39,7 @@ same service given none granted = record {
   forked = λ number e. refl;
   few = omega arith;
   each = λ all. all;
+  serves = refl;
 }
 
 -- a pair that fits is put among pairs that fit
@@ -62,30 +64,61 @@ with_pair service key value k v = record {
   forked = λ number e. absurd cc;
   few = one_more (contains_key service.pairs key) (len service.pairs) _ (len-insert nat_list_cmp_total service.pairs key value);
   each = λ all. subst (AllByRecursion FitsImage) (sym (entries-insert nat_list_cmp_total service.pairs key value)) (fits_put key value (entries service.pairs) k v all);
+  serves = refl;
 }
 
-follows_set : (service : Service) (operands : List (List ℕ)) → AllByRecursion (λ word. length word ≤ 1048576) operands → Follows service (set_answer service operands)
-follows_set service [] short = same service (reply.Error kind.Arity) refl (λ caller words. refl)
-follows_set service (key ∷ []) short = same service (reply.Error kind.Arity) refl (λ caller words. refl)
-follows_set service (key ∷ value ∷ []) short =
-    elim (is_long key) as (λ b. is_long key ≡ b → Follows service (if b then refused service kind.LongKey else (reply.Ok, record service { pairs = insert service.pairs key value }))) [
-      | true ↦ λ e. same service (reply.Error kind.LongKey) refl (λ caller words. refl)
-      | false ↦ λ e. with_pair service key value (ltb-false _ _ e) short.1.0
+follows_error : (service : Service) (kind : ErrorKind) → is_refusal (Call 0 [] (reply.Error kind)) ≡ false
+    → Follows service (refused service kind)
+follows_error service kind granted = same service (reply.Error kind) refl (λ caller words. granted)
+
+-- a number of words that the command does not have
+past_both : (a b : Bool) → ◌≡◌ {A = Bool} b false → ◌≡◌ {A = Bool} (a && b) false
+past_both true b past = past
+past_both false b past = refl
+
+follows_arity : (service : Service) (given : Command) (words : List (List ℕ)) → has_words (shape_of given) (length words) ≡ false
+    → Follows service (command_answer service given words)
+follows_arity service given words other =
+    subst (λ b. Follows service (checked_answer service given words
+    (if not b then Some kind.Arity else if has_long_key given words then Some kind.LongKey else None))) (sym other)
+    (follows_error service kind.Arity refl)
+
+-- one most number of words, and more of them
+many_words : (service : Service) (given : Command) (most : ℕ) (words : List (List ℕ)) → (shape_of given).most ≡ Some most
+    → most < length words → Follows service (command_answer service given words)
+many_words service given most words is more =
+    follows_arity service given words (past_both (nat_le (shape_of given).least (length words)) (is_at_most (shape_of given).most
+    (length words))
+    (ap (λ (o : Option ℕ). is_at_most o (length words)) is ∙ lt-leb (length words) most more))
+
+follows_set : (service : Service) (words : List (List ℕ)) → AllByRecursion (λ word. length word ≤ 1048576) words
+    → Follows service (command_answer service command.Set words)
+follows_set service [] short = follows_error service kind.Arity refl
+follows_set service (name ∷ []) short = follows_error service kind.Arity refl
+follows_set service (name ∷ key ∷ []) short = follows_error service kind.Arity refl
+follows_set service (name ∷ key ∷ value ∷ []) short =
+    elim (is_long key) as (λ b. is_long key ≡ b
+    → Follows service (checked_answer service command.Set (name ∷ key ∷ value ∷ []) (if b || false then Some kind.LongKey else None))) [
+      | true ↦ λ e. follows_error service kind.LongKey refl
+      | false ↦ λ e. with_pair service key value (ltb-false _ _ e) short.1.1.0
     ] refl
-follows_set service (key ∷ value ∷ more ∷ operands) short = same service (reply.Error kind.Arity) refl (λ caller words. refl)
+follows_set service (name ∷ key ∷ value ∷ more ∷ words) short = many_words service command.Set 3
+    (name ∷ key ∷ value ∷ more ∷ words) refl (omega arith)
 
 follows_value : (service : Service) (found : Option (List ℕ)) → Follows service (value_reply found, service)
 follows_value service None = same service reply.Null refl (λ caller words. refl)
 follows_value service (Some value) = same service (reply.Bulk value) refl (λ caller words. refl)
 
-follows_get : (service : Service) (operands : List (List ℕ)) → Follows service (get_answer service operands)
-follows_get service [] = same service (reply.Error kind.Arity) refl (λ caller words. refl)
-follows_get service (key ∷ []) =
-    elim (is_long key) as (λ b. Follows service (if b then refused service kind.LongKey else (value_reply (get service.pairs key), service))) [
-      | true ↦ same service (reply.Error kind.LongKey) refl (λ caller words. refl)
+follows_get : (service : Service) (words : List (List ℕ)) → Follows service (command_answer service command.Get words)
+follows_get service [] = follows_error service kind.Arity refl
+follows_get service (name ∷ []) = follows_error service kind.Arity refl
+follows_get service (name ∷ key ∷ []) =
+    elim (is_long key) as (λ b. Follows service (checked_answer service command.Get (name ∷ key ∷ [])
+    (if b || false then Some kind.LongKey else None))) [
+      | true ↦ follows_error service kind.LongKey refl
       | false ↦ follows_value service (get service.pairs key)
     ]
-follows_get service (key ∷ more ∷ operands) = same service (reply.Error kind.Arity) refl (λ caller words. refl)
+follows_get service (name ∷ key ∷ more ∷ words) = many_words service command.Get 2 (name ∷ key ∷ more ∷ words) refl (omega arith)
 
 with_fork : (service : Service) → Follows service (reply.Started (service.last + 1), with_snapshot service)
 with_fork service = record {
@@ -94,25 +127,57 @@ with_fork service = record {
   forked = λ number e. refl;
   few = omega arith;
   each = λ all. all;
+  serves = refl;
 }
 
-follows_save : (service : Service) (operands : List (List ℕ)) → Follows service (save_answer service operands)
-follows_save service [] =
+follows_start : (service : Service) → Follows service (save_answer service)
+follows_start service =
     elim (nat_le service.limit (length service.live)) as (λ b. Follows service (if b then refused service kind.InProgress else if nat_le (2 ^ 32 - 1) service.last then refused service kind.Spent else (reply.Started (service.last + 1), with_snapshot service))) [
-      | true ↦ same service (reply.Error kind.InProgress) refl (λ caller words. refl)
+      | true ↦ follows_error service kind.InProgress refl
       | false ↦ elim (nat_le (2 ^ 32 - 1) service.last) as (λ b. Follows service (if b then refused service kind.Spent else (reply.Started (service.last + 1), with_snapshot service))) [
-        | true ↦ same service (reply.Error kind.Spent) refl (λ caller words. refl)
+        | true ↦ follows_error service kind.Spent refl
         | false ↦ with_fork service
       ]
     ]
-follows_save service (more ∷ operands) = same service (reply.Error kind.Arity) refl (λ caller words. refl)
 
-follows_command : (service : Service) (command : Option Command) (operands : List (List ℕ)) → AllByRecursion (λ word. length word ≤ 1048576) operands → Follows service (command_answer service command operands)
-follows_command service None operands short = same service (reply.Error kind.Unknown) refl (λ caller words. refl)
-follows_command service (Some SetPair) operands short = follows_set service operands short
-follows_command service (Some GetValue) operands short = follows_get service operands
-follows_command service (Some StartSave) operands short = follows_save service operands
+follows_save : (service : Service) (words : List (List ℕ)) → Follows service (command_answer service command.BgSave words)
+follows_save service [] = follows_error service kind.Arity refl
+follows_save service (name ∷ []) = follows_start service
+follows_save service (name ∷ more ∷ words) = many_words service command.BgSave 1 (name ∷ more ∷ words) refl (omega arith)
 
-pub follows : (service : Service) (words : List (List ℕ)) → AllByRecursion (λ word. length word ≤ 1048576) words → Follows service (answer service words)
-follows service [] short = same service (reply.Error kind.Unknown) refl (λ caller words. refl)
-follows service (name ∷ operands) short = follows_command service (command_of name) operands short.1
+-- only what is served answers otherwise than that the name is unknown
+follows_served : (service : Service) (command : Command) (words : List (List ℕ))
+    → AllByRecursion (λ word. length word ≤ 1048576) words → replay_serves command ≡ true
+    → Follows service (command_answer service command words)
+follows_served service command.Set words short served = follows_set service words short
+follows_served service command.Get words short served = follows_get service words
+follows_served service command.BgSave words short served = follows_save service words
+follows_served service command.Ping words short served = absurd cc
+follows_served service command.Echo words short served = absurd cc
+follows_served service command.Del words short served = absurd cc
+follows_served service command.Exists words short served = absurd cc
+follows_served service command.StrLen words short served = absurd cc
+follows_served service command.Append words short served = absurd cc
+follows_served service command.Incr words short served = absurd cc
+follows_served service command.Decr words short served = absurd cc
+follows_served service command.DbSize words short served = absurd cc
+follows_served service command.FlushAll words short served = absurd cc
+follows_served service command.Info words short served = absurd cc
+follows_served service command.CommandList words short served = absurd cc
+follows_served service command.Select words short served = absurd cc
+follows_served service command.Client words short served = absurd cc
+follows_served service command.Quit words short served = absurd cc
+
+follows_command : (service : Service) (found : Option Command) (words : List (List ℕ)) → service.serves ≡ replay_serves
+    → AllByRecursion (λ word. length word ≤ 1048576) words → Follows service (answer_by service found words)
+follows_command service None words serves short = follows_error service kind.Unknown refl
+follows_command service (Some command) words serves short =
+    elim (service.serves command) as (λ b. service.serves command ≡ b
+    → Follows service (if b then command_answer service command words else refused service kind.Unknown)) [
+      | true ↦ λ e. follows_served service command words short (sym (ap (λ (f : Command → Bool). f command) serves) ∙ e)
+      | false ↦ λ e. follows_error service kind.Unknown refl
+    ] refl
+
+pub follows : (service : Service) (words : List (List ℕ)) → service.serves ≡ replay_serves
+    → AllByRecursion (λ word. length word ≤ 1048576) words → Follows service (answer service words)
+follows service words serves short = follows_command service (command_in words) words serves short

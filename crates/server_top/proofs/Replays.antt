@@ -21,7 +21,7 @@ use Rattle.service_meaning.specs.SessionText.{requests_asked, replies_text}
 use Rattle.service_meaning.specs.SaveEnd.{report_line, report_text, file_name, ArePairsCounted, FileOf, FilesOf, faults_of, refused_saves}
 use Rattle.server_top.specs.declared.replay.book.Book.{Book}
 use Rattle.server_top.specs.declared.replay.book.Snapshot.{Snapshot}
-use Rattle.server_top.specs.ReplayPromise.{Outside, HasEnded, IsHistoryOf, Published, Served, ServedAll, ServedSome, replay_opening, sent_text}
+use Rattle.server_top.specs.ReplayPromise.{Outside, HasEnded, IsHistoryOf, Published, Served, ServedAll, ServedSome, replay_opening, replay_serves, sent_text}
 use Rattle.server_top.specs.ReplayRun.{AreStorable, BookState, IsServable, Saves, SavedSo, calls_from, book_state, snapshot_number, started_snapshot, kept_after, kept_behind, replies_from, reply_to}
 use Rattle.server_top.proofs.Answers.{follows}
 use Rattle.server_top.proofs.StoredPairs.{entries-empty}
@@ -42,23 +42,32 @@ lead_append old mid new [] back before after = subst (λ m. LeadAlong m back new
 lead_append old mid new (entry ∷ front) back before after =
     (before.0, (before.1.0, lead_append before.0 mid new front back before.1.1 after))
 
-lead_call : (kept : BookState) (words : List (List ℕ)) → IsServable words → EntryLeads (moment_of kept) (Call 0 words (reply_to kept words)) (moment_of (kept_after kept words))
-lead_call kept words servable = (inl refl, (follows kept.service words servable.short).live, refl)
+-- what is served stays so behind a request
+serves_behind : (kept : BookState) (words : List (List ℕ)) → kept.service.serves ≡ replay_serves → IsServable words
+    → (kept_after kept words).service.serves ≡ replay_serves
+serves_behind kept words serves servable = (follows kept.service words serves servable.short).serves ∙ serves
 
-pub lead_calls : (kept : BookState) (requests : List (List (List ℕ))) → AllByRecursion IsServable requests → LeadAlong (moment_of kept) (calls_from kept requests) (moment_of (kept_behind kept requests))
-lead_calls kept [] servable = refl
-lead_calls kept (words ∷ requests) servable =
-    (moment_of (kept_after kept words), (lead_call kept words servable.0, lead_calls (kept_after kept words) requests servable.1))
+lead_call : (kept : BookState) (words : List (List ℕ)) → kept.service.serves ≡ replay_serves → IsServable words
+    → EntryLeads (moment_of kept) (Call 0 words (reply_to kept words)) (moment_of (kept_after kept words))
+lead_call kept words serves servable = (inl refl, (follows kept.service words serves servable.short).live, refl)
+
+pub lead_calls : (kept : BookState) (requests : List (List (List ℕ))) → kept.service.serves ≡ replay_serves
+    → AllByRecursion IsServable requests → LeadAlong (moment_of kept) (calls_from kept requests) (moment_of (kept_behind kept requests))
+lead_calls kept [] serves servable = refl
+lead_calls kept (words ∷ requests) serves servable =
+    (moment_of (kept_after kept words), (lead_call kept words serves servable.0, lead_calls (kept_after kept words) requests
+    (serves_behind kept words serves servable.0) servable.1))
 
 -- ---- what the calls say
 
-no_refusals : (kept : BookState) (requests : List (List (List ℕ))) → AllByRecursion IsServable requests
+no_refusals : (kept : BookState) (requests : List (List (List ℕ))) → kept.service.serves ≡ replay_serves
+    → AllByRecursion IsServable requests
     → refusals (calls_from kept requests) ≡ 0
-no_refusals kept [] servable = refl
-no_refusals kept (words ∷ requests) servable =
+no_refusals kept [] serves servable = refl
+no_refusals kept (words ∷ requests) serves servable =
     let here : ◌≡◌ {A = ℕ} (if is_refusal (Call 0 words (reply_to kept words)) then 1 else 0) 0 =
-    ap (λ b. if b then 1 else 0) ((follows kept.service words servable.0.short).granted 0 words) in
-    omega (arith, here, no_refusals (kept_after kept words) requests servable.1)
+    ap (λ b. if b then 1 else 0) ((follows kept.service words serves servable.0.short).granted 0 words) in
+    omega (arith, here, no_refusals (kept_after kept words) requests (serves_behind kept words serves servable.0) servable.1)
 
 requests_calls : (kept : BookState) (requests : List (List (List ℕ))) → requests_asked (calls_of (calls_from kept requests)) ≡ requests
 requests_calls kept [] = refl
@@ -104,10 +113,11 @@ forks_more history more None has = tt
 forks_more history more (Some snapshot) has = fork_more history more snapshot has
 
 -- a reply that starts a snapshot
-new_fork : (before : List Entry) (kept : BookState) (words : List (List ℕ)) (number : ℕ) → IsServable words → reply_to kept words ≡ reply.Started number
+new_fork : (before : List Entry) (kept : BookState) (words : List (List ℕ)) (number : ℕ) → kept.service.serves ≡ replay_serves
+    → IsServable words → reply_to kept words ≡ reply.Started number
     → LeadAlong replay_opening (before ++ Call 0 words (reply_to kept words) ∷ []) (moment_of (kept_after kept words))
     → HasFork (before ++ Call 0 words (reply_to kept words) ∷ []) (record { number = number; pairs = entries kept.service.pairs })
-new_fork before kept words number servable is lead = record {
+new_fork before kept words number serves servable is lead = record {
   pairs = kept.service.pairs;
   forked = record {
     before = before;
@@ -117,39 +127,42 @@ new_fork before kept words number servable is lead = record {
     at = ap (λ given. before ++ Call 0 words given ∷ []) is ∙ sym (append-nil (before ++ Call 0 words (reply.Started number) ∷ []));
     moment = moment_of (kept_after kept words);
     leads = subst (λ given. LeadAlong replay_opening (before ++ Call 0 words given ∷ []) (moment_of (kept_after kept words))) is lead;
-    same = sym ((follows kept.service words servable.short).forked number is);
+    same = sym ((follows kept.service words serves servable.short).forked number is);
   };
   same = refl;
 }
 
 -- what one more call makes of the snapshot
-fork_on : (before : List Entry) (kept : BookState) (words : List (List ℕ)) → IsServable words
+fork_on : (before : List Entry) (kept : BookState) (words : List (List ℕ)) → kept.service.serves ≡ replay_serves → IsServable words
     → LeadAlong replay_opening (before ++ Call 0 words (reply_to kept words) ∷ []) (moment_of (kept_after kept words))
     → IfSome kept.snapshot (HasFork before)
     → (given : Reply) → reply_to kept words ≡ given
     → IfSome (option_or (started_snapshot given kept.service.pairs) kept.snapshot)
     (HasFork (before ++ Call 0 words (reply_to kept words) ∷ []))
-fork_on before kept words servable lead has reply.Ok is = forks_more before _ kept.snapshot has
-fork_on before kept words servable lead has reply.Pong is = forks_more before _ kept.snapshot has
-fork_on before kept words servable lead has (reply.Started number) is = new_fork before kept words number servable is lead
-fork_on before kept words servable lead has reply.Empty is = forks_more before _ kept.snapshot has
-fork_on before kept words servable lead has reply.Null is = forks_more before _ kept.snapshot has
-fork_on before kept words servable lead has (reply.Number value) is = forks_more before _ kept.snapshot has
-fork_on before kept words servable lead has (reply.Bulk bytes) is = forks_more before _ kept.snapshot has
-fork_on before kept words servable lead has (reply.Error kind) is = forks_more before _ kept.snapshot has
+fork_on before kept words serves servable lead has reply.Ok is = forks_more before _ kept.snapshot has
+fork_on before kept words serves servable lead has reply.Pong is = forks_more before _ kept.snapshot has
+fork_on before kept words serves servable lead has (reply.Started number) is = new_fork before kept words number serves servable is lead
+fork_on before kept words serves servable lead has reply.Empty is = forks_more before _ kept.snapshot has
+fork_on before kept words serves servable lead has reply.Null is = forks_more before _ kept.snapshot has
+fork_on before kept words serves servable lead has (reply.Number value) is = forks_more before _ kept.snapshot has
+fork_on before kept words serves servable lead has (reply.Bulk bytes) is = forks_more before _ kept.snapshot has
+fork_on before kept words serves servable lead has (reply.Error kind) is = forks_more before _ kept.snapshot has
 
-forks : (kept : BookState) (requests : List (List (List ℕ))) (before : List Entry) → AllByRecursion IsServable requests
+forks : (kept : BookState) (requests : List (List (List ℕ))) (before : List Entry) → kept.service.serves ≡ replay_serves
+    → AllByRecursion IsServable requests
     → LeadAlong replay_opening before (moment_of kept) → IfSome kept.snapshot (HasFork before)
     → IfSome (kept_behind kept requests).snapshot (HasFork (before ++ calls_from kept requests))
-forks kept [] before servable lead has = subst (λ history. IfSome kept.snapshot (HasFork history)) (sym (append-nil before)) has
-forks kept (words ∷ requests) before servable lead has =
+forks kept [] before serves servable lead has = subst (λ history. IfSome kept.snapshot (HasFork history)) (sym (append-nil before)) has
+forks kept (words ∷ requests) before serves servable lead has =
     let call : Entry = Call 0 words (reply_to kept words) in
     let next : BookState = kept_after kept words in
     let leads : LeadAlong replay_opening (before ++ call ∷ []) (moment_of next) =
-    lead_append replay_opening (moment_of kept) (moment_of next) before (call ∷ []) lead (moment_of next, (lead_call kept words servable.0, refl)) in
-    let has_next : IfSome next.snapshot (HasFork (before ++ call ∷ [])) = fork_on before kept words servable.0 leads has (reply_to kept words) refl in
+    lead_append replay_opening (moment_of kept) (moment_of next) before (call ∷ []) lead (moment_of next,
+    (lead_call kept words serves servable.0, refl)) in
+    let has_next : IfSome next.snapshot (HasFork (before ++ call ∷ [])) = fork_on before kept words serves servable.0 leads has
+    (reply_to kept words) refl in
     subst (λ history. IfSome (kept_behind next requests).snapshot (HasFork history)) (append_assoc before (call ∷ []) (calls_from next requests))
-    (forks next requests (before ++ call ∷ []) servable.1 leads has_next)
+    (forks next requests (before ++ call ∷ []) (serves_behind kept words serves servable.0) servable.1 leads has_next)
 
 -- ---- a session without a save
 
@@ -162,8 +175,8 @@ history_of_calls requests servable = record {
     no_end = ends_calls opening_kept requests;
     no_call = refl;
   };
-  legal = (moment_of (kept_behind opening_kept requests), lead_calls opening_kept requests servable);
-  granted = no_refusals opening_kept requests servable;
+  legal = (moment_of (kept_behind opening_kept requests), lead_calls opening_kept requests refl servable);
+  granted = no_refusals opening_kept requests refl servable;
   asked = requests_calls opening_kept requests;
 }
 
@@ -206,7 +219,7 @@ pub served_all_alone : (outside : Outside) (requests : List (List (List ℕ))) �
 served_all_alone outside requests servable leaves none sent = record {
   history = calls_from opening_kept requests;
   served = served_calls outside requests servable leaves;
-  ended = (moment_of (kept_behind opening_kept requests), (lead_calls opening_kept requests servable, none));
+  ended = (moment_of (kept_behind opening_kept requests), (lead_calls opening_kept requests refl servable, none));
   sent = subst (Adds outside.written outside.written_after) (sym (sent_calls requests)) sent;
 }
 
@@ -275,7 +288,7 @@ lead_saved : (requests : List (List (List ℕ))) (end : ℕ × Saved) → AllByR
     → LeadAlong replay_opening (saved_history requests end) (ended_from (taken_from (moment_of (kept_behind opening_kept requests)) end.0) end.0)
 lead_saved requests end servable lives =
     lead_append replay_opening (moment_of (kept_behind opening_kept requests)) _ (calls_from opening_kept requests) (saving_of end)
-    (lead_calls opening_kept requests servable) (lead_saving (moment_of (kept_behind opening_kept requests)) end lives refl)
+    (lead_calls opening_kept requests refl servable) (lead_saving (moment_of (kept_behind opening_kept requests)) end lives refl)
 
 history_saved : (requests : List (List (List ℕ))) (end : ℕ × Saved) → AllByRecursion IsServable requests → (kept_behind opening_kept requests).service.live ≡ end.0 ∷ [] → IsHistoryOf requests (saved_history requests end)
 history_saved requests end servable lives = record {
@@ -287,7 +300,8 @@ history_saved requests end servable lives = record {
     no_call = refl;
   };
   legal = (_, lead_saved requests end servable lives);
-  granted = omega (arith, refusals_append (calls_from opening_kept requests) (saving_of end), no_refusals opening_kept requests servable);
+  granted = omega (arith, refusals_append (calls_from opening_kept requests)
+  (saving_of end), no_refusals opening_kept requests refl servable);
   asked = ap requests_asked (calls_saved requests end) ∙ requests_calls opening_kept requests;
 }
 
@@ -366,7 +380,8 @@ pub record Lives (requests : List (List (List ℕ))) (snapshot : Snapshot) : Typ
 served_saved : (outside : Outside) (requests : List (List (List ℕ))) (snapshot : Snapshot) (end : Saved) → Lives requests snapshot → SavedSo snapshot end outside → Served outside requests (saved_history requests (snapshot.number, end))
 served_saved outside requests snapshot end lives so =
     let fork : HasFork (calls_from opening_kept requests) snapshot =
-    subst (λ s. IfSome s (HasFork (calls_from opening_kept requests))) lives.kept (forks opening_kept requests [] lives.servable refl tt) in
+    subst (λ s. IfSome s (HasFork (calls_from opening_kept requests))) lives.kept
+    (forks opening_kept requests [] refl lives.servable refl tt) in
     let fork_saved : HasFork (saved_history requests (snapshot.number, end)) snapshot =
     fork_more (calls_from opening_kept requests) (saving_of (snapshot.number, end)) snapshot fork in
     record {

@@ -4,6 +4,7 @@ use Rattle.std.specs.List.{AllByRecursion}
 use Rattle.std.specs.FinMap.{entries, len}
 use Rattle.image_text.specs.Image.{FitsImage}
 use Rattle.resp_text.specs.Replies.{text_of_reply}
+use Rattle.server_top.specs.ReplayPromise.{replay_serves}
 use Rattle.server_top.specs.ReplayRun.{BookState, kept_after, kept_behind, replies_from, reply_to, IsServable}
 use Rattle.server_top.proofs.Answers.{follows}
 use Rattle.server_top.proofs.Written.{Writing, writing_more}
@@ -13,15 +14,17 @@ pub record CanServe (kept : BookState) (requests : List (List (List ℕ))) : Typ
   pub servable : AllByRecursion IsServable requests
   pub few : len kept.service.pairs + length requests ≤ 2 ^ 28
   pub each : AllByRecursion FitsImage (entries kept.service.pairs)
+  pub serves : kept.service.serves ≡ replay_serves
 
 -- behind the first of them it can serve the others
 serves_first : (kept : BookState) (words : List (List ℕ)) (rest : List (List (List ℕ))) → CanServe kept (words ∷ rest) → CanServe (kept_after kept words) rest
 serves_first kept words rest can =
-    let follow = follows kept.service words can.servable.0.short in
+    let follow = follows kept.service words can.serves can.servable.0.short in
     record {
       servable = can.servable.1;
       few = omega (arith, can.few, follow.few);
       each = follow.each can.each;
+      serves = follow.serves ∙ can.serves;
     }
 
 pub serves_on : (kept new : BookState) (words : List (List ℕ)) (waiting rest : List (List (List ℕ))) → waiting ≡ words ∷ rest → new ≡ kept_after kept words → CanServe kept waiting → CanServe new rest

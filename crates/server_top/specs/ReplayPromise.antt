@@ -1,9 +1,11 @@
 -- What a run of a top call read, wrote and published, by its words and its status.
-use Rattle.std.specs.Prelude.{◌≡◌, ◌⊎◌, ℕ, ◌+◌, ◌-◌, ◌^◌, ◌≤◌, List, [], ◌++◌, Option, Some, None, Result, Ok, Err, min}
+use Rattle.std.specs.Prelude.{◌≡◌, ◌⊎◌, ℕ, Bool, true, false, ◌+◌, ◌-◌, ◌^◌, ◌≤◌, List, [], ◌++◌, Option, Some, None, Result, Ok, Err, min}
 use Rattle.std.specs.FinMap.{empty}
 use Rattle.io_face.specs.Told.{TakesAtMost, TakesCount, Adds, AddsPrefix}
 use Rattle.io_face.specs.Folder.{Files}
 use Rattle.resp_text.specs.Grammar.{IsStream}
+use Rattle.service_meaning.specs.declared.command.Command.{Command}
+use Rattle.service_meaning.specs.declared.command.Command.TheVariants as command
 use Rattle.service_meaning.specs.History.{Moment, Entry, opening, LeadAlong, IsLegal, refusals, calls_of, ends_of}
 use Rattle.service_meaning.specs.SessionText.{requests_asked, replies_text}
 use Rattle.service_meaning.specs.SaveEnd.{report_text, ArePairsCounted, FilesOf, faults_of, refused_saves}
@@ -47,9 +49,16 @@ abbrev pub IsUntouched : Outside → Type 0
 IsUntouched outside =
     (outside.written_after ≡ outside.written) × (outside.files_after ≡ outside.files)
 
+-- the commands that `replay` serves
+abbrev pub replay_serves : Command → Bool
+replay_serves command.Set = true
+replay_serves command.Get = true
+replay_serves command.BgSave = true
+replay_serves other = false
+
 -- the moment before the first request: no pairs and no snapshot, of which one may live at a time
 abbrev pub replay_opening : Moment
-replay_opening = opening empty 0 1
+replay_opening = opening empty 0 1 replay_serves
 
 -- all saves are taken and ended behind the last request
 pub record IsSavedLast (history : List Entry) : Type 0 where

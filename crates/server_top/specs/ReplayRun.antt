@@ -14,7 +14,7 @@ use Rattle.service_meaning.specs.declared.saved.Saved.TheVariants as saved
 use Rattle.service_meaning.specs.SaveEnd.{file_name, report_line}
 use Rattle.io_face.specs.Faults.{Rose}
 use Rattle.io_face.specs.Told.{Adds, AddsPrefix}
-use Rattle.server_top.specs.ReplayPromise.{Outside}
+use Rattle.server_top.specs.ReplayPromise.{Outside, replay_serves}
 use Rattle.service_meaning.specs.MapMachine.{Pairs, Service, ServiceAnswer, answer}
 use Rattle.service_meaning.specs.History.{Entry, Call}
 use Rattle.server_top.specs.declared.replay.book.Book.{Book}
@@ -45,6 +45,7 @@ book_state book = record {
     live = option_to_list (option_map snapshot_number book.snapshot);
     last = book.last;
     limit = 1;
+    serves = replay_serves;
   };
   snapshot = book.snapshot;
 }

@@ -1,2 +1,3 @@
--- Worked cases of the definitions.
+-- Worked cases of the definitions, and what proofs of the code cite.
 mod Worked
+pub mod Finding

@@ -4,6 +4,7 @@ use Rattle.std.specs.List.{flat_map}
 use Rattle.resp_text.specs.declared.reply.Reply.{Reply}
 use Rattle.resp_text.specs.declared.reply.Reply.TheVariants as reply
 use Rattle.resp_text.specs.declared.reply.ErrorKind.TheVariants as kind
+use Rattle.service_meaning.specs.declared.command.Command.{Command}
 use Rattle.service_meaning.specs.declared.saved.Saved.{Saved}
 use Rattle.service_meaning.specs.MapMachine.{Pairs, Service, MayAnswer}
 
@@ -20,10 +21,10 @@ pub record Moment : Type 0 where
   pub waiting : List ℕ
   pub saving : List ℕ
 
--- the moment before the first entry: these pairs, no live snapshot, and the last number and the limit of the process
-abbrev pub opening : Pairs → ℕ → ℕ → Moment
-opening pairs last limit = record {
-  service = record { pairs = pairs; live = []; last = last; limit = limit };
+-- the moment before the first entry: these pairs, no live snapshot, the last number and the limit of the process, and the commands that are served
+abbrev pub opening : Pairs → ℕ → ℕ → (Command → Bool) → Moment
+opening pairs last limit serves = record {
+  service = record { pairs = pairs; live = []; last = last; limit = limit; serves = serves };
   waiting = [];
   saving = [];
 }

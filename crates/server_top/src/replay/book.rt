@@ -1,18 +1,17 @@
 //! The commands on an ordered map of std. A snapshot is a copy of all its pairs.
-ghost use Rattle.std.specs.Prelude.{◌≡◌, ◌^◌, ◌<◌, [], drop, length, IfOk, OnErr, None};
+ghost use Rattle.std.specs.Prelude.{◌≡◌, ◌^◌, ◌<◌, [], length, IfOk, OnErr, None};
 ghost use Rattle.std.specs.FinMap.{empty};
-ghost use Rattle.service_meaning.specs.MapMachine.{answer, get_answer, save_answer, set_answer};
+ghost use Rattle.service_meaning.specs.MapMachine.{answer, command_answer};
+ghost use Rattle.server_top.specs.ReplayPromise.{replay_serves};
 ghost use Rattle.server_top.specs.ReplayRun.{book_state, AreStorable, GivesReply, IsServable};
 
 use crate::replay::pairs::{copy_pairs, set_pair, value_of};
 use image_text::PairList;
 use resp_text::{ErrorKind, Reply, Request};
+use service_meaning::Command;
 use std::alloc::Global;
 use std::collections::BTreeMap;
 use vm_base::NoMemory;
-
-/// The most bytes of a key.
-const KEY_LIMIT: usize = 65536;
 
 /// The pairs at a fork, under the number of the snapshot.
 #[derive(Debug, Drop)]
@@ -34,7 +33,13 @@ impl Book {
     /// A book without pairs, before the first snapshot.
     pub(crate) fn new(alloc: Global) -> Self
         ensures pairs { book_state result ≡ record {
-          service = record { pairs = empty; live = []; last = 0; limit = 1 };
+          service = record {
+            pairs = empty;
+            live = [];
+            last = 0;
+            limit = 1;
+            serves = replay_serves;
+          };
           snapshot = None;
         } }
     {
@@ -53,50 +58,39 @@ impl Book {
             GivesReply old (answer old.service request.now) reply (book_state self.new)) }
         ensures no_memory { OnErr result (book_state self.new ≡ book_state self.old) }
     {
-        let name = request.word(0);
-        if name.eq_ignore_ascii_case(b"set") {
-            return self.set(alloc, request);
+        match Command::named(request.word(0)) {
+            Some(Command::Set) => self.set(alloc, request),
+            Some(Command::Get) => self.get(alloc, request),
+            Some(Command::BgSave) => self.save(alloc, request),
+            _ => Ok(Reply::Error(ErrorKind::Unknown)),
         }
-        if name.eq_ignore_ascii_case(b"get") {
-            return self.get(alloc, request);
-        }
-        if name.eq_ignore_ascii_case(b"bgsave") {
-            return self.save(alloc, request);
-        }
-        Ok(Reply::Error(ErrorKind::Unknown))
     }
 
     /// SET: the second word stands for the third.
     fn set(&mut self, alloc: Global, request: &Request) -> Result<Reply, NoMemory>
+        requires some { 0 < length request.now }
         ensures given { IfOk result (λ reply. let old = book_state self.old in
-            GivesReply old (set_answer old.service (drop 1 request.now))
+            GivesReply old (command_answer old.service Command.Set request.now)
             reply (book_state self.new)) }
         ensures no_memory { OnErr result (book_state self.new ≡ book_state self.old) }
     {
-        if request.len() != 3 {
-            return Ok(Reply::Error(ErrorKind::Arity));
+        if let Some(kind) = Command::Set.fault(request) {
+            return Ok(Reply::Error(kind));
         }
-        let key = request.word(1);
-        if key.len() > KEY_LIMIT {
-            return Ok(Reply::Error(ErrorKind::LongKey));
-        }
-        set_pair(alloc, &mut self.pairs, key, request.word(2))?;
+        set_pair(alloc, &mut self.pairs, request.word(1), request.word(2))?;
         Ok(Reply::Ok)
     }
 
     /// GET: what the second word stands for.
     fn get(&self, alloc: Global, request: &Request) -> Result<Reply, NoMemory>
+        requires { 0 < length request.now }
         ensures { IfOk result (λ reply. let kept = book_state self.now in
-            GivesReply kept (get_answer kept.service (drop 1 request.now)) reply kept) }
+            GivesReply kept (command_answer kept.service Command.Get request.now) reply kept) }
     {
-        if request.len() != 2 {
-            return Ok(Reply::Error(ErrorKind::Arity));
+        if let Some(kind) = Command::Get.fault(request) {
+            return Ok(Reply::Error(kind));
         }
-        let key = request.word(1);
-        if key.len() > KEY_LIMIT {
-            return Ok(Reply::Error(ErrorKind::LongKey));
-        }
-        match value_of(alloc, &self.pairs, key)? {
+        match value_of(alloc, &self.pairs, request.word(1))? {
             Some(value) => Ok(Reply::Bulk(value)),
             None => Ok(Reply::Null),
         }
@@ -107,12 +101,12 @@ impl Book {
         requires some { 0 < length request.now }
         requires storable { AreStorable (2 ^ 28) (book_state self.old).service.pairs }
         ensures given { IfOk result (λ reply. let old = book_state self.old in
-            GivesReply old (save_answer old.service (drop 1 request.now))
+            GivesReply old (command_answer old.service Command.BgSave request.now)
             reply (book_state self.new)) }
         ensures no_memory { OnErr result (book_state self.new ≡ book_state self.old) }
     {
-        if request.len() != 1 {
-            return Ok(Reply::Error(ErrorKind::Arity));
+        if let Some(kind) = Command::BgSave.fault(request) {
+            return Ok(Reply::Error(kind));
         }
         if self.snapshot.is_some() {
             return Ok(Reply::Error(ErrorKind::InProgress));

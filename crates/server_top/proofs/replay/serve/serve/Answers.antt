@@ -1,5 +1,5 @@
 -- The replies so far, those that wait and those to come are all, at each step and at each end.
-use Rattle.std.proofs.Common.{[], ◌∙◌, ap, subst, arith}
+use Rattle.std.proofs.Common.{[], refl, ◌∙◌, ap, subst, arith}
 use Rattle.std.specs.Prelude.{OnErr}
 use Rattle.io_face.specs.Told.{Adds, AddsPrefix}
 use Rattle.server_top.specs.ReplayRun.{book_state, replies_from}
@@ -26,6 +26,7 @@ loop-request-preserved g c =
       servable = c.loop-request.invariant.servable;
       few = c.loop-request.invariant.few;
       each = c.loop-request.invariant.each;
+      serves = refl;
     }) in
     record {
       servable = can.servable;
