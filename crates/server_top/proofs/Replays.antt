@@ -54,9 +54,14 @@ lead_call kept words serves servable = (inl refl, (follows kept.service words se
 pub lead_calls : (kept : BookState) (requests : List (List (List ℕ))) → kept.service.serves ≡ replay_serves
     → AllByRecursion IsServable requests → LeadAlong (moment_of kept) (calls_from kept requests) (moment_of (kept_behind kept requests))
 lead_calls kept [] serves servable = refl
-lead_calls kept (words ∷ requests) serves servable =
-    (moment_of (kept_after kept words), (lead_call kept words serves servable.0, lead_calls (kept_after kept words) requests
-    (serves_behind kept words serves servable.0) servable.1))
+lead_calls kept (words ∷ requests) serves servable = (
+  moment_of (kept_after kept words),
+  (
+    lead_call kept words serves servable.0,
+    lead_calls (kept_after kept words) requests
+        (serves_behind kept words serves servable.0) servable.1,
+  ),
+)
 
 -- ---- what the calls say
 
@@ -157,8 +162,10 @@ forks kept (words ∷ requests) before serves servable lead has =
     let call : Entry = Call 0 words (reply_to kept words) in
     let next : BookState = kept_after kept words in
     let leads : LeadAlong replay_opening (before ++ call ∷ []) (moment_of next) =
-    lead_append replay_opening (moment_of kept) (moment_of next) before (call ∷ []) lead (moment_of next,
-    (lead_call kept words serves servable.0, refl)) in
+    lead_append replay_opening (moment_of kept) (moment_of next) before (call ∷ []) lead (
+      moment_of next,
+      (lead_call kept words serves servable.0, refl),
+    ) in
     let has_next : IfSome next.snapshot (HasFork (before ++ call ∷ [])) = fork_on before kept words serves servable.0 leads has
     (reply_to kept words) refl in
     subst (λ history. IfSome (kept_behind next requests).snapshot (HasFork history)) (append_assoc before (call ∷ []) (calls_from next requests))
@@ -300,8 +307,12 @@ history_saved requests end servable lives = record {
     no_call = refl;
   };
   legal = (_, lead_saved requests end servable lives);
-  granted = omega (arith, refusals_append (calls_from opening_kept requests)
-  (saving_of end), no_refusals opening_kept requests refl servable);
+  granted = omega (
+    arith,
+    refusals_append (calls_from opening_kept requests)
+        (saving_of end),
+    no_refusals opening_kept requests refl servable,
+  );
   asked = ap requests_asked (calls_saved requests end) ∙ requests_calls opening_kept requests;
 }
 
