@@ -2,7 +2,7 @@
 //! that they can be timed, and prints what each line counted.
 #![tactic(auto)]
 
-ghost use Rattle.store_meaning.specs.Standing.{IsStanding};
+ghost use Rattle.store_meaning.specs.Standing.{IsStanding, MayBegin};
 
 mod calls;
 mod lines;
@@ -59,8 +59,15 @@ impl From<io::Error> for NoRun {
 /// Its lines are those of `lines.rt`; for each it prints the count.
 fn main(rt: HostRuntime) -> Result<(), NoRun> {
     let kernel = Kernel::new(rt.alloc(), FRAMES, STORE_CELLS, 0, Vec::new(rt.alloc()))?;
-    let mut store = store_in(kernel)?;
-    run_lines(&rt, &mut store)
+    run_in(&rt, kernel)
+}
+
+// Begins a store in a memory, and makes the calls of all lines on it.
+fn run_in<M: Memory + Drop>(rt: &(impl Input + Print + AllocGlobal), memory: M) -> Result<(), NoRun>
+    requires may { MayBegin (M.state memory) }
+{
+    let mut store = store_in(memory)?;
+    run_lines(rt, &mut store)
 }
 
 // Makes the calls of all lines.

@@ -3,5 +3,5 @@ use Rattle.store_meaning.specs.Standing.{MayBegin}
 use Rattle.store_rows.proofs.Openings.{kernel_may}
 use Rattle.store_bench.proofs.main.Goals as goal
 
-pub store_in-requires : goal.store_in-requires
-store_in-requires c = record { may = subst MayBegin (sym c.in_ok-kernel.ensures.memory) (kernel_may 16384 _ (omega arith)) }
+pub run_in-requires : goal.run_in-requires
+run_in-requires c = record { may = subst MayBegin (sym c.in_ok-kernel.ensures.memory) (kernel_may 16384 _ (omega arith)) }

@@ -1,4 +1,3 @@
-use Rattle.std.proofs.Common.{◌≡◌, ℕ, ◌+◌, ◌-◌, ◌*◌, ◌<◌, ◌≤◌, length}
 use Rattle.store_meaning.specs.Standing.{IsStanding}
 use Rattle.store_bench.proofs.run_lines.Given as goal
 
